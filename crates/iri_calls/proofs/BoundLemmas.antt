@@ -1,29 +1,23 @@
 -- How many bytes a text has at most that a call writes.
-use Rattle.std.proofs.Common.{◌≡◌, ◌≤◌, ◌+◌, ◌*◌, ℕ, Bool, true, false, cond, nat_eq, nat_lt, List, [], ◌∷◌, ◌++◌, Option, Some, None}
-use Rattle.std.proofs.Common.{length, max, refl, ap, arith, length-append}
+use Rattle.iri_calls.proofs.Common.{◌≡◌, ◌≤◌, ◌+◌, ◌*◌, ℕ, Bool, true, false, cond, List, [], ◌∷◌, ◌++◌, Option, Some, None, length, refl}
+use Rattle.iri_calls.proofs.Common.{ap, arith, length-append, flat_map, IsUtf8, is_utf8, IsUtf8-from_is_utf8, Tests, IsSpec, iri_tests}
+use Rattle.iri_calls.proofs.Common.{bytes_fault, split_of, reference_fault, iri_fault, absolute_fault, missing_scheme_fault, ErrorKind}
+use Rattle.iri_calls.proofs.Common.{InvalidScheme, InvalidUserInfo, InvalidHost, InvalidPath, InvalidQuery, InvalidFragment}
+use Rattle.iri_calls.proofs.Common.{UnexpectedFragment, UnexpectedRelative, InvalidUtf8, recompose_split, no_cr, answer_by, answer_in}
+use Rattle.iri_calls.proofs.Common.{canonical_in, no_fault, line_answer, grammar_of, Outcome, in_grammar, unless_fault}
+use Rattle.std.proofs.Common.{nat_eq, nat_lt, max}
 use Rattle.std.specs.Char.{encode_utf8}
-use Rattle.std.specs.List.{flat_map}
-use Rattle.std.specs.Str.{IsUtf8, is_utf8, chars, encode_utf8_all}
-use Rattle.std.proofs.lemmas.Str.{IsUtf8-from_is_utf8, encodes-chars}
-use Rattle.iri_grammar.specs.Classes.{Tests, IsSpec, uri_tests, iri_tests}
+use Rattle.std.specs.Str.{chars, encode_utf8_all}
+use Rattle.std.proofs.lemmas.Str.{encodes-chars}
+use Rattle.iri_grammar.specs.Classes.{uri_tests}
 use Rattle.iri_grammar.specs.ErrorTexts.{description}
-use Rattle.iri_grammar.specs.Fault.{bytes_fault}
-use Rattle.iri_grammar.specs.Split.{split_of}
-use Rattle.iri_grammar.specs.WholeFault.{reference_fault, iri_fault, absolute_fault, missing_scheme_fault}
-use Rattle.iri_grammar.specs.declared.error.ErrorKind.{ErrorKind}
-use Rattle.iri_grammar.specs.declared.error.ErrorKind.TheVariants.{InvalidScheme, InvalidUserInfo, InvalidHost, InvalidRegName}
-use Rattle.iri_grammar.specs.declared.error.ErrorKind.TheVariants.{InvalidPort, InvalidPath, InvalidQuery, InvalidFragment}
-use Rattle.iri_grammar.specs.declared.error.ErrorKind.TheVariants.{UnexpectedFragment, UnexpectedRelative, InvalidUtf8}
+use Rattle.iri_grammar.specs.declared.error.ErrorKind.TheVariants.{InvalidRegName, InvalidPort}
 use Rattle.iri_grammar.specs.inside.Laws.{uri_is_spec, iri_is_spec}
 use Rattle.iri_grammar.proofs.FaultLaws.{absolute-law, reference-law, neither, splits_where_no_fault}
-use Rattle.iri_grammar.proofs.SplitLaws.{recompose_split}
-use Rattle.iri_text.specs.Lines.{no_cr}
 use Rattle.iri_percent.specs.Encoding.{encoded, encoded_char, keeps}
 use Rattle.iri_percent.specs.Mapping.{mapped, triplet, triplets}
 use Rattle.iri_percent.specs.declared.canon_mode.CanonMode.{CanonMode}
 use Rattle.iri_percent.specs.declared.context.Context.{Context}
-use Rattle.iri_normal.specs.Answers.{answer_by, answer_in}
-use Rattle.iri_normal.specs.NormalForm.{canonical_in}
 use Rattle.iri_normal.specs.Normalized.{written_text}
 use Rattle.iri_normal.specs.Target.{target, takes_base_path}
 use Rattle.iri_normal.specs.declared.mode.Mode.{Mode}
@@ -31,11 +25,8 @@ use Rattle.iri_normal.proofs.CanonLemmas.{fault_none}
 use Rattle.iri_normal.proofs.LengthLaws.{length-canonical_in, length-form, length-plain_form, length-target}
 use Rattle.iri_text.proofs.LinesLemmas.{no_cr-shorter}
 use Rattle.iri_calls.specs.Bounds.{HasAtMost}
-use Rattle.iri_calls.specs.Encodings.{encoded_for, no_fault}
-use Rattle.iri_calls.specs.Lines.{line_answer}
-use Rattle.iri_calls.specs.Numbers.{grammar_of}
-use Rattle.iri_calls.specs.Outcome.{Outcome}
-use Rattle.iri_calls.specs.Outcomes.{in_grammar, in_mode, unless_fault}
+use Rattle.iri_calls.specs.Encodings.{encoded_for}
+use Rattle.iri_calls.specs.Outcomes.{in_mode}
 use Rattle.iri_calls.specs.Resolutions.{in_form, resolved, target_text}
 use Rattle.iri_calls.specs.declared.grammar.TheConstants.{URI, IRI}
 

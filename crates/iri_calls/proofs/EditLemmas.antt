@@ -1,20 +1,13 @@
 -- What edits come to where the text is a reference.
-use Rattle.std.proofs.Common.{◌≡◌, ℕ, List, ◌++◌, ◌∷◌, None, Some, sym, ◌∙◌, ap}
+use Rattle.iri_calls.proofs.Common.{◌≡◌, ℕ, List, ◌++◌, ◌∷◌, None, Some, sym, ◌∙◌, ap, Tests, IsSpec, before, bytes_fault, fragment_fault}
+use Rattle.iri_calls.proofs.Common.{reference_fault, ErrorKind, no_fault, bad_text, Outcome, text, unless_fault}
 use Rattle.iri_edit.specs.Fragment.{with_fragment}
 use Rattle.iri_edit.specs.Password.{with_password}
 use Rattle.iri_edit.proofs.FragmentLemmas.{fragment-removed, fragment-put}
-use Rattle.iri_grammar.specs.Classes.{Tests, IsSpec}
-use Rattle.iri_grammar.specs.Cut.{before}
-use Rattle.iri_grammar.specs.Fault.{bytes_fault, fragment_fault}
-use Rattle.iri_grammar.specs.WholeFault.{reference_fault}
-use Rattle.iri_grammar.specs.declared.error.ErrorKind.{ErrorKind}
 use Rattle.iri_normal.proofs.CanonLemmas.{fault_none}
 use Rattle.iri_calls.specs.Edits.{of_reference, cut_in, fragment_in, password_in}
-use Rattle.iri_calls.specs.Encodings.{no_fault}
-use Rattle.iri_calls.specs.Numbers.{bad_text, bad_part}
-use Rattle.iri_calls.specs.Outcome.{Outcome}
-use Rattle.iri_calls.specs.Outcome.Outcome.{text, fault}
-use Rattle.iri_calls.specs.Outcomes.{unless_fault}
+use Rattle.iri_calls.specs.Numbers.{bad_part}
+use Rattle.iri_calls.specs.Outcome.Outcome.{fault}
 
 module _ (s : Tests) (k : IsSpec s) (t : List ℕ) (none : bytes_fault (reference_fault s) t ≡ None) where
   is_reference : (next : Outcome) → next ≡ of_reference t s next

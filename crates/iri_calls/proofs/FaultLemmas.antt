@@ -1,30 +1,27 @@
 -- The part that is told of a fault isn't what the fault asks.
-use Rattle.std.proofs.Common.{◌≡◌, ◌≤◌, ◌+◌, ◌-◌, ◌∙◌, ◌⊎◌, ℕ, zero, suc, Bool, true, false, cond, not, ◌&&◌, ◌||◌, List, [], ◌∷◌, ◌++◌}
-use Rattle.std.proofs.Common.{Option, Some, None, inl, inr, is_some, length, take, drop, refl, sym, ap, subst, arith, append_assoc, append-nil, length-append, if◌then◌else◌}
+use Rattle.iri_calls.proofs.Common.{◌≡◌, ◌≤◌, ◌+◌, ◌-◌, ◌∙◌, ℕ, zero, suc, Bool, true, false, cond, List, [], ◌∷◌, ◌++◌, Option, Some, None}
+use Rattle.iri_calls.proofs.Common.{length, take, drop, refl, sym, ap, subst, arith, append_assoc, length-append, IsUtf8, is_utf8}
+use Rattle.iri_calls.proofs.Common.{false_from_ne_true, common_steps, is_utf8-from_IsUtf8, IsUtf8-from_is_utf8, Tests, before, delimited}
+use Rattle.iri_calls.proofs.Common.{bytes_fault, fragment_fault, Parts, recompose, scheme_text, authority_text, missing_scheme_fault}
+use Rattle.iri_calls.proofs.Common.{ErrorKind, InvalidScheme, InvalidUserInfo, InvalidHost, InvalidPath, InvalidQuery, InvalidFragment}
+use Rattle.iri_calls.proofs.Common.{UnexpectedFragment, UnexpectedRelative, InvalidUtf8, bytes_at, slots_of, width, Slot}
+use Rattle.std.proofs.Common.{◌⊎◌, not, ◌&&◌, ◌||◌, inl, inr, is_some, append-nil, if◌then◌else◌}
 use Rattle.std.proofs.lemmas.List.{take-append-drop}
-use Rattle.std.specs.Str.{IsUtf8, is_utf8}
 use Rattle.std.specs.Str.Lossy.{utf8_valid_len, valid_len_up_to}
 use Rattle.std.proofs.Math.Bool.{and-false}
-use Rattle.std.proofs.lemmas.Bool.{false_from_ne_true}
-use Rattle.std.proofs.lemmas.Grind.{common_steps}
-use Rattle.std.proofs.lemmas.Str.{is_utf8-from_IsUtf8, IsUtf8-from_is_utf8, IsUtf8-append, IsUtf8-nil, utf8_valid_len_le}
+use Rattle.std.proofs.lemmas.Str.{IsUtf8-append, IsUtf8-nil, utf8_valid_len_le}
 use Rattle.iri_grammar.specs.Authority.{authority_parts, recompose_authority, userinfo_text}
 use Rattle.iri_grammar.specs.Characters.{at_sign, colon, number_sign, question_mark, slash}
-use Rattle.iri_grammar.specs.Classes.{Tests}
 use Rattle.iri_grammar.specs.Components.{is_scheme, is_userinfo, is_path, is_query, is_fragment}
-use Rattle.iri_grammar.specs.Cut.{before, from, lacks, delimited}
-use Rattle.iri_grammar.specs.Fault.{bytes_fault, first, unless, part_fault, authority_fault, userinfo_fault, query_fault, fragment_fault, scheme_fault}
+use Rattle.iri_grammar.specs.Cut.{from, lacks}
+use Rattle.iri_grammar.specs.Fault.{first, unless, part_fault, authority_fault, userinfo_fault, query_fault, scheme_fault}
 use Rattle.iri_grammar.specs.Host.{is_host}
-use Rattle.iri_grammar.specs.Parts.{Parts, recompose, scheme_text, authority_text, path_rules, starts_with_slashes}
-use Rattle.iri_grammar.specs.WholeFault.{colon_allowed, fault_before_fragment, missing_scheme_fault, parts_fault}
-use Rattle.iri_grammar.specs.declared.error.ErrorKind.{ErrorKind}
-use Rattle.iri_grammar.specs.declared.error.ErrorKind.TheVariants.{InvalidScheme, InvalidUserInfo, InvalidHost, InvalidPath}
-use Rattle.iri_grammar.specs.declared.error.ErrorKind.TheVariants.{InvalidQuery, InvalidFragment, UnexpectedFragment, UnexpectedRelative, InvalidUtf8}
+use Rattle.iri_grammar.specs.Parts.{path_rules, starts_with_slashes}
+use Rattle.iri_grammar.specs.WholeFault.{colon_allowed, fault_before_fragment, parts_fault}
 use Rattle.iri_grammar.proofs.AuthorityLaws.{authority_recomposed}
 use Rattle.iri_grammar.proofs.CutLaws.{joined_from}
 use Rattle.iri_calls.specs.FaultParts.{IsFaulty, before_colon, faulty_slot, is_in_production, named_slot}
-use Rattle.iri_calls.specs.Slots.{bytes_at, place, slots_of, width, within_authority}
-use Rattle.iri_calls.specs.declared.parts.Slot.{Slot}
+use Rattle.iri_calls.specs.Slots.{place, within_authority}
 use Rattle.iri_calls.proofs.SlotLemmas.{after-delimiter, of-scheme, of-authority, of-userinfo}
 
 -- ---- which part is faulty

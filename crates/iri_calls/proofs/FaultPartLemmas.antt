@@ -1,15 +1,9 @@
 -- The part that a fault names, in a text that is UTF-8 and in one that isn't.
-use Rattle.std.proofs.Common.{◌≡◌, ◌-◌, ℕ, cond, false, List, length, Option, None, sym, ◌∙◌, ap}
-use Rattle.std.specs.Str.{IsUtf8, is_utf8}
+use Rattle.iri_calls.proofs.Common.{◌≡◌, ◌-◌, ℕ, cond, false, List, length, Option, None, sym, ◌∙◌, ap, IsUtf8, is_utf8, false_from_ne_true}
+use Rattle.iri_calls.proofs.Common.{is_utf8-from_IsUtf8, IsUtf8-from_is_utf8, Parts, split_of, relative_split_of, ErrorKind, slots_of, Slot}
 use Rattle.std.specs.Str.Lossy.{utf8_valid_len}
-use Rattle.std.proofs.lemmas.Bool.{false_from_ne_true}
-use Rattle.std.proofs.lemmas.Str.{is_utf8-from_IsUtf8, IsUtf8-from_is_utf8}
-use Rattle.iri_grammar.specs.Parts.{Parts}
-use Rattle.iri_grammar.specs.Split.{split_of, relative_split_of, parts_of, scheme_of, after_scheme}
-use Rattle.iri_grammar.specs.declared.error.ErrorKind.{ErrorKind}
+use Rattle.iri_grammar.specs.Split.{parts_of, scheme_of, after_scheme}
 use Rattle.iri_calls.specs.FaultParts.{named_slot, faulty_slot}
-use Rattle.iri_calls.specs.Slots.{slots_of}
-use Rattle.iri_calls.specs.declared.parts.Slot.{Slot}
 use Rattle.iri_calls.specs.declared.parts.Slots.{Slots}
 
 pub slots_of_reference : (t u r : List ℕ) (o : Option (List ℕ)) (s : Slots) → u ≡ t → o ≡ scheme_of u → r ≡ after_scheme u

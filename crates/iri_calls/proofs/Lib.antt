@@ -1,3 +1,4 @@
+mod Common
 pub mod SlotLemmas
 pub mod LineLemmas
 pub mod PairLemmas

@@ -1,18 +1,15 @@
 -- Lines that an LF ends, and batches of their answers.
-use Rattle.std.proofs.Common.{◌≡◌, ◌≢◌, ◌+◌, ◌-◌, ◌<◌, ◌≤◌, ℕ, List, [], ◌∷◌, ◌++◌, length, get_or, take, drop, refl, sym, ◌∙◌, ap, arith}
-use Rattle.std.proofs.Common.{add-one, zero-add, add-zero, add_assoc, eq-eqb, eqb-true, take-append-drop, drop-cons, Option, None, Some, MatchOption}
-use Rattle.std.specs.List.{flat_map}
+use Rattle.iri_calls.proofs.Common.{◌≡◌, ◌+◌, ◌-◌, ◌<◌, ◌≤◌, ℕ, List, [], ◌∷◌, ◌++◌, length, take, drop, refl, sym, ◌∙◌, ap, arith, Option}
+use Rattle.iri_calls.proofs.Common.{None, Some, flat_map, common_steps, over, ended, batch, over_at}
+use Rattle.std.proofs.Common.{◌≢◌, get_or, add-one, zero-add, add-zero, add_assoc, eq-eqb, eqb-true, drop-cons, MatchOption}
+use Rattle.std.proofs.lemmas.List.{take-append-drop}
 use Rattle.std.proofs.lemmas.Bool.Decides.{nat_tests}
-use Rattle.std.proofs.lemmas.Grind.{common_steps}
 use Rattle.memchr.specs.Find.{IsFirstByte, is_byte}
 use Rattle.iri_text.specs.Lines.{NoLf}
 use Rattle.iri_text.proofs.LinesLemmas.{ended-lf}
 use Rattle.iri_text.proofs.Parts.{NoLf-nowhere}
-use Rattle.iri_calls.specs.Buffers.{over}
-use Rattle.iri_text.specs.Lines.{ended}
-use Rattle.iri_calls.specs.Lines.{batch, later}
+use Rattle.iri_calls.specs.Lines.{later}
 use Rattle.iri_calls.specs.inside.BufferText.{BufferPuts}
-use Rattle.iri_calls.specs.inside.Placed.{over_at}
 use Rattle.iri_calls.specs.inside.PlacedLaws.{over_at-none, over_at-both, over_at-long, length-over_at, over_at_start}
 use Rattle.iri_calls.specs.declared.buffer.BufferSink.{BufferSink}
 use Rattle.iri_calls.specs.Numbers.{ok, short}

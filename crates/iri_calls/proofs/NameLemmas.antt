@@ -1,6 +1,7 @@
 -- The names of a template stand in their slots.
-use Rattle.std.proofs.Common.{◌≡◌, ◌≤◌, ℕ, zero, suc, ◌+◌, List, [], ◌∷◌, ◌++◌, length, map, take, drop, set}
-use Rattle.std.proofs.Common.{None, refl, sym, ◌∙◌, ap, arith, append_assoc, length-append}
+use Rattle.iri_calls.proofs.Common.{◌≡◌, ◌≤◌, ℕ, zero, suc, ◌+◌, List, [], ◌∷◌, ◌++◌, length, take, drop, set, None, refl, sym, ◌∙◌, ap}
+use Rattle.iri_calls.proofs.Common.{arith, append_assoc, length-append, over, bytes_at, over_at, Slot}
+use Rattle.std.proofs.Common.{map}
 use Rattle.std.proofs.Math.Seq.{drop-append_seam, take-append_seam}
 use Rattle.std.proofs.lemmas.List.{map-append}
 use Rattle.iri_grammar.specs.Pieces.{joined}
@@ -10,12 +11,8 @@ use Rattle.iri_template.specs.Reading.{pieces_of}
 use Rattle.iri_template.specs.Template.{VarSpec, Piece, literal, triplet, expression, names_of, piece_names, piece_text, template_text}
 use Rattle.iri_template.specs.Template.{modifier_text, varspec_text, operator_text}
 use Rattle.iri_template.proofs.Grammar.{no_fault_is_template}
-use Rattle.iri_calls.specs.Buffers.{over}
 use Rattle.iri_calls.specs.Names.{slot_of, HoldsNames}
-use Rattle.iri_calls.specs.Slots.{bytes_at}
-use Rattle.iri_calls.specs.inside.Placed.{over_at}
 use Rattle.iri_calls.specs.inside.PlacedLaws.{over-both}
-use Rattle.iri_calls.specs.declared.parts.Slot.{Slot}
 
 -- ---- what stands in the slots
 stands : (t left x right : List ℕ) → t ≡ left ++ (x ++ right) → bytes_at t (slot_of (length left, x)) ≡ x

@@ -1,13 +1,12 @@
 -- Parts and their delimiters together have as many bytes as their text.
-use Rattle.std.proofs.Common.{◌≡◌, ◌+◌, ◌++◌, ◌∷◌, [], ℕ, List, length, refl, ap, ◌∙◌, arith, length-append, Option, Some, None}
+use Rattle.iri_calls.proofs.Common.{◌≡◌, ◌+◌, ◌++◌, ◌∷◌, [], ℕ, List, length, refl, ap, ◌∙◌, arith, length-append, Option, Some, None}
+use Rattle.iri_calls.proofs.Common.{delimited, Parts, recompose, scheme_text, authority_text, split_of, relative_split_of, recompose_split}
+use Rattle.iri_calls.proofs.Common.{recompose_relative_split, width, total}
 use Rattle.iri_grammar.specs.Authority.{AuthorityParts, authority_parts, recompose_authority, userinfo_text}
 use Rattle.iri_grammar.specs.Characters.{at_sign, colon, number_sign, question_mark}
-use Rattle.iri_grammar.specs.Cut.{delimited}
-use Rattle.iri_grammar.specs.Parts.{Parts, recompose, scheme_text, authority_text}
-use Rattle.iri_grammar.specs.Split.{split_of, relative_split_of, parts_of}
+use Rattle.iri_grammar.specs.Split.{parts_of}
 use Rattle.iri_grammar.proofs.AuthorityLaws.{authority_recomposed}
-use Rattle.iri_grammar.proofs.SplitLaws.{recompose_split, recompose_relative_split}
-use Rattle.iri_calls.specs.Slots.{width, total, authority_total}
+use Rattle.iri_calls.specs.Slots.{authority_total}
 
 pub after-delimiter : (c : ℕ) (o : Option (List ℕ)) → width 1 o ≡ length (delimited c o)
 after-delimiter c None = refl

@@ -1,12 +1,6 @@
 -- The answer to a line by its fault.
-use Rattle.std.proofs.Common.{◌≡◌, ℕ, List, None, Some, sym, ap, ◌∙◌}
-use Rattle.iri_grammar.specs.Classes.{Tests}
-use Rattle.iri_grammar.specs.Fault.{bytes_fault}
-use Rattle.iri_grammar.specs.WholeFault.{reference_fault}
-use Rattle.iri_grammar.specs.declared.error.ErrorKind.{ErrorKind}
-use Rattle.iri_percent.specs.declared.canon_mode.CanonMode.{CanonMode}
-use Rattle.iri_normal.specs.NormalForm.{canonical_in}
-use Rattle.iri_normal.specs.Answers.{answer_in, answer_by, good_answer, bad_answer}
+use Rattle.iri_cli.proofs.Common.{◌≡◌, ℕ, List, None, Some, sym, ap, ◌∙◌, Tests, bytes_fault, reference_fault, ErrorKind, CanonMode}
+use Rattle.iri_cli.proofs.Common.{canonical_in, answer_in, answer_by, good_answer, bad_answer}
 
 -- the answer to a line that is a reference, and to one that has a fault
 pub answer_of_reference : (s : Tests) (m : CanonMode) (base reference line : List ℕ) → bytes_fault (reference_fault s) line ≡ None → reference ≡ line

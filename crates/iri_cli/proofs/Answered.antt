@@ -1,27 +1,18 @@
 -- Lines that were answered one after the other, and how that ends.
-use Rattle.std.proofs.Common.{◌≡◌, ◌≢◌, ℕ, ◌+◌, ◌≤◌, List, [], ◌∷◌, ◌++◌, ◌&&◌, length, Bool, true, false, if◌then◌else◌, Option, None}
-use Rattle.std.proofs.Common.{Some, Result, Ok, Err, refl, sym, ◌∙◌, ap, subst, arith, append_assoc, length-append}
-use Rattle.std.specs.List.{concat, list_all}
-use Rattle.std.proofs.lemmas.List.{append-nil}
-use Rattle.iri_text.specs.Count.{Rose}
-use Rattle.iri_text.specs.Source.{Consumes, IsAtEnd}
-use Rattle.iri_text.specs.Sink.{Appends, AppendsPrefix, KeepsRoom, SinkState}
-use Rattle.iri_text.specs.Line.{LineState}
-use Rattle.iri_text.specs.Reader.{Advances}
+use Rattle.iri_cli.proofs.Common.{◌≡◌, ◌≢◌, ℕ, ◌+◌, ◌≤◌, List, [], ◌∷◌, ◌++◌, ◌&&◌, length, Bool, true, false, if◌then◌else◌, Option, None}
+use Rattle.iri_cli.proofs.Common.{Some, Result, Ok, Err, refl, sym, ◌∙◌, ap, subst, arith, append_assoc, length-append, concat, list_all}
+use Rattle.iri_cli.proofs.Common.{append-nil, Rose, Consumes, IsAtEnd, Appends, AppendsPrefix, KeepsRoom, SinkState, LineState, Advances}
+use Rattle.iri_cli.proofs.Common.{Source, FaultLineTooLong, FaultInputTooLong, Appends-none, room-then, room-so, Rules, Ending, answers}
+use Rattle.iri_cli.proofs.Common.{answered, IsBaseTaken, ending, HasRead, ReadsAll, ReadsSome, ReadsPast, IsGoing, outside, Finishes}
+use Rattle.iri_cli.proofs.Common.{Decides, StopsShort, RanTo, Ran, Answering, AnswersLine, PutsAnswer, AnswerError, End, Done, SomeBad}
+use Rattle.iri_cli.proofs.Common.{BadBase, SourceFailed, Memory, LineTooLong, InputTooLong}
 use Rattle.iri_text.specs.declared.streams.reader.LineFault.{LineFault}
-use Rattle.iri_text.specs.declared.streams.reader.LineFault.TheVariants.{Source, LineTooLong as FaultLineTooLong}
-use Rattle.iri_text.specs.declared.streams.reader.LineFault.TheVariants.{InputTooLong as FaultInputTooLong}
-use Rattle.iri_text.proofs.Puts.{Appends-append, Appends-none, prefix-after, prefix-longer, room-then, room-longer, room-so}
+use Rattle.iri_text.proofs.Puts.{Appends-append, prefix-after, prefix-longer, room-longer}
 use Rattle.iri_text.proofs.LinesLemmas.{no_cr-shorter}
-use Rattle.iri_cli.specs.run.Ending.{Rules, Ending, answers, answered, IsBaseTaken, ending}
-use Rattle.iri_cli.specs.run.Read.{HasRead, ReadsAll, ReadsSome, ReadsPast, IsGoing}
-use Rattle.iri_cli.specs.run.Run.{outside, Finishes, Decides, StopsShort, RanTo, Ran}
 use Rattle.iri_cli.specs.run.Steps.{end_at}
-use Rattle.iri_cli.specs.run.Answering.{Answering, AnswersLine, PutsAnswer, ClosesRun, end_of_error}
-use Rattle.iri_cli.specs.declared.run.answers.AnswerError.{AnswerError}
+use Rattle.iri_cli.specs.run.Answering.{ClosesRun, end_of_error}
 use Rattle.iri_cli.specs.declared.run.answers.AnswerError.TheVariants.{SinkFailed as AnswerFailed, Memory as AnswerMemory}
-use Rattle.iri_cli.specs.declared.run.end.End.{End}
-use Rattle.iri_cli.specs.declared.run.end.End.TheVariants.{Done, SomeBad, BadBase, SourceFailed, SinkFailed, Memory, LineTooLong, InputTooLong}
+use Rattle.iri_cli.specs.declared.run.end.End.TheVariants.{SinkFailed}
 use Rattle.iri_cli.proofs.Reading.{left_is, reads_line, reads_all, reads_some, reads_long, reads_over, goes_on, counts_more}
 use Rattle.iri_cli.proofs.Ends.{one_more, one_more_good, first_read, first_lines, ends_all, ends_past}
 

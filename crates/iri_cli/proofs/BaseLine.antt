@@ -1,26 +1,17 @@
 -- The base line.
-use Rattle.std.proofs.Common.{◌≡◌, ◌≢◌, ◌⊎◌, ℕ, ◌+◌, ◌-◌, ◌≤◌, List, [], ◌∷◌, ◌++◌, length, take, true, false, Option, None, Some, Ok, Err}
-use Rattle.std.proofs.Common.{refl, sym, ◌∙◌, ap, subst, arith, inl, inr, ⊎_elim, append_assoc}
-use Rattle.std.proofs.lemmas.List.{append-nil}
+use Rattle.iri_cli.proofs.Common.{◌≡◌, ◌≢◌, ◌⊎◌, ℕ, ◌+◌, ◌-◌, ◌≤◌, List, [], ◌∷◌, ◌++◌, length, take, true, false, Option, None, Some, Ok}
+use Rattle.iri_cli.proofs.Common.{Err, refl, sym, ◌∙◌, ap, subst, arith, inl, inr, ⊎_elim, append_assoc, append-nil, Rose, Consumes}
+use Rattle.iri_cli.proofs.Common.{IsAtEnd, Appends, AppendsPrefix, KeepsRoom, SinkState, LineState, Advances, Source, FaultLineTooLong}
+use Rattle.iri_cli.proofs.Common.{FaultInputTooLong, Appends-none, room-same, ended_lines, Rules, Ending, Passed, unless_refused}
+use Rattle.iri_cli.proofs.Common.{first_passed, completed, completed_lines, stopped, answered, IsBaseTaken, ending_by, ending, IsOpen}
+use Rattle.iri_cli.proofs.Common.{HasRead, ReadsSome, ReadsPast, IsGoing, outside, Decides, StopsShort, RanTo, Ran, End, Done, SomeBad}
+use Rattle.iri_cli.proofs.Common.{BadBase, SourceFailed, Memory, LineTooLong, InputTooLong}
 use Rattle.std.proofs.Math.Seq.{take-append-add}
-use Rattle.iri_text.specs.Count.{Rose}
-use Rattle.iri_text.specs.Source.{Consumes, IsAtEnd}
-use Rattle.iri_text.specs.Sink.{Appends, AppendsPrefix, KeepsRoom, SinkState}
-use Rattle.iri_text.specs.Line.{LineState}
-use Rattle.iri_text.specs.Reader.{Advances}
 use Rattle.iri_text.specs.declared.streams.reader.LineFault.{LineFault}
-use Rattle.iri_text.specs.declared.streams.reader.LineFault.TheVariants.{Source, LineTooLong as FaultLineTooLong}
-use Rattle.iri_text.specs.declared.streams.reader.LineFault.TheVariants.{InputTooLong as FaultInputTooLong}
-use Rattle.iri_text.proofs.Puts.{Appends-none, room-same}
-use Rattle.iri_text.specs.Lines.{ended_lines}
-use Rattle.iri_cli.specs.run.Ending.{Rules, Ending, Passed, base_line, unless_refused, first_passed, completed, completed_lines}
-use Rattle.iri_cli.specs.run.Ending.{stopped, answered, IsBaseTaken, ending_by, ending}
-use Rattle.iri_cli.specs.run.Read.{IsOpen, HasRead, ReadsSome, ReadsPast, IsGoing}
-use Rattle.iri_cli.specs.run.Run.{outside, Decides, StopsShort, RanTo, Ran}
+use Rattle.iri_cli.specs.run.Ending.{base_line}
 use Rattle.iri_cli.specs.run.Steps.{end_at, IsNew, GivesBase, ReadsBase}
 use Rattle.iri_cli.specs.run.Answering.{RefusesBase}
-use Rattle.iri_cli.specs.declared.run.end.End.{End}
-use Rattle.iri_cli.specs.declared.run.end.End.TheVariants.{Done, SomeBad, BadBase, SourceFailed, SinkFailed, Memory, LineTooLong, InputTooLong}
+use Rattle.iri_cli.specs.declared.run.end.End.TheVariants.{SinkFailed}
 use Rattle.iri_cli.proofs.Reading.{left_is, read_none, reads_line, reads_all, reads_some, reads_long, reads_over, goes_on}
 use Rattle.iri_cli.proofs.LineSteps.{place_later}
 use Rattle.iri_cli.proofs.Ends.{ends_past_none}

@@ -1,20 +1,13 @@
 -- The first fault of bytes, and what follows where there is none.
-use Rattle.std.proofs.Common.{◌≡◌, ℕ, List, Option, Some, None, refl}
-use Rattle.iri_grammar.specs.Classes.{Tests, IsSpec}
-use Rattle.iri_grammar.specs.Fault.{bytes_fault}
-use Rattle.iri_grammar.proofs.FaultLaws.{absolute-law, reference-law}
-use Rattle.iri_grammar.specs.Parts.{IsAbsolute, IsReference}
-use Rattle.iri_percent.specs.declared.canon_mode.CanonMode.{CanonMode}
+use Rattle.iri_cli.proofs.Common.{◌≡◌, ℕ, List, Option, Some, None, refl, Tests, IsSpec, bytes_fault, absolute-law, IsAbsolute, CanonMode}
+use Rattle.iri_cli.proofs.Common.{canonical_in, absolute_fault, reference_fault, ErrorKind, tests_of, refusal, words_of_fault, answer_in}
+use Rattle.iri_grammar.proofs.FaultLaws.{reference-law}
+use Rattle.iri_grammar.specs.Parts.{IsReference}
 use Rattle.iri_normal.proofs.CanonLaws.{canonical_in-iri, canonical_in-split, canonical_in-own}
-use Rattle.iri_normal.specs.NormalForm.{canonical_in}
-use Rattle.iri_grammar.specs.WholeFault.{absolute_fault, reference_fault}
-use Rattle.iri_grammar.specs.declared.error.ErrorKind.{ErrorKind}
 use Rattle.iri_grammar.specs.inside.Laws.{uri_is_spec, iri_is_spec}
-use Rattle.iri_cli.specs.run.Words.{tests_of}
 use Rattle.iri_cli.specs.declared.run.words.Grammar.{Grammar}
 use Rattle.iri_cli.specs.declared.run.words.Grammar.TheVariants.{Uri, Iri}
-use Rattle.iri_cli.specs.canon.Answers.{refusal, words_of_fault, AnswersAreCanonicalIn}
-use Rattle.iri_normal.specs.Answers.{answer_in}
+use Rattle.iri_cli.specs.canon.Answers.{AnswersAreCanonicalIn}
 use Rattle.iri_normal.proofs.CanonLemmas.{fault_none}
 
 pub refused_none : (k : Option ErrorKind) → words_of_fault k ≡ None → k ≡ None

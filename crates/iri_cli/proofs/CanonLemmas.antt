@@ -1,28 +1,13 @@
 -- The answers of `canon`.
-use Rattle.std.proofs.Common.{◌≡◌, ◌≢◌, ℕ, ◌+◌, ◌≤◌, Bool, List, [], length, None, Result, Ok, Err, refl, sym, ap, subst}
-use Rattle.std.proofs.Common.{arith, ◌∙◌}
-use Rattle.iri_grammar.specs.Classes.{Tests, IsSpec}
-use Rattle.iri_grammar.specs.Fault.{bytes_fault}
-use Rattle.iri_grammar.specs.WholeFault.{reference_fault}
-use Rattle.iri_text.specs.Sink.{PutsAll, KeepsRoom, SinkState}
-use Rattle.iri_text.proofs.Puts.{Appends-none, room-same, room-so}
-use Rattle.iri_text.specs.declared.Failed.{Failed}
-use Rattle.iri_percent.specs.declared.canon_mode.CanonMode.{CanonMode}
+use Rattle.iri_cli.proofs.Common.{◌≡◌, ◌≢◌, ℕ, ◌+◌, ◌≤◌, Bool, List, [], length, None, Result, Ok, Err, refl, sym, ap, subst, arith, ◌∙◌}
+use Rattle.iri_cli.proofs.Common.{Tests, IsSpec, bytes_fault, reference_fault, PutsAll, KeepsRoom, SinkState, Appends-none, room-same}
+use Rattle.iri_cli.proofs.Common.{room-so, Failed, CanonMode, canonical_in, longest_line, answer_room, refusal, answer_in, Answering}
+use Rattle.iri_cli.proofs.Common.{AnswersLine, PutsAnswer, canon_rules_in, is_ok, AnswerError, SinkFailed, Rules, begun, OnOk}
 use Rattle.iri_normal.proofs.LengthLaws.{length-canonical_in}
-use Rattle.iri_normal.specs.NormalForm.{canonical_in}
-use Rattle.iri_cli.specs.run.Limits.{longest_line, answer_room}
-use Rattle.iri_cli.specs.canon.Answers.{refusal}
-use Rattle.iri_normal.specs.Answers.{answer_in}
-use Rattle.iri_cli.specs.run.Answering.{Answering, AnswersLine, PutsAnswer}
 use Rattle.iri_cli.specs.inside.Puts.{PutsLine, told_of, IsCanonAt}
-use Rattle.iri_cli.specs.canon.Rules.{canon_rules_in, is_ok}
-use Rattle.iri_cli.specs.declared.run.answers.AnswerError.{AnswerError}
-use Rattle.iri_cli.specs.declared.run.answers.AnswerError.TheVariants.{SinkFailed, Memory}
-use Rattle.iri_cli.specs.run.Ending.{Rules}
+use Rattle.iri_cli.specs.declared.run.answers.AnswerError.TheVariants.{Memory}
 use Rattle.iri_cli.specs.canon.Prepared.{prepared}
-use Rattle.iri_cli.specs.inside.Opening.{begun}
 use Rattle.iri_cli.proofs.PreparedLaws.{same_answer, prepared_taken}
-use Rattle.std.specs.Prelude.{OnOk}
 use Rattle.iri_cli.proofs.BytesLemmas.{base_absolute, line_reference}
 
 -- nothing was put

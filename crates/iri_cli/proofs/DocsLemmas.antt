@@ -1,24 +1,15 @@
 -- The answers of `docs`.
-use Rattle.std.proofs.Common.{◌≡◌, ◌≤◌, ◌∙◌, ℕ, Bool, false, List, [], ◌∷◌, ◌++◌, length, None, Result, Ok, Err, refl, sym, ap, arith}
-use Rattle.std.specs.Prelude.{OnOk}
-use Rattle.iri_grammar.specs.Classes.{Tests}
+use Rattle.iri_cli.proofs.Common.{◌≡◌, ◌≤◌, ◌∙◌, ℕ, Bool, false, List, [], ◌∷◌, ◌++◌, length, None, Result, Ok, Err, refl, sym, ap, arith}
+use Rattle.iri_cli.proofs.Common.{OnOk, Tests, expansion_limit, SinkState, refusal, docs_answer, read_answer, begun, Answering, AnswersLine}
+use Rattle.iri_cli.proofs.Common.{answer_room, longest_line, is_ok, AnswerError}
 use Rattle.iri_docs.specs.Documents.{line_document}
-use Rattle.iri_docs.specs.Expanded.{expansion_limit}
 use Rattle.iri_docs.specs.Held.{Held}
 use Rattle.iri_docs.specs.ErrorTexts.{description}
 use Rattle.iri_docs.specs.declared.doc_error.DocError.{DocError}
 use Rattle.iri_docs.specs.declared.doc_error.DocError.TheVariants.{Json, Shape, Name, Truth, Float, Nested, Memory}
-use Rattle.iri_text.specs.Sink.{SinkState}
-use Rattle.iri_cli.specs.canon.Answers.{refusal}
-use Rattle.iri_cli.specs.docs.Answers.{docs_answer, read_answer}
 use Rattle.iri_cli.specs.inside.DocsAt.{IsDocsAt}
-use Rattle.iri_cli.specs.inside.Opening.{begun}
 use Rattle.iri_cli.specs.inside.StatelessAt.{IsStatelessAt}
-use Rattle.iri_cli.specs.run.Answering.{Answering, AnswersLine}
-use Rattle.iri_cli.specs.run.Limits.{answer_room, longest_line}
-use Rattle.iri_cli.specs.canon.Rules.{is_ok}
 use Rattle.iri_cli.specs.docs.Rules.{docs_rules, takes_memory}
-use Rattle.iri_cli.specs.declared.run.answers.AnswerError.{AnswerError}
 
 -- the answer to a line by what was read of it
 pub docs_read : (s : Tests) (base line : List ℕ) (read : Result Held DocError) → line_document line ≡ read

@@ -1,18 +1,12 @@
 -- The ending of an input by the lines that were read of it.
-use Rattle.std.proofs.Common.{◌≡◌, ℕ, ◌+◌, ◌-◌, ◌≤◌, List, [], ◌∷◌, ◌++◌, ◌&&◌, length, take, Bool, if◌then◌else◌, Option}
-use Rattle.std.proofs.Common.{None, Some, refl, sym, ◌∙◌, ap, subst, arith, ⊎_elim, append_assoc}
-use Rattle.std.specs.List.{concat, list_all}
+use Rattle.iri_cli.proofs.Common.{◌≡◌, ℕ, ◌+◌, ◌-◌, ◌≤◌, List, [], ◌∷◌, ◌++◌, ◌&&◌, length, take, Bool, if◌then◌else◌, Option, None, Some}
+use Rattle.iri_cli.proofs.Common.{refl, sym, ◌∙◌, ap, subst, arith, ⊎_elim, append_assoc, concat, list_all, append-nil, lines, Consumes}
+use Rattle.iri_cli.proofs.Common.{IsAtEnd, LineState, ended_lines, Rules, Ending, Passed, unless_refused, first_passed, answers, completed}
+use Rattle.iri_cli.proofs.Common.{completed_lines, stopped, ending_by, ending, IsOpen, HasRead, ReadsAll, ReadsPast}
 use Rattle.std.proofs.Math.Bool.{and-true}
-use Rattle.std.proofs.lemmas.List.{append-nil}
 use Rattle.std.proofs.lemmas.List.Folds.{concat-append, list_all-append}
 use Rattle.std.proofs.Math.Seq.{take-append-add}
-use Rattle.iri_text.specs.Lines.{lines}
-use Rattle.iri_text.specs.Source.{Consumes, IsAtEnd}
-use Rattle.iri_text.specs.Line.{LineState}
-use Rattle.iri_text.specs.Lines.{ended_lines}
-use Rattle.iri_cli.specs.run.Ending.{Rules, Ending, Passed, unless_refused, first_passed, answers_after, answers, completed}
-use Rattle.iri_cli.specs.run.Ending.{completed_lines, stopped, ending_by, ending}
-use Rattle.iri_cli.specs.run.Read.{IsOpen, HasRead, ReadsAll, ReadsPast}
+use Rattle.iri_cli.specs.run.Ending.{answers_after}
 use Rattle.iri_cli.proofs.LineSteps.{place_later}
 use Rattle.iri_cli.proofs.Reading.{left_is}
 

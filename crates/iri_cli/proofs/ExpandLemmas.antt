@@ -1,39 +1,19 @@
 -- The answers of `expand`.
-use Rattle.std.proofs.Common.{◌≡◌, ◌≢◌, ◌∙◌, ◌<◌, ◌≤◌, ℕ, Bool, true, false, List, [], ◌∷◌, ◌++◌, length, Option, None, Some, Result, Ok, Err, if◌then◌else◌, refl, sym, ap, subst, arith}
-use Rattle.std.specs.Prelude.{nat_lt}
+use Rattle.iri_cli.proofs.Common.{◌≡◌, ◌≢◌, ◌∙◌, ◌<◌, ◌≤◌, ℕ, Bool, true, false, List, [], ◌∷◌, ◌++◌, length, Option, None, Some, Result}
+use Rattle.iri_cli.proofs.Common.{Ok, Err, if◌then◌else◌, refl, sym, ap, subst, arith, nat_lt, nat_tests, Tests, bytes_fault}
+use Rattle.iri_cli.proofs.Common.{reference_fault, ErrorKind, canonical, KeepsRoom, SinkState, Appends-none, room-same, expansion_limit}
+use Rattle.iri_cli.proofs.Common.{value_in, expansion, shown_value, pieces_of, optional, answer_room, longest_line, answer, refusal}
+use Rattle.iri_cli.proofs.Common.{answer_by, answer_in, Answering, AnswersLine, PutsAnswer, PutsLine, Rules, expansion_answer}
+use Rattle.iri_cli.proofs.Common.{template_answer, template_refusal, too_long, unless_fault, Values, is_ok, begun, AnswerError, SinkFailed}
 use Rattle.std.proofs.Math.Path.{fun_ext}
-use Rattle.std.proofs.lemmas.Bool.Decides.{nat_tests}
-use Rattle.iri_grammar.specs.Classes.{Tests}
-use Rattle.iri_grammar.specs.Fault.{bytes_fault}
-use Rattle.iri_grammar.specs.WholeFault.{reference_fault}
-use Rattle.iri_grammar.specs.declared.error.ErrorKind.{ErrorKind}
-use Rattle.iri_normal.specs.NormalForm.{canonical}
-use Rattle.iri_text.specs.Sink.{KeepsRoom, SinkState}
-use Rattle.iri_text.proofs.Puts.{Appends-none, room-same}
-use Rattle.iri_docs.specs.Expanded.{expansion_limit}
-use Rattle.iri_template.specs.Contexts.{value_at, value_in}
-use Rattle.iri_template.specs.Expansion.{expansion}
-use Rattle.iri_template.specs.HeldValues.{shown_value}
-use Rattle.iri_template.specs.Reading.{pieces_of}
-use Rattle.iri_template.specs.ShownValues.{optional}
+use Rattle.iri_template.specs.Contexts.{value_at}
 use Rattle.iri_template.specs.TypeFaults.{expansion_fault}
 use Rattle.iri_template.specs.declared.error.Error.{Error}
 use Rattle.iri_template.specs.declared.simple_context.SimpleContext.{SimpleContext}
-use Rattle.iri_cli.specs.run.Limits.{answer_room, longest_line}
-use Rattle.iri_cli.specs.canon.Answers.{answer, refusal}
-use Rattle.iri_normal.specs.Answers.{answer_by, answer_in}
-use Rattle.iri_cli.specs.run.Answering.{Answering, AnswersLine, PutsAnswer}
-use Rattle.iri_cli.specs.inside.Puts.{PutsLine}
-use Rattle.iri_cli.specs.run.Ending.{Rules}
-use Rattle.iri_cli.specs.expand.Answers.{answer_to, expansion_answer, template_answer, template_refusal}
-use Rattle.iri_cli.specs.expand.Answers.{too_long, unless_fault}
-use Rattle.iri_cli.specs.expand.Lines.{ExpandLine, Values, after_line, line_of, values_after}
-use Rattle.iri_cli.specs.canon.Rules.{is_ok}
+use Rattle.iri_cli.specs.expand.Answers.{answer_to}
+use Rattle.iri_cli.specs.expand.Lines.{ExpandLine, after_line, line_of, values_after}
 use Rattle.iri_cli.specs.expand.Rules.{expand_rules, is_ok_or_none}
 use Rattle.iri_cli.specs.inside.ExpandAt.{IsExpandAt}
-use Rattle.iri_cli.specs.inside.Opening.{begun}
-use Rattle.iri_cli.specs.declared.run.answers.AnswerError.{AnswerError}
-use Rattle.iri_cli.specs.declared.run.answers.AnswerError.TheVariants.{SinkFailed}
 use Rattle.iri_cli.proofs.CanonLemmas.{on_ok, puts_answer}
 use Rattle.iri_cli.proofs.VariableLemmas.{values-more}
 

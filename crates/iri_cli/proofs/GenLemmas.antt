@@ -1,6 +1,5 @@
 -- The references of `gen`: segments that are still to be written, and one reference more.
-use Rattle.std.proofs.Common.{◌≡◌, ℕ, suc, ◌+◌, ◌-◌, ◌<◌, ◌/◌, ◌%◌, List, ◌∷◌, ◌++◌, [], ap, arith, sym, ◌∙◌}
-use Rattle.std.proofs.Common.{append_assoc}
+use Rattle.std.proofs.Common.{◌≡◌, ℕ, suc, ◌+◌, ◌-◌, ◌<◌, ◌/◌, ◌%◌, List, ◌∷◌, ◌++◌, [], ap, arith, sym, ◌∙◌, append_assoc}
 use Rattle.iri_cli.specs.generator.References.{gen_segment, more_segments}
 
 pub more_step : (count i number : ℕ) → i < count → more_segments (count - i) number

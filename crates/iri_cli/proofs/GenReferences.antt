@@ -1,20 +1,20 @@
 -- No reference of `gen` has a fault: each segment of the table is over the characters of a registered name, which are of a path too.
-use Rattle.std.proofs.Common.{◌≡◌, ℕ, zero, suc, ◌<◌, ◌/◌, ◌%◌, ◌^◌, Bool, true, false, not, ◌&&◌, ◌||◌, List, [], ◌∷◌, ◌++◌, Some, None}
-use Rattle.std.proofs.Common.{refl, ◌∙◌, ap, subst, arith, append-nil}
-use Rattle.std.specs.Prelude.{◌==◌, get_or, nat_lt}
-use Rattle.std.specs.List.{list_all}
-use Rattle.std.specs.Str.{IsAscii, chars, is_utf8}
+use Rattle.iri_cli.proofs.Common.{◌≡◌, ℕ, suc, ◌<◌, ◌^◌, Bool, true, false, not, ◌&&◌, ◌||◌, List, [], ◌∷◌, ◌++◌, Some, None, refl, ◌∙◌, ap}
+use Rattle.iri_cli.proofs.Common.{subst, arith, append-nil, ◌==◌, get_or, nat_lt, list_all, is_utf8, is_utf8-from_IsUtf8, nat_tests, Tests}
+use Rattle.iri_cli.proofs.Common.{IsSpec, path_char, before, lacks, both, IsAbsolute, recompose, is_empty, starts_with_slash}
+use Rattle.iri_cli.proofs.Common.{starts_with_slashes, split_of, absolute_fault, reference_fault, absolute-law, of_bytes, reference-utf8}
+use Rattle.iri_cli.proofs.Common.{refusal, words_of_fault, more_segments, gen_reference, gen_base}
+use Rattle.std.proofs.Common.{zero, ◌/◌, ◌%◌}
+use Rattle.std.specs.Str.{IsAscii, chars}
 use lib.Utf8.{encode}
-use Rattle.std.proofs.lemmas.Str.{IsAscii-append, IsUtf8-from_ascii, is_utf8-from_IsUtf8, chars-IsAscii}
-use Rattle.std.proofs.lemmas.Bool.Decides.{nat_tests}
-use Rattle.iri_grammar.specs.Classes.{Tests, IsSpec, uri_tests, is_ascii_unreserved, is_sub_delim, is_ascii_reg_name, is_ascii_pchar}
-use Rattle.iri_grammar.specs.Classes.{is_ascii_path, is_ascii_query, reg_name_char, path_char, query_char}
+use Rattle.std.proofs.lemmas.Str.{IsAscii-append, IsUtf8-from_ascii, chars-IsAscii}
+use Rattle.iri_grammar.specs.Classes.{uri_tests, is_ascii_unreserved, is_sub_delim, is_ascii_reg_name, is_ascii_pchar, is_ascii_path}
+use Rattle.iri_grammar.specs.Classes.{is_ascii_query, reg_name_char, query_char}
 use Rattle.iri_grammar.proofs.ClassLaws.{class_has_no_percent}
 use Rattle.iri_grammar.specs.declared.class.Class.TheVariants.{RegName, Path}
 use Rattle.iri_grammar.specs.Over.{over, over_from, text_over, IsOver, done, plain, triplet}
 use Rattle.iri_grammar.proofs.OverLaws.{over-from_units, units-from_over}
-use Rattle.iri_grammar.specs.Cut.{before, lacks}
-use Rattle.std.proofs.lemmas.Bool.{and_parts as both, or_right}
+use Rattle.std.proofs.lemmas.Bool.{or_right}
 use Rattle.iri_grammar.proofs.CutLaws.{before-at}
 use Rattle.iri_grammar.specs.Components.{is_letter, is_scheme_char}
 use Rattle.iri_grammar.specs.Ipv6.{is_group}
@@ -23,16 +23,12 @@ use Rattle.iri_grammar.specs.Host.{is_reg_name}
 use Rattle.iri_grammar.specs.Authority.{is_authority, authority_parts, recompose_authority}
 use Rattle.iri_grammar.proofs.AuthorityLaws.{passes}
 use Rattle.iri_grammar.proofs.AuthorityTexts.{all_below}
-use Rattle.iri_grammar.specs.Parts.{IsAbsolute, recompose, is_empty, starts_with_slash, starts_with_slashes}
 use Rattle.iri_grammar.proofs.MadeLaws.{made-reference}
-use Rattle.iri_grammar.specs.Split.{split_of}
-use Rattle.iri_grammar.specs.WholeFault.{absolute_fault, reference_fault, fault_before_fragment, parts_fault}
-use Rattle.iri_grammar.proofs.FaultLaws.{absolute-law, of_bytes, reference-utf8}
+use Rattle.iri_grammar.specs.WholeFault.{fault_before_fragment, parts_fault}
 use Rattle.iri_grammar.proofs.UriLaws.{absolute-wider}
 use Rattle.iri_grammar.specs.inside.Laws.{uri_is_spec}
 use Rattle.iri_normal.proofs.TripletHeads.{head-apart}
-use Rattle.iri_cli.specs.canon.Answers.{refusal, words_of_fault}
-use Rattle.iri_cli.specs.generator.References.{gen_segments, gen_segment, more_segments, gen_reference, gen_base}
+use Rattle.iri_cli.specs.generator.References.{gen_segments, gen_segment}
 
 -- ---- the segments of the table
 -- characters of a registered name and triplets, in ASCII, without slash or colon

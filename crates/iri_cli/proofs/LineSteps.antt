@@ -1,10 +1,7 @@
 -- How limits and lines go over the bytes of one line.
-use Rattle.std.proofs.Common.{◌≡◌, ◌≢◌, ℕ, ◌+◌, ◌==◌, if◌then◌else◌, ◌<◌, ◌≤◌, nat_le, List, [], ◌∷◌, ◌++◌, length, Bool, true, false}
-use Rattle.std.proofs.Common.{Option, None, Some, add-zero, sym, ◌∙◌, ap, arith}
-use Rattle.std.proofs.lemmas.List.{append-nil}
-use Rattle.std.proofs.lemmas.Bool.Decides.{nat_tests}
-use Rattle.iri_text.specs.Lines.{NoLf}
-use Rattle.iri_cli.specs.run.Ending.{Rules, Passed, passed_from}
+use Rattle.iri_cli.proofs.Common.{◌≡◌, ◌≢◌, ℕ, ◌+◌, ◌==◌, if◌then◌else◌, ◌<◌, ◌≤◌, List, [], ◌∷◌, ◌++◌, length, Bool, true, false, Option}
+use Rattle.iri_cli.proofs.Common.{None, Some, sym, ◌∙◌, ap, arith, append-nil, nat_tests, NoLf, Rules, Passed, passed_from}
+use Rattle.std.proofs.Common.{nat_le, add-zero}
 
 module _ (rules : Rules) where
   step : (place len b : ℕ) (y : List ℕ) → b ≢ 10 → place < rules.input_limit → len < rules.line_limit

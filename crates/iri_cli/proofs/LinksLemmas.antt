@@ -1,22 +1,15 @@
 -- The answers of `links`.
-use Rattle.std.proofs.Common.{◌≡◌, ◌≤◌, ◌<◌, ◌^◌, ◌==◌, ◌&&◌, ◌∙◌, ℕ, true, false, not, List, [], ◌∷◌, ◌++◌, length, map, Option, None, Some, refl, sym, ap}
-use Rattle.std.proofs.Common.{arith, length-append}
-use Rattle.std.specs.Prelude.{◌||◌, codes, decimal}
-use Rattle.std.specs.List.{list_all}
+use Rattle.iri_cli.proofs.Common.{◌≡◌, ◌≤◌, ◌<◌, ◌^◌, ◌==◌, ◌&&◌, ◌∙◌, ℕ, true, false, not, List, [], ◌∷◌, ◌++◌, length, map, Option, None}
+use Rattle.iri_cli.proofs.Common.{Some, refl, sym, ap, arith, length-append, ◌||◌, codes, decimal, list_all, is_utf8, length-decimal-le}
+use Rattle.iri_cli.proofs.Common.{is_utf8-from_IsUtf8, both, before, lacks, reference_fault, ErrorKind, IsSpec, Tests, refusal, good_answer}
 use Rattle.std.specs.Option.{is_none}
-use Rattle.std.specs.Str.{is_utf8}
-use Rattle.std.proofs.lemmas.Fmt.{length-decimal-le}
-use Rattle.std.proofs.lemmas.Str.{is_utf8-from_IsUtf8}
 use Rattle.std.proofs.Math.Bool.{and-false, or-true}
-use Rattle.std.proofs.lemmas.Bool.{and_parts as both}
 use Rattle.iri_grammar.proofs.CutLaws.{before-delimited, by_test}
 use Rattle.iri_grammar.specs.Characters.{comma}
-use Rattle.iri_grammar.specs.Cut.{before, lacks}
 use Rattle.iri_grammar.specs.ErrorTexts.{description}
-use Rattle.iri_grammar.specs.WholeFault.{reference_fault}
-use Rattle.iri_grammar.specs.declared.error.ErrorKind.{ErrorKind}
-use Rattle.iri_grammar.specs.declared.error.ErrorKind.TheVariants.{InvalidScheme, InvalidUserInfo, InvalidHost, InvalidRegName, InvalidPort, InvalidPath}
-use Rattle.iri_grammar.specs.declared.error.ErrorKind.TheVariants.{InvalidQuery, InvalidFragment, UnexpectedFragment, UnexpectedRelative, InvalidUtf8}
+use Rattle.iri_grammar.specs.declared.error.ErrorKind.TheVariants.{InvalidScheme, InvalidUserInfo, InvalidHost, InvalidRegName, InvalidPort}
+use Rattle.iri_grammar.specs.declared.error.ErrorKind.TheVariants.{InvalidPath, InvalidQuery, InvalidFragment, UnexpectedFragment}
+use Rattle.iri_grammar.specs.declared.error.ErrorKind.TheVariants.{UnexpectedRelative, InvalidUtf8}
 use Rattle.iri_link.specs.ErrorTexts.{displayed, words}
 use Rattle.iri_link.specs.Refusals.{RefusedBy}
 use Rattle.iri_grammar.specs.Blanks.{is_blank}
@@ -24,7 +17,6 @@ use Rattle.iri_link.specs.declared.error.LinkError.TheVariants.{Fault, Memory}
 use Rattle.iri_link.specs.declared.error.LinkKind.{LinkKind}
 use Rattle.iri_link.specs.declared.error.LinkKind.TheVariants.{NotUtf8, NoTarget, OpenTarget, BadTarget, NoParam, NoValue, OpenString}
 use Rattle.iri_cli.specs.links.Memory.{has_target, keeps_target, takes_memory}
-use Rattle.iri_grammar.specs.Classes.{IsSpec, Tests}
 use Rattle.iri_link.specs.Fault.{Told, field_fault}
 use Rattle.iri_link.specs.Field.{LinkValue}
 use Rattle.iri_link.specs.Links.{HasLinks}
@@ -35,8 +27,6 @@ use Rattle.iri_link.proofs.FieldLemmas.{links_of_faultless}
 use Rattle.iri_link.proofs.NoFaultLemmas.{links_without_fault}
 use Rattle.iri_link.proofs.OneListLemmas.{field-given}
 use Rattle.iri_link.proofs.WrittenLemmas.{read_again}
-use Rattle.iri_cli.specs.canon.Answers.{refusal}
-use Rattle.iri_normal.specs.Answers.{good_answer}
 use Rattle.iri_cli.specs.links.Answers.{field_refusal, links_answer, links_line, unless_told}
 use Rattle.iri_cli.proofs.BytesLemmas.{base_absolute}
 

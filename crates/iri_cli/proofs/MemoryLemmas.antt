@@ -1,9 +1,5 @@
 -- Allocation that failed at a line.
-use Rattle.std.proofs.Common.{◌≡◌, ◌∙◌, ℕ, List, true, Err, refl, ap}
-use Rattle.iri_text.specs.Sink.{SinkState}
-use Rattle.iri_text.proofs.Puts.{room-same}
-use Rattle.iri_cli.specs.run.Answering.{Answering, AnswersLine}
-use Rattle.iri_cli.specs.run.Ending.{Rules}
+use Rattle.iri_cli.proofs.Common.{◌≡◌, ◌∙◌, ℕ, List, true, Err, refl, ap, SinkState, room-same, Answering, AnswersLine, Rules}
 use Rattle.iri_cli.specs.declared.run.answers.AnswerError.TheVariants.{Memory}
 
 -- nothing was put for a line that takes memory

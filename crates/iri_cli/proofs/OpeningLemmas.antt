@@ -1,21 +1,11 @@
 -- How a run begins.
-use Rattle.std.proofs.Common.{◌≡◌, ℕ, ◌≤◌, List, [], ◌∷◌, true, Option, None, refl, sym, ◌∙◌, ap, subst, arith, ⊎_elim}
-use Rattle.iri_grammar.specs.Classes.{Tests}
-use Rattle.iri_grammar.specs.Fault.{bytes_fault}
-use Rattle.iri_grammar.specs.WholeFault.{absolute_fault}
+use Rattle.iri_cli.proofs.Common.{◌≡◌, ℕ, ◌≤◌, List, [], ◌∷◌, true, Option, None, refl, sym, ◌∙◌, ap, subst, arith, ⊎_elim, Tests}
+use Rattle.iri_cli.proofs.Common.{bytes_fault, absolute_fault, LineState, Appends-none, room-same, SinkState, refusal, Answering, IsReady}
+use Rattle.iri_cli.proofs.Common.{Rules, ending, begun, HasRead, IsGoing, outside, Ran, Memory}
 use Rattle.iri_normal.proofs.CanonLemmas.{fault_none}
-use Rattle.iri_text.specs.Line.{LineState}
-use Rattle.iri_text.proofs.Puts.{Appends-none, room-same}
-use Rattle.iri_text.specs.Sink.{SinkState}
-use Rattle.iri_cli.specs.canon.Answers.{refusal}
-use Rattle.iri_cli.specs.run.Answering.{Answering, IsReady}
 use Rattle.iri_cli.specs.run.Buffers.{AreBuffers}
-use Rattle.iri_cli.specs.run.Ending.{Rules, ending}
-use Rattle.iri_cli.specs.inside.Opening.{BeginsAsCanon, begun}
-use Rattle.iri_cli.specs.run.Read.{HasRead, IsGoing}
-use Rattle.iri_cli.specs.run.Run.{outside, Ran}
+use Rattle.iri_cli.specs.inside.Opening.{BeginsAsCanon}
 use Rattle.iri_cli.specs.run.Steps.{GivesBase, IsNew}
-use Rattle.iri_cli.specs.declared.run.end.End.TheVariants.{Memory}
 use Rattle.iri_cli.proofs.BytesLemmas.{refused_none}
 use Rattle.iri_cli.proofs.Ends.{first_lines}
 

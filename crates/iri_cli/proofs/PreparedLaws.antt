@@ -1,24 +1,21 @@
 -- A prepared base is an absolute URI again, is no longer than the base, and has the same canonical texts.
-use Rattle.std.proofs.Common.{◌≡◌, ℕ, ◌≤◌, true, false, cond, ◌&&◌, List, [], ◌∷◌, ◌++◌, Option, Some, None, length}
-use Rattle.std.proofs.Common.{refl, ap, sym, ◌∙◌, arith, append_assoc, append-nil}
-use Rattle.std.specs.Prelude.{is_some, IsSome}
+use Rattle.iri_cli.proofs.Common.{◌≡◌, ℕ, ◌≤◌, true, false, cond, ◌&&◌, List, [], ◌∷◌, ◌++◌, Option, Some, None, length, refl, ap, sym, ◌∙◌}
+use Rattle.iri_cli.proofs.Common.{arith, append_assoc, append-nil, is_some, IsSome, Tests, IsSpec, Parts, IsAbsolute, path_rules, recompose}
+use Rattle.iri_cli.proofs.Common.{is_empty, starts_with_slash, split_of, CanonMode, canonical_in, bytes_fault, absolute_fault}
+use Rattle.iri_cli.proofs.Common.{reference_fault, absolute-law, of_bytes, reference-utf8, refusal, words_of_fault, answer_in, answer_by}
 use Rattle.iri_grammar.proofs.FaultLaws.{none-is}
-use Rattle.iri_grammar.specs.Classes.{Tests, IsSpec}
-use Rattle.iri_grammar.specs.Parts.{Parts, Fits, Splits, IsAbsolute, path_rules, recompose, is_empty, starts_with_slash, scheme_text}
-use Rattle.iri_grammar.specs.Parts.{authority_text}
+use Rattle.iri_grammar.specs.Parts.{Fits, Splits, scheme_text, authority_text}
 use Rattle.iri_grammar.specs.Cut.{delimited}
 use Rattle.iri_grammar.specs.Authority.{is_authority}
 use Rattle.iri_grammar.specs.Components.{if_there}
-use Rattle.iri_grammar.specs.Split.{split_of}
 use Rattle.iri_grammar.proofs.SplitUnique.{split_is}
 use Rattle.iri_normal.specs.LowerCase.{where_there}
 use Rattle.iri_normal.specs.DotRemoval.{dots}
 use Rattle.iri_normal.specs.Target.{target, target_under, target_path, merge_prefix, to_last_slash}
 use Rattle.iri_percent.specs.NormalHost.{normal_authority, normal_authority_in}
 use Rattle.iri_percent.specs.SchemeRules.{dropped_port}
-use Rattle.iri_percent.specs.declared.canon_mode.CanonMode.{CanonMode}
 use Rattle.iri_percent.specs.declared.canon_mode.CanonMode.TheVariants.{Default, Scheme}
-use Rattle.iri_normal.specs.NormalForm.{becomes_slash, normal_path, normal_form, normal_form_in, form, canonical_in}
+use Rattle.iri_normal.specs.NormalForm.{becomes_slash, normal_path, normal_form, normal_form_in, form}
 use Rattle.iri_normal.specs.declared.mode.Mode.TheVariants.{ByScheme}
 use Rattle.iri_normal.proofs.CanonLaws.{canonical_in-text}
 use Rattle.iri_normal.proofs.AuthorityForm.{authority-fits, authority-stable}
@@ -26,12 +23,7 @@ use Rattle.iri_normal.proofs.SchemeForm.{dropped-lowered, without, without-norma
 use Rattle.iri_normal.proofs.FormLaws.{form-fits, scheme-stable, authorities-stable}
 use Rattle.iri_normal.specs.Prefix.{prefix_in}
 use Rattle.iri_normal.proofs.LengthLaws.{length-parts, length-scheme, length-authorities}
-use Rattle.iri_grammar.specs.Fault.{bytes_fault}
-use Rattle.iri_grammar.specs.WholeFault.{absolute_fault, reference_fault}
-use Rattle.iri_grammar.proofs.FaultLaws.{absolute-law, of_bytes, reference-utf8}
 use Rattle.iri_normal.proofs.PathLaws.{stands-still as same_there}
-use Rattle.iri_cli.specs.canon.Answers.{refusal, words_of_fault}
-use Rattle.iri_normal.specs.Answers.{answer_in, answer_by}
 use Rattle.iri_cli.specs.canon.Prepared.{prepared_path, prepared_parts, prepared}
 use Rattle.iri_cli.proofs.PreparedPaths.{IsRooted, rooted_beside, whole_dots, same_empty, merged_dots, path_over, rules_kept, path_short}
 use Rattle.iri_cli.proofs.BytesLemmas.{base_absolute}

@@ -1,14 +1,11 @@
 -- A path without the dot segments before its last segment: it is a path again, no longer, and references are merged with it as before.
-use Rattle.std.proofs.Common.{◌≡◌, ℕ, ◌+◌, ◌≤◌, Bool, true, false, cond, not, ◌&&◌, ◌||◌, List, [], ◌∷◌, ◌++◌, Option, Some, None}
-use Rattle.std.proofs.Common.{length, refl, sym, ◌∙◌, ap, subst, arith, append-nil, length-append}
-use Rattle.std.specs.Prelude.{◌==◌, is_some, IsSome}
-use Rattle.iri_grammar.specs.Classes.{Tests, path_char}
+use Rattle.iri_cli.proofs.Common.{◌≡◌, ℕ, ◌+◌, ◌≤◌, Bool, true, false, cond, not, ◌&&◌, ◌||◌, List, [], ◌∷◌, ◌++◌, Option, Some, None}
+use Rattle.iri_cli.proofs.Common.{length, refl, sym, ◌∙◌, ap, subst, arith, append-nil, length-append, ◌==◌, is_some, IsSome, Tests}
+use Rattle.iri_cli.proofs.Common.{path_char, lacks, path_rules, is_empty, starts_with_slash, starts_with_slashes, both}
 use Rattle.iri_grammar.specs.Components.{is_path}
-use Rattle.iri_grammar.specs.Cut.{lacks}
-use Rattle.iri_grammar.specs.Parts.{path_rules, is_empty, starts_with_slash, starts_with_slashes}
 use Rattle.iri_grammar.specs.Pieces.{joined}
 use Rattle.std.proofs.Math.Bool.{and-false}
-use Rattle.std.proofs.lemmas.Bool.{and_parts as both, not-true}
+use Rattle.std.proofs.lemmas.Bool.{not-true}
 use Rattle.iri_grammar.proofs.Ipv6Laws.{joined_pieces}
 use Rattle.iri_grammar.proofs.UnitRuns.{text_over-append}
 use Rattle.iri_normal.specs.DotRemoval.{is_two_dots, without_last, dots}

@@ -1,7 +1,5 @@
 -- Texts that were put.
-use Rattle.std.proofs.Common.{◌≡◌, ℕ, List, Result, subst}
-use Rattle.iri_text.specs.Sink.{PutsAll, SinkState}
-use Rattle.iri_text.specs.declared.Failed.{Failed}
+use Rattle.iri_cli.proofs.Common.{◌≡◌, ℕ, List, Result, subst, PutsAll, SinkState, Failed}
 
 -- the same text was put
 pub puts_so : {a b : SinkState} {r : Result (Unit {0}) Failed} {t u : List ℕ} → t ≡ u → PutsAll a b r t → PutsAll a b r u

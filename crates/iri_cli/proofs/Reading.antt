@@ -1,17 +1,13 @@
 -- Lines that a reader gives one after the other, and how that ends.
-use Rattle.std.proofs.Common.{◌≡◌, ◌≢◌, ℕ, ◌+◌, ◌-◌, ◌<◌, ◌≤◌, List, [], ◌∷◌, ◌++◌, length, take, Option, None, Some, Ok, Err, true, false}
-use Rattle.std.proofs.Common.{refl, sym, ◌∙◌, ap, subst, arith, inl, inr, ⊎_elim, append_assoc, length-append}
-use Rattle.std.proofs.lemmas.List.{append-nil, take_at}
-use Rattle.iri_text.specs.Lines.{NoLf, no_cr, lines}
-use Rattle.iri_text.specs.Source.{Consumes}
-use Rattle.iri_text.specs.Line.{LineState}
-use Rattle.iri_text.specs.Reader.{Advances}
-use Rattle.iri_text.specs.declared.streams.reader.LineFault.TheVariants.{Source, LineTooLong, InputTooLong}
+use Rattle.iri_cli.proofs.Common.{◌≡◌, ◌≢◌, ℕ, ◌+◌, ◌-◌, ◌<◌, ◌≤◌, List, [], ◌∷◌, ◌++◌, length, take, Option, None, Some, Ok, Err, true}
+use Rattle.iri_cli.proofs.Common.{false, refl, sym, ◌∙◌, ap, subst, arith, inl, inr, ⊎_elim, append_assoc, length-append, append-nil, NoLf}
+use Rattle.iri_cli.proofs.Common.{lines, Consumes, LineState, Advances, Source, ended_lines, Rules, passed_from, first_passed, IsOpen}
+use Rattle.iri_cli.proofs.Common.{HasRead, ReadsAll, ReadsSome, ReadsPast, IsGoing}
+use Rattle.std.proofs.lemmas.List.{take_at}
+use Rattle.iri_text.specs.Lines.{no_cr}
+use Rattle.iri_text.specs.declared.streams.reader.LineFault.TheVariants.{LineTooLong, InputTooLong}
 use Rattle.iri_text.proofs.LinesLemmas.{ended_from-append, ended-none, lines_from-append, lines-last}
 use Rattle.iri_text.proofs.Moved.{Consumes-append, still_at_end}
-use Rattle.iri_text.specs.Lines.{ended_lines}
-use Rattle.iri_cli.specs.run.Ending.{Rules, passed_from, first_passed}
-use Rattle.iri_cli.specs.run.Read.{IsOpen, HasRead, ReadsAll, ReadsSome, ReadsPast, IsGoing}
 use Rattle.iri_cli.proofs.LineSteps.{past_line, past_bytes, past_long, past_over}
 
 -- what was taken before and now

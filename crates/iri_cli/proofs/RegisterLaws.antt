@@ -1,23 +1,19 @@
 -- Live lines of `register`, and the entries that they share.
-use Rattle.std.proofs.Common.{◌≡◌, ◌↔◌, ℕ, suc, ◌+◌, List, [], ◌∷◌, ◌++◌, length, true, false, not, ◌&&◌, cond, bytes_eq, Option, Some, None}
-use Rattle.std.proofs.Common.{slice_get, refl, sym, ◌∙◌, ap, subst}
+use Rattle.iri_cli.proofs.Common.{◌≡◌, ◌↔◌, ℕ, suc, ◌+◌, List, [], ◌∷◌, ◌++◌, length, true, false, not, ◌&&◌, cond, bytes_eq, Option, Some}
+use Rattle.iri_cli.proofs.Common.{None, refl, sym, ◌∙◌, ap, subst, IsSpec, Tests, bytes_fault, reference_fault, ErrorKind, canonical}
+use Rattle.iri_cli.proofs.Common.{refusal, line_of, command_of, commands_from, entries_after}
+use Rattle.std.proofs.Common.{slice_get}
 use Rattle.std.specs.List.{All}
 use Rattle.std.proofs.lemmas.List.Elements.{All-head, All-tail}
-use Rattle.iri_grammar.specs.Classes.{IsSpec, Tests}
-use Rattle.iri_grammar.specs.Fault.{bytes_fault}
-use Rattle.iri_grammar.specs.WholeFault.{reference_fault}
-use Rattle.iri_grammar.specs.declared.error.ErrorKind.{ErrorKind}
-use Rattle.iri_normal.specs.NormalForm.{canonical}
 use Rattle.iri_register.specs.Commands.{Command, Add, Remove, Line, live, stays}
-use Rattle.iri_register.specs.Shared as shared
 use Rattle.iri_register.proofs.GroupLemmas.{is_same}
 use Rattle.iri_register.proofs.ShareLemmas.{joined_texts}
-use Rattle.iri_cli.specs.canon.Answers.{refusal}
-use Rattle.iri_cli.specs.register.Lines.{RegisterLine, adds, removes, finds, bad, line_of, command_of, commands_from, entries_after, unless_fault}
+use Rattle.iri_cli.specs.register.Lines.{RegisterLine, adds, removes, finds, bad, unless_fault}
 use Rattle.iri_cli.specs.register.Shared.{TakesOut, IsLiveLine, ShareEntry}
 use Rattle.iri_cli.proofs.BytesLemmas.{base_absolute, line_reference}
 use Rattle.iri_cli.proofs.RegisterLemmas.{commands_append}
 use Rattle.iri_cli.proofs.SharedEntries.{got, together_exactly}
+use Rattle.iri_register.specs.Shared as shared
 
 -- ---- live lines of commands
 

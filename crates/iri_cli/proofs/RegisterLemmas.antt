@@ -1,28 +1,22 @@
 -- The answers of `register`.
-use Rattle.std.proofs.Common.{◌≡◌, ◌≢◌, ℕ, zero, suc, ◌+◌, ◌<◌, Bool, List, [], ◌∷◌, ◌++◌, length, take, drop, Some, Result, Ok, Err}
-use Rattle.std.proofs.Common.{refl, sym, ◌∙◌, ap, subst, arith, append_assoc, length-append, add-one}
-use Rattle.std.specs.Prelude.{OnOk, decimal, slice_get, get_or, unwrap_or}
+use Rattle.iri_cli.proofs.Common.{◌≡◌, ◌≢◌, ℕ, suc, ◌+◌, ◌<◌, Bool, List, [], ◌∷◌, ◌++◌, length, take, drop, Some, Result, Ok, Err, refl}
+use Rattle.iri_cli.proofs.Common.{sym, ◌∙◌, ap, subst, arith, append_assoc, length-append, OnOk, decimal, get_or, append-nil, Tests}
+use Rattle.iri_cli.proofs.Common.{entry_lines, more_numbers, line_of, command_of, commands_from, entries_after, KeepsRoom, PutsAll}
+use Rattle.iri_cli.proofs.Common.{SinkState, Failed, Answering, AnswersLine, PutsAnswer, told_of, Rules, SinkFailed, begun}
+use Rattle.std.proofs.Common.{zero, add-one, slice_get}
+use Rattle.std.specs.Prelude.{unwrap_or}
 use Rattle.std.specs.List.{flat_map}
-use Rattle.std.proofs.lemmas.List.{append-nil, length-take-le, take_more, take-append-drop}
+use Rattle.std.proofs.lemmas.List.{length-take-le, take_more, take-append-drop}
 use Rattle.std.proofs.lemmas.Grind.{flat_map-append}
 use Rattle.std.proofs.lemmas.Option.{slice_get_within, unwrap_or-slice_get}
 use Rattle.iri_grammar.specs.Characters.{comma}
-use Rattle.iri_grammar.specs.Classes.{Tests}
 use Rattle.iri_register.specs.Commands.{entries_of_commands}
 use Rattle.iri_register.specs.Entries.{Entry, entry_at}
 use Rattle.iri_register.specs.Kept.{Kept}
 use Rattle.iri_register.proofs.CommandLemmas.{obeyed_from}
-use Rattle.iri_cli.specs.register.Answers.{answer_to, entry_line, entry_lines, more_numbers}
-use Rattle.iri_cli.specs.register.Lines.{line_of, command_of, commands_from, entries_after}
-use Rattle.iri_text.specs.Sink.{KeepsRoom, PutsAll, SinkState}
-use Rattle.iri_text.specs.declared.Failed.{Failed}
-use Rattle.iri_cli.specs.run.Answering.{Answering, AnswersLine, PutsAnswer}
-use Rattle.iri_cli.specs.inside.Puts.{told_of}
-use Rattle.iri_cli.specs.run.Ending.{Rules}
+use Rattle.iri_cli.specs.register.Answers.{answer_to, entry_line}
 use Rattle.iri_cli.specs.run.Refused.{is_not_bad}
 use Rattle.iri_cli.specs.register.Rules.{register_rules}
-use Rattle.iri_cli.specs.declared.run.answers.AnswerError.TheVariants.{SinkFailed}
-use Rattle.iri_cli.specs.inside.Opening.{begun}
 use Rattle.iri_cli.specs.inside.RegisterAt.{IsRegisterAt}
 use Rattle.iri_cli.specs.inside.Replies.{obeyed_by}
 use Rattle.iri_cli.proofs.CanonLemmas.{line_room}

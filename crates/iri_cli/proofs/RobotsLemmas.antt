@@ -1,34 +1,20 @@
 -- The answers of `robots`.
-use Rattle.std.proofs.Common.{◌≡◌, ◌≢◌, ◌↔◌, ◌&&◌, ℕ, Bool, true, false, List, [], ◌∷◌, ◌++◌, Option, Result, Ok, Err, refl, sym, ◌∙◌, ap}
-use Rattle.std.proofs.Common.{arith, subst}
-use Rattle.std.specs.Prelude.{OnOk, length, nat_lt}
+use Rattle.iri_cli.proofs.Common.{◌≡◌, ◌≢◌, ◌↔◌, ◌&&◌, ℕ, Bool, true, false, List, [], ◌∷◌, ◌++◌, Option, Result, Ok, Err, refl, sym, ◌∙◌}
+use Rattle.iri_cli.proofs.Common.{ap, arith, subst, OnOk, length, nat_lt, nat_tests, append-nil, Tests, Parts, split_of, is_allowed}
+use Rattle.iri_cli.proofs.Common.{KeepsRoom, PutsAll, SinkState, Failed, Appends-none, room-same, Answering, AnswersLine, PutsAnswer}
+use Rattle.iri_cli.proofs.Common.{told_of, Rules, answer_to, normal_base, robots_rules, AnswerError, SinkFailed, begun, IsRobotsAt}
 use Rattle.std.proofs.lemmas.Grind.{flat_map-append}
-use Rattle.std.proofs.lemmas.Bool.Decides.{nat_tests}
-use Rattle.std.proofs.lemmas.List.{append-nil}
-use Rattle.iri_grammar.specs.Classes.{Tests}
-use Rattle.iri_grammar.specs.Parts.{Parts}
-use Rattle.iri_grammar.specs.Split.{split_of}
 use Rattle.iri_robots.specs.Allowed.{IsAllowed}
-use Rattle.iri_robots.specs.Decided.{is_allowed}
 use Rattle.iri_robots.specs.Records.{FileRecord, FileRule}
 use Rattle.iri_robots.specs.declared.robots.Verdict.{Verdict}
 use Rattle.iri_robots.specs.declared.robots.Verdict.TheVariants.{Allow, Disallow}
 use Rattle.iri_robots.proofs.Decisions.{allowed_is}
-use Rattle.iri_text.specs.Sink.{KeepsRoom, PutsAll, SinkState}
-use Rattle.iri_text.specs.declared.Failed.{Failed}
-use Rattle.iri_text.proofs.Puts.{Appends-none, room-same}
-use Rattle.iri_cli.specs.run.Answering.{Answering, AnswersLine, PutsAnswer}
-use Rattle.iri_cli.specs.inside.Puts.{told_of}
-use Rattle.iri_cli.specs.run.Ending.{Rules}
 use Rattle.iri_cli.specs.run.Refused.{is_not_bad}
-use Rattle.iri_cli.specs.robots.Answers.{answer_to, normal_base, same_part, same_site, verdict_word}
+use Rattle.iri_cli.specs.robots.Answers.{same_part, same_site, verdict_word}
 use Rattle.iri_cli.specs.robots.Lines.{RobotsLine, line_of, fed, records_after}
 use Rattle.iri_cli.specs.robots.Memory.{takes_memory}
-use Rattle.iri_cli.specs.robots.Rules.{robots_rules}
-use Rattle.iri_cli.specs.declared.run.answers.AnswerError.{AnswerError}
-use Rattle.iri_cli.specs.declared.run.answers.AnswerError.TheVariants.{SinkFailed, Memory}
-use Rattle.iri_cli.specs.inside.Opening.{begun}
-use Rattle.iri_cli.specs.inside.RobotsAt.{IsRobotsAt, Replies, PutsReply}
+use Rattle.iri_cli.specs.declared.run.answers.AnswerError.TheVariants.{Memory}
+use Rattle.iri_cli.specs.inside.RobotsAt.{Replies, PutsReply}
 use Rattle.iri_cli.specs.inside.Sites.{IsSiteOf, is_of_site}
 use Rattle.iri_cli.proofs.CanonLemmas.{line_room}
 

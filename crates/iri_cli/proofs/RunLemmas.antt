@@ -1,15 +1,12 @@
 -- What each status of a run says.
-use Rattle.std.proofs.Common.{◌≡◌, ◌≢◌, ◌⊎◌, ℕ, ◌+◌, ◌≤◌, List, [], ◌∷◌, length, false, Option, Some, refl, sym, ◌∙◌, ap, subst, arith, inl}
-use Rattle.std.proofs.Common.{inr, ⊎_elim}
-use Rattle.iri_text.specs.Count.{Rose}
-use Rattle.iri_text.specs.Source.{Consumes, IsAtEnd}
-use Rattle.iri_text.specs.Sink.{Appends, AppendsPrefix, KeepsRoom, SinkState}
-use Rattle.iri_text.proofs.Puts.{room-so, room-less}
-use Rattle.iri_cli.specs.run.Ending.{Rules, ending}
-use Rattle.iri_cli.specs.run.Run.{Outside, outside, Finishes, Decides, StopsShort, RunsOut, RanTo, Ran, Runs, MayRunOut, WantsMemory, status_of, IsDecided}
+use Rattle.iri_cli.proofs.Common.{◌≡◌, ◌≢◌, ◌⊎◌, ℕ, ◌+◌, ◌≤◌, List, [], ◌∷◌, length, false, Option, Some, refl, sym, ◌∙◌, ap, subst, arith}
+use Rattle.iri_cli.proofs.Common.{inl, inr, ⊎_elim, Rose, Consumes, IsAtEnd, Appends, AppendsPrefix, KeepsRoom, SinkState, room-so, Rules}
+use Rattle.iri_cli.proofs.Common.{ending, Outside, outside, Finishes, Decides, StopsShort, RanTo, Ran, status_of, End, Done, SomeBad}
+use Rattle.iri_cli.proofs.Common.{BadBase, SourceFailed, Memory, LineTooLong, InputTooLong}
+use Rattle.iri_text.proofs.Puts.{room-less}
+use Rattle.iri_cli.specs.run.Run.{RunsOut, Runs, MayRunOut, WantsMemory, IsDecided}
 use Rattle.iri_cli.specs.run.Closes.{Closes}
-use Rattle.iri_cli.specs.declared.run.end.End.{End}
-use Rattle.iri_cli.specs.declared.run.end.End.TheVariants.{Done, SomeBad, BadBase, SourceFailed, SinkFailed, Memory, LineTooLong, InputTooLong}
+use Rattle.iri_cli.specs.declared.run.end.End.TheVariants.{SinkFailed}
 use Rattle.iri_cli.proofs.Reading.{left_is}
 use Rattle.iri_cli.proofs.Answered.{taken_is}
 

@@ -1,18 +1,14 @@
 -- Lines that stand in one entry of `register`, by their numbers.
-use Rattle.std.proofs.Common.{◌≡◌, ◌↔◌, ◌⊎◌, ℕ, zero, suc, ◌+◌, ◌≤◌, List, [], ◌∷◌, ◌++◌, map, filter, true, false, cond, bytes_eq, not, Option, Some, None}
-use Rattle.std.proofs.Common.{slice_get, refl, sym, ◌∙◌, ap, subst, arith, inl, inr, ⊎_elim}
+use Rattle.iri_cli.proofs.Common.{Tests, bytes_fault, reference_fault, ErrorKind, canonical, line_of, command_of, commands_from}
+use Rattle.std.proofs.Common.{◌≡◌, ◌↔◌, ◌⊎◌, ℕ, zero, suc, ◌+◌, ◌≤◌, List, [], ◌∷◌, ◌++◌, map, filter, true, false, cond, bytes_eq, not}
+use Rattle.std.proofs.Common.{Option, Some, None, slice_get, refl, sym, ◌∙◌, ap, subst, arith, inl, inr, ⊎_elim}
 use Rattle.std.specs.Prelude.{Contains}
 use Rattle.std.proofs.lemmas.List.Elements.{Contains-append_right, Contains-push_cases, Contains-append_cases}
-use Rattle.iri_grammar.specs.Classes.{Tests}
-use Rattle.iri_grammar.specs.Fault.{bytes_fault}
-use Rattle.iri_grammar.specs.WholeFault.{reference_fault}
-use Rattle.iri_grammar.specs.declared.error.ErrorKind.{ErrorKind}
-use Rattle.iri_normal.specs.NormalForm.{canonical}
 use Rattle.iri_register.specs.Commands.{Command, Add, Remove, Line, live, stays, targets, numbers, entries_of_lines}
 use Rattle.iri_register.specs.Entries.{Entry}
 use Rattle.iri_register.proofs.GroupLemmas.{same, is_same}
 use Rattle.iri_register.proofs.MapLemmas.{none_is_some, some_same}
-use Rattle.iri_cli.specs.register.Lines.{RegisterLine, adds, removes, finds, bad, line_of, command_of, commands_from, unless_fault}
+use Rattle.iri_cli.specs.register.Lines.{RegisterLine, adds, removes, finds, bad, unless_fault}
 
 -- ---- elements of lists
 here : {X : Type 0} (x : X) (xs : List X) → Contains (x ∷ xs) x

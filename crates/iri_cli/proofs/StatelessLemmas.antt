@@ -1,12 +1,6 @@
 -- The answers of commands that answer each line alone.
-use Rattle.std.proofs.Common.{◌≡◌, ◌≢◌, ◌∙◌, ℕ, Bool, List, [], ◌∷◌, ◌++◌, Result, Err, sym, ap, subst}
-use Rattle.iri_grammar.specs.Classes.{Tests}
-use Rattle.iri_text.specs.Sink.{KeepsRoom, SinkState}
-use Rattle.iri_cli.specs.run.Answering.{Answering, AnswersLine}
-use Rattle.iri_cli.specs.inside.Puts.{PutsLine}
-use Rattle.iri_cli.specs.run.Ending.{Rules}
-use Rattle.iri_cli.specs.declared.run.answers.AnswerError.{AnswerError}
-use Rattle.iri_cli.specs.declared.run.answers.AnswerError.TheVariants.{SinkFailed}
+use Rattle.iri_cli.proofs.Common.{◌≡◌, ◌≢◌, ◌∙◌, ℕ, Bool, List, [], ◌∷◌, ◌++◌, Result, Err, sym, ap, subst, Tests, KeepsRoom, SinkState}
+use Rattle.iri_cli.proofs.Common.{Answering, AnswersLine, PutsLine, Rules, AnswerError, SinkFailed}
 use Rattle.iri_cli.specs.inside.StatelessAt.{IsStatelessAt}
 use Rattle.iri_cli.proofs.CanonLemmas.{on_ok, puts_answer}
 

@@ -1,39 +1,23 @@
 -- What is said of the answers of the tools' commands.
-use Rattle.std.proofs.Common.{◌≡◌, ◌≤◌, ℕ, Bool, true, false, List, length, Option, None, Some, Result, Ok, Err}
-use Rattle.std.proofs.Common.{refl, sym, ◌∙◌, ap, arith}
-use Rattle.std.specs.Prelude.{nat_lt, if◌then◌else◌}
-use Rattle.std.proofs.lemmas.Bool.Decides.{nat_tests}
+use Rattle.iri_cli.proofs.Common.{◌≡◌, ◌≤◌, ℕ, Bool, true, false, List, length, Option, None, Some, Result, Ok, Err, refl, sym, ◌∙◌, ap}
+use Rattle.iri_cli.proofs.Common.{arith, nat_lt, if◌then◌else◌, nat_tests, expansion_limit, both, IsSpec, Tests, bytes_fault, Parts}
+use Rattle.iri_cli.proofs.Common.{split_of, reference_fault, ErrorKind, canonical, is_allowed, expansion, pieces_of, answer, answer_by}
+use Rattle.iri_cli.proofs.Common.{answer_in, docs_answer, read_answer, expansion_answer, template_answer, too_long, unless_fault}
 use Rattle.std.proofs.lemmas.Slice.Eq.{bytes_eq-Decides}
 use Rattle.iri_docs.specs.Documents.{line_document}
-use Rattle.iri_docs.specs.Expanded.{expansion_limit}
 use Rattle.iri_docs.specs.Held.{Held}
 use Rattle.iri_docs.specs.declared.doc_error.DocError.{DocError}
-use Rattle.std.proofs.lemmas.Bool.{and_parts as both}
-use Rattle.iri_grammar.specs.Classes.{IsSpec, Tests}
-use Rattle.iri_grammar.specs.Fault.{bytes_fault}
-use Rattle.iri_grammar.specs.Parts.{Parts}
-use Rattle.iri_grammar.specs.Split.{split_of}
-use Rattle.iri_grammar.specs.WholeFault.{reference_fault}
-use Rattle.iri_grammar.specs.declared.error.ErrorKind.{ErrorKind}
 use Rattle.iri_link.proofs.OneListLemmas.{one_list}
-use Rattle.iri_normal.specs.NormalForm.{canonical}
 use Rattle.iri_robots.proofs.Decisions.{allowed_is}
 use Rattle.iri_robots.specs.Compared.{subject}
-use Rattle.iri_robots.specs.Decided.{is_allowed}
 use Rattle.iri_robots.specs.Records.{FileRule, rules_for}
-use Rattle.iri_template.specs.Expansion.{expansion}
-use Rattle.iri_template.specs.Reading.{pieces_of}
 use Rattle.iri_template.specs.Fault.{first, template_fault}
 use Rattle.iri_template.specs.Template.{Spells}
 use Rattle.iri_template.specs.TypeFaults.{type_fault}
 use Rattle.iri_template.proofs.Grammar.{no_fault_is_template, template_has_no_fault}
 use Rattle.iri_template.specs.declared.error.Error.{Error}
-use Rattle.iri_cli.specs.canon.Answers.{answer}
-use Rattle.iri_normal.specs.Answers.{answer_by, answer_in}
-use Rattle.iri_cli.specs.docs.Answers.{docs_answer, read_answer}
 use Rattle.iri_cli.specs.docs.Expansions.{AnswersAreExpansions, HasExpansion, IsDocumentAnswer, no_document, no_template, faulty, longer}
 use Rattle.iri_cli.specs.docs.Expansions.{no_reference, expanded}
-use Rattle.iri_cli.specs.expand.Answers.{expansion_answer, template_answer, too_long, unless_fault}
 use Rattle.iri_cli.specs.links.FieldValues.{AnswersAreLinks}
 use Rattle.iri_cli.specs.register.Shared.{LiveLinesShareEntries}
 use Rattle.iri_cli.specs.robots.Answers.{answer_to, normal_base, same_part, same_site, target_answer, verdict_word}

@@ -1,9 +1,7 @@
 -- The values of variables after changes and lines.
-use Rattle.std.proofs.Common.{◌≡◌, ℕ, Bool, true, false, cond, List, [], ◌∷◌, ◌++◌, refl}
-use Rattle.std.specs.Str.{bytes_eq}
+use Rattle.iri_cli.proofs.Common.{◌≡◌, ℕ, Bool, true, false, cond, List, [], ◌∷◌, ◌++◌, refl, bytes_eq, ShownValue, Values, with_value}
 use Rattle.std.proofs.Math.Path.{fun_ext}
-use Rattle.iri_template.specs.ShownValues.{ShownValue}
-use Rattle.iri_cli.specs.expand.Lines.{Values, after_line, line_of, values_from, with_value}
+use Rattle.iri_cli.specs.expand.Lines.{after_line, line_of, values_from}
 
 -- a value that takes the place of another
 pub with_value-again : (values : Values) (name : List ℕ) (old value : ShownValue)

@@ -1,16 +1,12 @@
 -- Words are the words of one command at most.
-use Rattle.std.proofs.Common.{◌≡◌, ◌≢◌, ◌∙◌, ℕ, List, [], drop, length, Option, None, Some, ap, arith, refl, subst, sym}
-use Rattle.std.specs.Prelude.{codes, get_or, MatchOption}
+use Rattle.iri_cli.proofs.Common.{◌≡◌, ◌≢◌, ◌∙◌, ℕ, List, [], drop, length, Option, None, Some, ap, arith, refl, subst, sym, codes, get_or}
+use Rattle.iri_cli.proofs.Common.{Tests, gen_text, robots_rules, Rules, Outside, RunsLines, rules_of, tests_of}
+use Rattle.std.specs.Prelude.{MatchOption}
 use Rattle.std.proofs.lemmas.Fmt.{decimal_injective}
-use Rattle.iri_grammar.specs.Classes.{Tests}
 use Rattle.iri_percent.specs.declared.canon_mode.CanonMode.TheVariants.{Default, Scheme}
-use Rattle.iri_cli.specs.generator.References.{gen_text}
 use Rattle.iri_cli.specs.help.Notices.{MakesText, Tells, notice_text}
 use Rattle.iri_cli.specs.inside.Obeyed.{IsSound, Obeys}
-use Rattle.iri_cli.specs.robots.Rules.{robots_rules}
-use Rattle.iri_cli.specs.run.Ending.{Rules}
-use Rattle.iri_cli.specs.run.Run.{Outside, RunsLines}
-use Rattle.iri_cli.specs.run.Words.{IsCommand, named, notice_word, rules_of, tests_of, word_of}
+use Rattle.iri_cli.specs.run.Words.{IsCommand, named, notice_word, word_of}
 use Rattle.iri_cli.specs.declared.help.Notice.{Notice}
 use Rattle.iri_cli.specs.declared.help.Notice.TheVariants.{Help, Version}
 use Rattle.iri_cli.specs.declared.run.words.Command.{Command}

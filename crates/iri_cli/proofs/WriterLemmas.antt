@@ -1,12 +1,9 @@
 -- A run over a sink that tells no bytes, and the flush after it.
-use Rattle.std.proofs.Common.{◌≡◌, ◌≤◌, ℕ, List, [], Option, None, refl, sym, ap, subst, arith, inl, inr, ⊎_elim}
-use Rattle.iri_text.specs.Count.{Rose}
-use Rattle.iri_text.specs.Sink.{AppendsPrefix, KeepsRoom}
+use Rattle.iri_cli.proofs.Common.{◌≡◌, ◌≤◌, ℕ, List, [], Option, None, refl, sym, ap, subst, arith, inl, inr, ⊎_elim, Rose, AppendsPrefix}
+use Rattle.iri_cli.proofs.Common.{KeepsRoom, Rules, ending, Outside, RunsLines, outside}
 use Rattle.iri_text.specs.Streams.{untold}
 use Rattle.iri_cli.specs.help.Notices.{MakesText, PutsText, Tells}
 use Rattle.iri_cli.specs.inside.HandsOn.{HandsOn}
-use Rattle.iri_cli.specs.run.Ending.{Rules, ending}
-use Rattle.iri_cli.specs.run.Run.{Outside, RunsLines, outside}
 use Rattle.iri_cli.specs.declared.run.end.End.TheVariants.{SinkFailed}
 use Rattle.iri_cli.proofs.RunLemmas.{runs_of}
 

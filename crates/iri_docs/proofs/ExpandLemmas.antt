@@ -1,17 +1,16 @@
 -- A template's expansion by its faults and its length.
-use Rattle.std.proofs.Common.{◌≡◌, ◌∙◌, ◌≤◌, ◌<◌, ℕ, List, length, Some, None, Result, Ok, Err, true, false, nat_lt, if◌then◌else◌}
-use Rattle.std.proofs.Common.{refl, sym, ap, arith}
+use Rattle.iri_docs.proofs.Common.{◌≡◌, ◌∙◌, ℕ, List, Ok, Err, if◌then◌else◌, refl, sym, ap, value_in, ShownValue, AnswersBut, expanded}
+use Rattle.iri_docs.proofs.Common.{expansion_within, IsExpanded, Template, TooLong, Memory}
+use Rattle.std.proofs.Common.{◌≤◌, ◌<◌, length, Some, None, Result, true, false, nat_lt, arith}
 use Rattle.std.specs.Prelude.{IfOk}
 use Rattle.std.proofs.lemmas.Bool.Decides.{nat_tests}
 use Rattle.iri_grammar.specs.Classes.{Tests, IsSpec}
 use Rattle.iri_grammar.specs.Parts.{IsReference}
 use Rattle.iri_grammar.specs.WholeFault.{reference_fault}
 use Rattle.iri_grammar.proofs.FaultLaws.{reference-law}
-use Rattle.iri_template.specs.Contexts.{value_in}
 use Rattle.iri_template.specs.Expansion.{expansion}
 use Rattle.iri_template.specs.Fault.{template_fault}
 use Rattle.iri_template.specs.Reading.{pieces_of}
-use Rattle.iri_template.specs.ShownValues.{ShownValue}
 use Rattle.iri_template.specs.TypeFaults.{expansion_fault, type_fault}
 use Rattle.iri_template.proofs.FaultLemmas.{neither}
 use Rattle.iri_template.proofs.Grammar.{no_fault_is_template}
@@ -19,12 +18,9 @@ use Rattle.iri_template.specs.declared.error.Error.{Error}
 use Rattle.iri_template.specs.declared.simple_context.SimpleContext.{SimpleContext}
 use Rattle.iri_normal.specs.NormalForm.{canonical}
 use Rattle.iri_owned.specs.OwnedText.{OwnedText}
-use Rattle.iri_docs.specs.Answered.{AnswersBut}
-use Rattle.iri_docs.specs.Expanded.{canonical_of, canonical_or_fault, expanded, expansion_limit, expansion_within, unless_fault, unless_invalid}
-use Rattle.iri_docs.specs.Expanded.{within_limit, IsExpanded}
+use Rattle.iri_docs.specs.Expanded.{canonical_of, canonical_or_fault, expansion_limit, unless_fault, unless_invalid, within_limit}
 use Rattle.iri_docs.specs.Held.{Held}
 use Rattle.iri_docs.specs.declared.expand_error.DocExpandError.{DocExpandError}
-use Rattle.iri_docs.specs.declared.expand_error.DocExpandError.TheVariants.{Template, TooLong, Memory}
 
 module _ (s : Tests) (v : List ℕ → ShownValue) (t : List ℕ) where
   pub faulty : (e : Error) → expansion_fault v t ≡ Some e → expansion_within s v t ≡ Err (Template e)

@@ -1,9 +1,8 @@
 -- The fault of variables.
+use Rattle.iri_docs.proofs.Common.{result_err, ShownValue, followed, result_map, variable, variables}
 use Rattle.std.proofs.Common.{◌≡◌, ℕ, List, Some, None, Result, Ok, Err, refl, sym, ap, ◌∙◌, inl, inr, true≢false}
-use Rattle.std.specs.Result.{is_ok, result_err}
+use Rattle.std.specs.Result.{is_ok}
 use Rattle.serde_json.specs.Data.{Data, Members, no_members, member}
-use Rattle.iri_template.specs.ShownValues.{ShownValue}
-use Rattle.iri_docs.specs.Documents.{followed, result_map, variable, variables}
 use Rattle.iri_docs.specs.Answered.{TellsFault}
 use Rattle.iri_docs.specs.FirstFault.{HasFirstFault}
 use Rattle.iri_docs.specs.declared.doc_error.DocError.{DocError}

@@ -1,3 +1,4 @@
+mod Common
 pub mod StepLemmas
 pub mod NameLemmas
 pub mod FaultLemmas

@@ -1,6 +1,5 @@
 -- The values that names get one after the other.
-use Rattle.std.proofs.Common.{◌≡◌, ℕ, List, [], ◌∷◌, ◌++◌, if◌then◌else◌, bytes_eq, refl}
-use Rattle.iri_template.specs.ShownValues.{ShownValue}
+use Rattle.iri_docs.proofs.Common.{◌≡◌, ℕ, List, [], ◌∷◌, ◌++◌, if◌then◌else◌, bytes_eq, refl, ShownValue}
 use Rattle.iri_docs.specs.Documents.{value_among}
 
 -- one more variable after others

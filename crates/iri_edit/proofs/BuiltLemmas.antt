@@ -1,32 +1,22 @@
 -- Parts without a fault make a text of the kind, and so does their normal form.
-use Rattle.std.proofs.Common.{◌≡◌, ℕ, Bool, true, false, cond, List, [], Option, Some, None, refl, sym, ◌∙◌, ap}
-use Rattle.std.specs.Prelude.{◌&&◌, ◌||◌, is_some}
-use Rattle.std.specs.Str.{chars, is_utf8}
-use Rattle.iri_grammar.specs.Authority.{is_authority}
-use Rattle.iri_grammar.specs.Classes.{Tests, IsSpec}
-use Rattle.iri_grammar.specs.Components.{if_there, is_scheme, is_userinfo, is_port, is_path, is_query, is_fragment}
-use Rattle.iri_grammar.proofs.CutLaws.{both}
+use Rattle.iri_edit.proofs.Common.{◌≡◌, ℕ, Bool, true, false, cond, List, [], Option, Some, None, refl, sym, ◌∙◌, ap, ◌&&◌, ◌||◌, is_some}
+use Rattle.iri_edit.proofs.Common.{chars, is_utf8, is_authority, Tests, IsSpec, if_there, is_userinfo, is_fragment, both, is_host}
+use Rattle.iri_edit.proofs.Common.{over_from, Fits, path_rules, recompose, split_of, ErrorKind, Given, given_authority, or_empty}
+use Rattle.iri_grammar.specs.Components.{is_scheme, is_port, is_path, is_query}
 use Rattle.iri_grammar.specs.Fault.{part_fault, scheme_fault, userinfo_fault, host_fault, port_fault, path_fault, query_fault}
 use Rattle.iri_grammar.specs.Fault.{fragment_fault}
-use Rattle.iri_grammar.proofs.FaultLaws.{passed}
-use Rattle.iri_grammar.specs.Host.{is_host}
+use Rattle.iri_grammar.proofs.FaultLaws.{passed, neither, part-passed as there}
 use Rattle.iri_grammar.proofs.MadeLaws.{made-authority, made-iri, made-split}
-use Rattle.iri_grammar.specs.Over.{over_from}
-use Rattle.iri_grammar.specs.Parts.{Fits, path_rules, recompose}
-use Rattle.iri_grammar.specs.Split.{split_of}
 use Rattle.iri_grammar.specs.WholeFault.{iri_fault}
-use Rattle.iri_grammar.specs.declared.error.ErrorKind.{ErrorKind}
 use Rattle.iri_grammar.specs.declared.error.ErrorKind.TheVariants.{InvalidScheme, InvalidUserInfo, InvalidHost, InvalidPort, InvalidPath}
 use Rattle.iri_grammar.specs.declared.error.ErrorKind.TheVariants.{InvalidQuery, InvalidFragment}
 use Rattle.iri_normal.proofs.FormLaws.{form-fits}
 use Rattle.iri_percent.specs.Triplets.{pct}
 use Rattle.iri_normal.specs.LowerCase.{lowered}
 use Rattle.iri_normal.specs.NormalForm.{form, normal_form}
-use Rattle.iri_edit.specs.Built.{Given, built_fault, built_text, components_fault, given_authority, given_parts, or_empty}
+use Rattle.iri_edit.specs.Built.{built_fault, built_text, components_fault, given_parts}
 use Rattle.iri_edit.proofs.KindLemmas.{IsWhole}
-use Rattle.iri_grammar.proofs.FaultLaws.{neither}
 use Rattle.iri_normal.proofs.PathLaws.{stands-still as same-some}
-use Rattle.iri_grammar.proofs.FaultLaws.{part-passed as there}
 
 empty_host : (s : Tests) → is_host s [] ≡ true
 unfolding over_from chars is_utf8

@@ -1,24 +1,14 @@
 -- Where a fragment stands in a text.
-use Rattle.std.proofs.Common.{◌≡◌, ℕ, ◌+◌, ◌-◌, ◌≤◌, true, List, [], ◌∷◌, ◌++◌, length, take, drop, Option, Some, None, refl, sym, ◌∙◌, ap, subst}
-use Rattle.std.proofs.Common.{append_assoc, length-append, arith}
-use Rattle.std.specs.Str.{IsCharBoundary, chars, is_utf8}
-use Rattle.std.proofs.lemmas.List.{append-nil, length-drop, length-take-le}
+use Rattle.iri_edit.proofs.Common.{◌≡◌, ℕ, ◌+◌, ◌-◌, ◌≤◌, true, List, [], ◌∷◌, ◌++◌, length, take, drop, Option, Some, None, refl, sym, ◌∙◌}
+use Rattle.iri_edit.proofs.Common.{ap, subst, append_assoc, length-append, arith, IsCharBoundary, chars, is_utf8, append-nil, Tests, IsSpec}
+use Rattle.iri_edit.proofs.Common.{is_fragment, before, after, delimited, joined, over_from, recompose, scheme_text, authority_text}
+use Rattle.iri_edit.proofs.Common.{split_of, reference_fault, with_fragment, IsFragmentAt, spliced}
+use Rattle.std.proofs.lemmas.List.{length-drop, length-take-le}
 use Rattle.std.proofs.lemmas.Str.{IsCharBoundary-end}
-use Rattle.iri_grammar.specs.Classes.{Tests, IsSpec}
-use Rattle.iri_grammar.specs.Components.{is_fragment}
-use Rattle.iri_grammar.specs.Cut.{before, after, delimited}
-use Rattle.iri_grammar.proofs.CutLaws.{joined}
 use Rattle.iri_grammar.proofs.FaultLaws.{splits_where_no_fault}
 use Rattle.iri_grammar.proofs.KindLaws.{splits_without_fragment}
-use Rattle.iri_grammar.specs.Over.{over_from}
-use Rattle.iri_grammar.specs.Parts.{recompose, scheme_text, authority_text}
-use Rattle.iri_grammar.specs.Split.{split_of}
-use Rattle.iri_grammar.specs.WholeFault.{reference_fault}
-use Rattle.iri_edit.specs.Fragment.{with_fragment}
-use Rattle.iri_edit.specs.inside.Places.{IsFragmentAt}
 use Rattle.iri_edit.proofs.PlaceLemmas.{ascii-boundary}
 use Rattle.iri_edit.proofs.SpliceLemmas.{spliced-at}
-use Rattle.iri_owned.specs.Spliced.{spliced}
 
 module _ (s : Tests) (k : IsSpec s) (t : List ℕ) (h : reference_fault s t ≡ None) where
   pub fragment-removed : with_fragment t None ≡ before 35 t

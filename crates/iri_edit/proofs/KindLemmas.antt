@@ -1,19 +1,10 @@
 -- Edited texts stay in the production of their kind.
-use Rattle.std.proofs.Common.{◌≡◌, ℕ, Bool, true, List, Option, Some, None, refl, ◌∙◌}
-use Rattle.std.specs.Prelude.{is_some}
-use Rattle.iri_grammar.specs.Authority.{AuthorityParts, FitsAuthority, authority_parts, is_authority}
-use Rattle.iri_grammar.proofs.AuthorityLaws.{reads}
-use Rattle.iri_grammar.specs.Classes.{Tests, IsSpec}
-use Rattle.iri_grammar.specs.Components.{if_there, is_fragment}
-use Rattle.iri_grammar.specs.Host.{is_host}
+use Rattle.iri_edit.proofs.Common.{◌≡◌, ℕ, Bool, true, List, Option, Some, None, refl, ◌∙◌, is_some, AuthorityParts, FitsAuthority}
+use Rattle.iri_edit.proofs.Common.{authority_parts, is_authority, reads, Tests, IsSpec, if_there, is_fragment, is_host, Fits, path_rules}
+use Rattle.iri_edit.proofs.Common.{recompose, split_of, reference_fault, ErrorKind, edited, edited_authority, edited_parts}
+use Rattle.iri_edit.proofs.Common.{fragment_replaced, with_fragment, host_replaced, with_host}
 use Rattle.iri_grammar.proofs.MadeLaws.{made-authority, split-fits}
-use Rattle.iri_grammar.specs.Parts.{Parts, Fits, path_rules, recompose}
-use Rattle.iri_grammar.specs.Split.{split_of}
-use Rattle.iri_grammar.specs.WholeFault.{reference_fault}
-use Rattle.iri_grammar.specs.declared.error.ErrorKind.{ErrorKind}
-use Rattle.iri_edit.specs.Edited.{edited, edited_authority, edited_parts}
-use Rattle.iri_edit.specs.Fragment.{fragment_replaced, with_fragment}
-use Rattle.iri_edit.specs.Host.{host_replaced, with_host}
+use Rattle.iri_grammar.specs.Parts.{Parts}
 
 module _ (s : Tests) (k : IsSpec s) (f : AuthorityParts → AuthorityParts)
     (keeps : (a : AuthorityParts) → FitsAuthority s a → FitsAuthority s (f a)) where

@@ -1,18 +1,10 @@
 -- What edits keep of a text.
-use Rattle.std.proofs.Common.{◌≡◌, ℕ, true, List, [], Option, Some, None, refl, ◌∙◌, ap}
-use Rattle.iri_grammar.specs.Authority.{AuthorityParts, FitsAuthority, authority_parts, is_authority, recompose_authority}
-use Rattle.iri_grammar.proofs.AuthorityLaws.{reads}
-use Rattle.iri_grammar.specs.Classes.{Tests, IsSpec}
-use Rattle.iri_grammar.specs.Components.{if_there, is_fragment, is_userinfo}
-use Rattle.iri_grammar.specs.Host.{is_host}
+use Rattle.iri_edit.proofs.Common.{◌≡◌, ℕ, true, List, [], Option, Some, None, refl, ◌∙◌, ap, AuthorityParts, FitsAuthority}
+use Rattle.iri_edit.proofs.Common.{authority_parts, is_authority, recompose_authority, reads, Tests, IsSpec, if_there, is_fragment}
+use Rattle.iri_edit.proofs.Common.{is_userinfo, is_host, recompose, split_of, reference_fault, edited, edited_authority, edited_parts}
+use Rattle.iri_edit.proofs.Common.{fragment_replaced, with_fragment, host_replaced, with_host, masked, user_alone, user_with}
+use Rattle.iri_edit.proofs.Common.{where_userinfo, with_password, with_userinfo, without_password}
 use Rattle.iri_grammar.proofs.MadeLaws.{made-reading, made-split, split-fits}
-use Rattle.iri_grammar.specs.Parts.{recompose}
-use Rattle.iri_grammar.specs.Split.{split_of}
-use Rattle.iri_grammar.specs.WholeFault.{reference_fault}
-use Rattle.iri_edit.specs.Edited.{edited, edited_authority, edited_parts}
-use Rattle.iri_edit.specs.Fragment.{fragment_replaced, with_fragment}
-use Rattle.iri_edit.specs.Host.{host_replaced, with_host}
-use Rattle.iri_edit.specs.Password.{masked, user_alone, user_with, where_userinfo, with_password, with_userinfo, without_password}
 use Rattle.iri_edit.proofs.KindLemmas.{edited-fits, fragment-fits, host_replaced-fits}
 use Rattle.iri_edit.proofs.UserLemmas.{nothing-fits, user_alone-fits, user_with-fits, with_userinfo-fits, user_with-twice}
 

@@ -1,26 +1,18 @@
 -- Where the parts of an authority stand in a whole text.
-use Rattle.std.proofs.Common.{◌≡◌, ℕ, ◌+◌, ◌<◌, ◌≤◌, ◌^◌, true, false, cond, not, ◌&&◌, List, [], ◌∷◌, ◌++◌, length, get_or, take, drop}
-use Rattle.std.proofs.Common.{Option, Some, None, refl, sym, ◌∙◌, ap, subst, arith, append_assoc, length-append}
-use Rattle.std.specs.Str.{IsUtf8, IsCharBoundary}
+use Rattle.iri_edit.proofs.Common.{not, ◌&&◌, IsCharBoundary, append-nil, is_some, authority_parts, recompose_authority, userinfo_text}
+use Rattle.iri_edit.proofs.Common.{authority_recomposed, Tests, before, after, lacks, delimited, joined, is_host, recompose, scheme_text}
+use Rattle.iri_edit.proofs.Common.{authority_text, split_of, edited, edited_authority, host_replaced, password_of, password_in, userinfo_in}
+use Rattle.iri_edit.proofs.Common.{user_with, user_alone, where_userinfo, with_userinfo, IsAuthorityAt, IsPasswordAt, IsHostAt}
+use Rattle.std.proofs.Common.{◌≡◌, ℕ, ◌+◌, ◌<◌, ◌≤◌, ◌^◌, true, false, cond, List, [], ◌∷◌, ◌++◌, length, get_or, take, drop, Option, Some}
+use Rattle.std.proofs.Common.{None, refl, sym, ◌∙◌, ap, subst, arith, append_assoc, length-append}
+use Rattle.std.specs.Str.{IsUtf8}
 use Rattle.std.proofs.lemmas.Str.{IsUtf8-append, IsUtf8-drop, IsUtf8-take, IsCharBoundary-before_ascii, IsCharBoundary-after_ascii}
 use Rattle.std.proofs.lemmas.Str.{IsCharBoundary-from_take}
-use Rattle.std.proofs.lemmas.List.{append-nil}
 use Rattle.std.proofs.Math.Seq.{drop-append_seam, get_or-append_seam, take-append_seam}
-use Rattle.std.specs.Prelude.{is_some, ◌==◌}
-use Rattle.iri_grammar.specs.Authority.{authority_parts, recompose_authority, userinfo_text}
-use Rattle.iri_grammar.proofs.AuthorityLaws.{authority_recomposed}
+use Rattle.std.specs.Prelude.{◌==◌}
 use Rattle.iri_grammar.proofs.AuthorityTexts.{host-utf8}
-use Rattle.iri_grammar.specs.Classes.{Tests}
-use Rattle.iri_grammar.specs.Cut.{before, after, lacks, delimited}
-use Rattle.iri_grammar.proofs.CutLaws.{joined}
-use Rattle.iri_grammar.specs.Host.{is_host}
-use Rattle.iri_grammar.specs.Parts.{recompose, scheme_text, authority_text}
-use Rattle.iri_grammar.specs.Split.{split_of}
 use Rattle.iri_grammar.proofs.SplitLaws.{recompose_split}
-use Rattle.iri_edit.specs.Edited.{edited, edited_authority}
-use Rattle.iri_edit.specs.Host.{host_in, host_replaced}
-use Rattle.iri_edit.specs.Password.{password_of, password_in, userinfo_in, user_with, user_alone, where_userinfo, with_userinfo}
-use Rattle.iri_edit.specs.inside.Places.{IsAuthorityAt, IsPasswordAt, IsHostAt}
+use Rattle.iri_edit.specs.Host.{host_in}
 
 -- ---- the authority
 module _ (t a : List ℕ) (u : IsUtf8 t) (l : length t < 2 ^ 64) (h : (split_of t).authority ≡ Some a) where

@@ -1,17 +1,9 @@
 -- A text without a password stays as it is.
-use Rattle.std.proofs.Common.{◌≡◌, ℕ, true, cond, List, [], ◌∷◌, ◌++◌, Option, Some, None, refl, sym, ◌∙◌, ap}
-use Rattle.std.specs.Prelude.{not, is_some}
-use Rattle.std.proofs.lemmas.List.{append-nil}
-use Rattle.iri_grammar.specs.Authority.{authority_parts, recompose_authority}
-use Rattle.iri_grammar.proofs.AuthorityLaws.{authority_recomposed}
-use Rattle.iri_grammar.specs.Cut.{before, after, delimited}
-use Rattle.iri_grammar.proofs.CutLaws.{joined}
-use Rattle.iri_grammar.specs.Parts.{recompose}
-use Rattle.iri_grammar.specs.Split.{split_of}
+use Rattle.iri_edit.proofs.Common.{◌≡◌, ℕ, cond, List, ◌∷◌, ◌++◌, Option, Some, None, refl, sym, ◌∙◌, ap, not, is_some, append-nil}
+use Rattle.iri_edit.proofs.Common.{authority_parts, recompose_authority, authority_recomposed, before, after, delimited, joined, recompose}
+use Rattle.iri_edit.proofs.Common.{split_of, edited, edited_authority, password_of, password_in, userinfo_in, user_with, user_alone}
+use Rattle.iri_edit.proofs.Common.{where_userinfo, with_userinfo, with_password, without_password}
 use Rattle.iri_grammar.proofs.SplitLaws.{recompose_split}
-use Rattle.iri_edit.specs.Edited.{edited, edited_authority}
-use Rattle.iri_edit.specs.Password.{password_of, password_in, userinfo_in, user_with, user_alone, where_userinfo, with_userinfo}
-use Rattle.iri_edit.specs.Password.{with_password, without_password}
 use Rattle.iri_edit.proofs.PlaceLemmas.{lacks-told}
 
 user_with-same : (w u : List ℕ) → after 58 u ≡ None → user_with w u ≡ u

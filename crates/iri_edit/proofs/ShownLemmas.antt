@@ -1,12 +1,8 @@
 -- What a builder shows, part by part.
-use Rattle.std.proofs.Common.{◌≡◌, ℕ, true, cond, List, [], ◌∷◌, ◌++◌, Option, Some, None, refl, sym, ◌∙◌, ap}
-use Rattle.std.specs.Prelude.{◌||◌, is_some}
+use Rattle.iri_edit.proofs.Common.{◌≡◌, ℕ, true, cond, List, [], ◌∷◌, ◌++◌, Option, Some, None, refl, sym, ◌∙◌, ap, ◌||◌, is_some}
+use Rattle.iri_edit.proofs.Common.{recompose_authority, userinfo_text, delimited, authority_text, Given, given_authority, or_empty}
 use Rattle.std.specs.Borrow.{Bor}
-use Rattle.iri_grammar.specs.Authority.{recompose_authority, userinfo_text}
-use Rattle.iri_grammar.specs.Cut.{delimited}
 use Rattle.iri_grammar.specs.OptionalSlices.{now_of}
-use Rattle.iri_grammar.specs.Parts.{authority_text}
-use Rattle.iri_edit.specs.Built.{Given, given_authority, or_empty}
 use Rattle.iri_edit.specs.inside.Rules.{ended}
 
 pub delimited-some : (delimiter : List ℕ) (code : ℕ) (o : Option (Bor (List ℕ))) (a : Bor (List ℕ)) → delimiter ≡ code ∷ [] → o ≡ Some a

@@ -1,14 +1,9 @@
 -- Parts of a text replaced where they stand.
-use Rattle.std.proofs.Common.{◌≡◌, ℕ, ◌+◌, List, [], ◌∷◌, ◌++◌, length, take, drop, refl, sym, ◌∙◌, ap, subst, arith, append_assoc}
-use Rattle.std.proofs.Common.{length-append}
-use Rattle.std.specs.Prelude.{slice_range}
+use Rattle.iri_edit.proofs.Common.{◌≡◌, ℕ, ◌+◌, List, [], ◌∷◌, ◌++◌, length, take, drop, refl, sym, ◌∙◌, ap, subst, arith, append_assoc}
+use Rattle.iri_edit.proofs.Common.{length-append, slice_range, Tests, spliced, with_host, with_password, without_password, IsPasswordAt}
+use Rattle.iri_edit.proofs.Common.{IsHostAt}
 use Rattle.std.proofs.lemmas.Grind.{common_steps}
 use Rattle.std.proofs.Math.Seq.{take-append_seam, drop-append_seam}
-use Rattle.iri_grammar.specs.Classes.{Tests}
-use Rattle.iri_owned.specs.Spliced.{spliced}
-use Rattle.iri_edit.specs.Host.{with_host}
-use Rattle.iri_edit.specs.Password.{with_password, without_password}
-use Rattle.iri_edit.specs.inside.Places.{IsPasswordAt, IsHostAt}
 
 pub spliced-at : (prefix x back new t : List ℕ) (start end : ℕ) → prefix ++ (x ++ back) ≡ t → length prefix ≡ start → start + length x ≡ end
     → spliced t start end new ≡ prefix ++ (new ++ back)

@@ -1,20 +1,13 @@
 -- A userinfo whose password is changed stays a userinfo.
-use Rattle.std.proofs.Common.{◌≡◌, ℕ, zero, suc, Bool, true, false, cond, ◌&&◌, List, [], ◌∷◌, ◌++◌, Option, Some, None, refl, sym}
-use Rattle.std.proofs.Common.{◌∙◌, ap, subst, arith}
-use Rattle.std.specs.Prelude.{◌==◌}
-use Rattle.std.specs.Str.{chars, is_utf8}
-use Rattle.std.proofs.lemmas.List.{append-nil}
-use Rattle.iri_grammar.specs.Authority.{AuthorityParts, FitsAuthority}
+use Rattle.iri_edit.proofs.Common.{◌≡◌, ℕ, Bool, true, false, cond, List, [], ◌∷◌, ◌++◌, Option, Some, None, refl, sym, ◌∙◌, subst, arith}
+use Rattle.iri_edit.proofs.Common.{chars, is_utf8, append-nil, AuthorityParts, FitsAuthority, Tests, IsSpec, if_there, is_userinfo, before}
+use Rattle.iri_edit.proofs.Common.{after, lacks, delimited, joined, over_from, ErrorKind, masked, user_with, user_alone, where_userinfo}
+use Rattle.iri_edit.proofs.Common.{with_userinfo, without_password}
 use Rattle.iri_grammar.proofs.AuthorityTexts.{one_byte-utf8}
-use Rattle.iri_grammar.specs.Classes.{Tests, IsSpec, userinfo_char, is_ascii_userinfo, is_ascii_reg_name, is_ascii_unreserved, is_sub_delim}
-use Rattle.iri_grammar.specs.Components.{if_there, is_userinfo}
-use Rattle.iri_grammar.specs.Cut.{before, after, lacks, delimited}
-use Rattle.iri_grammar.proofs.CutLaws.{before-delimited, both, by_test, joined}
-use Rattle.iri_grammar.specs.Over.{over_from, text_over}
+use Rattle.iri_grammar.specs.Classes.{userinfo_char, is_ascii_userinfo, is_ascii_reg_name, is_ascii_unreserved, is_sub_delim}
+use Rattle.iri_grammar.proofs.CutLaws.{before-delimited}
 use Rattle.iri_grammar.proofs.UnitRuns.{text_over-append}
 use Rattle.iri_normal.proofs.TextLaws.{is_utf8-of, text_over-sides}
-use Rattle.iri_grammar.specs.declared.error.ErrorKind.{ErrorKind}
-use Rattle.iri_edit.specs.Password.{masked, user_with, user_alone, where_userinfo, with_userinfo, without_password}
 use Rattle.iri_edit.proofs.KindLemmas.{IsWhole, edited-valid}
 use Rattle.iri_grammar.proofs.FaultLaws.{lacks-joined}
 use Rattle.iri_grammar.proofs.Scans.{before-lacks}

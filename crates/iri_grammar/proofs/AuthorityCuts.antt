@@ -1,12 +1,8 @@
 -- An authority cut from bytes, and what was noted of it.
-use Rattle.std.proofs.Common.{◌≡◌, ℕ, [], ◌∷◌, ◌∙◌, List, Option, Some, None, MatchOption, false, ap, arith, subst, sym}
-use Rattle.std.specs.Str.{is_utf8}
-use Rattle.iri_grammar.specs.Delimiters.{before_any, from_any}
-use Rattle.iri_grammar.specs.OptionalSlices.{now_of}
-use Rattle.iri_grammar.specs.Split.{authority_of, hier_of}
+use Rattle.iri_grammar.proofs.Common.{◌≡◌, ℕ, [], ◌∷◌, ◌∙◌, List, Option, Some, None, MatchOption, false, ap, arith, subst, sym, is_utf8}
+use Rattle.iri_grammar.proofs.Common.{before_any, from_any, now_of, authority_of, hier_of, ends_authority, IsPastAuthority}
 use Rattle.iri_grammar.specs.declared.splitter.AuthorityCut.{AuthorityCut}
 use Rattle.iri_grammar.specs.inside.AuthorityCuts.{KeepsAuthorityNotes}
-use Rattle.iri_grammar.specs.inside.Delimiters.{ends_authority, IsPastAuthority}
 use Rattle.iri_grammar.proofs.DelimiterLemmas.{past_authority}
 use Rattle.iri_grammar.proofs.AuthorityTexts.{delimited-utf8, one_byte-utf8}
 use Rattle.iri_grammar.proofs.TextParts.{text-after}

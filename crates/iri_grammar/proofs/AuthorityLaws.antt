@@ -1,21 +1,12 @@
 -- An authority has one reading.
-use Rattle.std.proofs.Common.{◌≡◌, ◌↔◌, ℕ, true, false, cond, not, ◌&&◌, ◌||◌, List, [], ◌∷◌, ◌++◌, Option, Some, None, refl, sym, ◌∙◌, ap}
-use Rattle.std.proofs.Common.{subst, arith, append_assoc}
-use Rattle.std.specs.Prelude.{◌==◌}
-use Rattle.std.specs.Char.{is_ascii_digit}
-use Rattle.std.proofs.Math.Bool.{and-false}
-use Rattle.std.proofs.lemmas.List.{append-nil}
-use Rattle.iri_grammar.specs.Classes.{Tests, IsSpec, userinfo_char, reg_name_char, is_ascii_userinfo, is_ascii_reg_name}
-use Rattle.iri_grammar.specs.Classes.{is_ascii_unreserved, is_sub_delim}
-use Rattle.iri_grammar.specs.Cut.{before, after, lacks, delimited}
+use Rattle.iri_grammar.proofs.Common.{◌≡◌, ◌↔◌, ℕ, true, false, cond, not, ◌&&◌, ◌||◌, List, [], ◌∷◌, ◌++◌, Option, Some, None, refl, sym}
+use Rattle.iri_grammar.proofs.Common.{◌∙◌, ap, subst, arith, append_assoc, ◌==◌, is_ascii_digit, and-false, append-nil, Tests, IsSpec}
+use Rattle.iri_grammar.proofs.Common.{userinfo_char, reg_name_char, is_ascii_userinfo, is_ascii_reg_name, is_ascii_unreserved, is_sub_delim}
+use Rattle.iri_grammar.proofs.Common.{before, after, lacks, delimited, is_userinfo, is_port, if_there, is_end, is_ip_literal, is_ipv6}
+use Rattle.iri_grammar.proofs.Common.{is_ipvfuture, is_host, is_reg_name, recompose_authority, userinfo_text, authority_parts, userinfo_of}
+use Rattle.iri_grammar.proofs.Common.{after_userinfo, host_of, port_of, is_authority}
 use Rattle.iri_grammar.proofs.CutLaws.{both, joined, before-delimited, after-delimited, lacks-append, lacks-other, all-lacks}
-use Rattle.iri_grammar.specs.Components.{is_userinfo, is_port, if_there}
-use Rattle.iri_grammar.specs.IpLiteral.{is_end, is_ip_literal}
-use Rattle.iri_grammar.specs.Ipv6Test.{is_ipv6}
-use Rattle.iri_grammar.specs.IpLiteral.{is_ipvfuture}
-use Rattle.iri_grammar.specs.Host.{is_host, is_reg_name}
-use Rattle.iri_grammar.specs.Authority.{AuthorityParts, ReadsAuthority, recompose_authority, userinfo_text, authority_parts, userinfo_of}
-use Rattle.iri_grammar.specs.Authority.{after_userinfo, host_of, port_of, is_authority}
+use Rattle.iri_grammar.specs.Authority.{AuthorityParts, ReadsAuthority}
 use Rattle.iri_grammar.proofs.AuthorityTexts.{over_text-lacks, whole, port-digits}
 use Rattle.iri_grammar.proofs.LiteralChars.{is_literal_char, ip_literal-chars}
 

@@ -1,20 +1,12 @@
 -- An authority is a text, and lacks the delimiters of the other parts.
-use Rattle.std.proofs.Common.{◌≡◌, ℕ, zero, suc, ◌<◌, Bool, true, false, cond, ◌&&◌, ◌||◌, List, [], ◌∷◌, ◌++◌, Option, Some, None, refl}
-use Rattle.std.proofs.Common.{sym, ◌∙◌, ap, subst, arith}
-use Rattle.std.specs.Prelude.{◌==◌, is_some, slice_index}
-use Rattle.std.specs.Char.{is_ascii_hexdigit, is_ascii_digit}
-use Rattle.std.specs.List.{list_all}
-use Rattle.std.specs.Str.{chars, IsUtf8, is_utf8, IsAscii}
-use Rattle.std.proofs.lemmas.Str.{IsUtf8-from_is_utf8, IsUtf8-from_ascii, IsUtf8-append}
-use Rattle.std.proofs.lemmas.Bool.Decides.{nat_tests}
-use Rattle.iri_grammar.specs.Classes.{Tests, IsSpec, userinfo_char, reg_name_char, is_ascii_userinfo, is_ascii_reg_name}
-use Rattle.iri_grammar.specs.Classes.{is_ascii_unreserved, is_sub_delim}
-use Rattle.iri_grammar.specs.Over.{over, text_over}
-use Rattle.iri_grammar.specs.Components.{if_there, is_port, is_userinfo}
-use Rattle.iri_grammar.specs.IpLiteral.{is_ip_literal}
-use Rattle.iri_grammar.specs.Host.{is_host, is_reg_name}
-use Rattle.iri_grammar.specs.Authority.{is_authority, authority_parts, userinfo_text, userinfo_of, after_userinfo, or_all, host_of, port_of}
-use Rattle.iri_grammar.specs.Cut.{before, after, lacks, delimited}
+use Rattle.iri_grammar.proofs.Common.{◌≡◌, ℕ, zero, suc, ◌<◌, Bool, true, false, cond, ◌&&◌, ◌||◌, List, [], ◌∷◌, ◌++◌, Option, Some, None}
+use Rattle.iri_grammar.proofs.Common.{refl, sym, ◌∙◌, ap, subst, arith, ◌==◌, is_some, slice_index, is_ascii_hexdigit, is_ascii_digit}
+use Rattle.iri_grammar.proofs.Common.{list_all, chars, IsUtf8, is_utf8, IsUtf8-from_is_utf8, IsUtf8-from_ascii, IsUtf8-append, nat_tests}
+use Rattle.iri_grammar.proofs.Common.{Tests, IsSpec, userinfo_char, reg_name_char, is_ascii_userinfo, is_ascii_reg_name}
+use Rattle.iri_grammar.proofs.Common.{is_ascii_unreserved, is_sub_delim, over, text_over, if_there, is_port, is_userinfo, is_ip_literal}
+use Rattle.iri_grammar.proofs.Common.{is_host, is_reg_name, is_authority, authority_parts, userinfo_text, userinfo_of, after_userinfo}
+use Rattle.iri_grammar.proofs.Common.{or_all, host_of, port_of, before, after, lacks, delimited}
+use Rattle.std.specs.Str.{IsAscii}
 use Rattle.iri_grammar.proofs.CutLaws.{both, joined, lacks-append, lacks-other, all-lacks}
 use Rattle.iri_grammar.proofs.CutBytes.{text-lacks}
 use Rattle.iri_grammar.proofs.LiteralChars.{is_literal_char, ip_literal-chars}

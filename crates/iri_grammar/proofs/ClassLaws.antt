@@ -1,14 +1,11 @@
 -- A class is its ASCII part and its part past ASCII.
-use Rattle.std.proofs.Common.{◌≡◌, ℕ, ◌≤◌, ◌<◌, true, false, refl, sym, ◌∙◌, inl, inr, arith}
-use Rattle.std.proofs.lemmas.Bool.{cases_lt}
-use Rattle.std.proofs.lemmas.Bool.Decides.{nat_tests}
+use Rattle.iri_grammar.proofs.Common.{◌≡◌, ℕ, ◌≤◌, ◌<◌, true, false, refl, sym, ◌∙◌, inl, inr, arith, cases_lt, nat_tests, class_test}
+use Rattle.iri_grammar.proofs.Common.{ascii_test, Class, Unreserved, RegName, Userinfo, Pchar, Path, Query, Fragment, Any}
 use Rattle.std.proofs.Math.Bool.{or-false}
 use Rattle.iri_grammar.specs.Classes.{Tests, IsSpec, is_ascii_unreserved, is_ascii_reg_name, is_ascii_userinfo, is_ascii_pchar}
 use Rattle.iri_grammar.specs.Classes.{is_ascii_path, is_ascii_query, is_ascii_any, is_sub_delim, is_gen_delim, unreserved, reg_name_char}
 use Rattle.iri_grammar.specs.Classes.{userinfo_char, pchar, path_char, query_char, fragment_char, any_char}
-use Rattle.iri_grammar.specs.ClassTests.{class_test, ascii_test, past_ascii_test}
-use Rattle.iri_grammar.specs.declared.class.Class.{Class}
-use Rattle.iri_grammar.specs.declared.class.Class.TheVariants.{Unreserved, RegName, Userinfo, Pchar, Path, Query, Fragment, Any}
+use Rattle.iri_grammar.specs.ClassTests.{past_ascii_test}
 
 -- of an ASCII character the spec's tests say nothing
 pub class_at_ascii : (s : Tests) → IsSpec s → (k : Class) (c : ℕ) → c < 128 → class_test s k c ≡ ascii_test k c

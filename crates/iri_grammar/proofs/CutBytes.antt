@@ -1,15 +1,9 @@
 -- A text over a class lacks the bytes of what is in no unit of it.
-use Rattle.std.proofs.Common.{◌≡◌, ℕ, ◌<◌, ◌≤◌, Bool, true, false, cond, not, ◌&&◌, List, [], ◌∷◌, ◌++◌, refl, subst, arith, zero, suc}
-use Rattle.std.proofs.Common.{◌+◌, ◌/◌}
-use Rattle.std.specs.Prelude.{◌==◌}
+use Rattle.iri_grammar.proofs.Common.{◌≡◌, ℕ, ◌<◌, ◌≤◌, Bool, true, false, cond, not, ◌&&◌, List, [], ◌∷◌, ◌++◌, refl, subst, arith, zero}
+use Rattle.iri_grammar.proofs.Common.{suc, ◌+◌, ◌/◌, ◌==◌, chars, IsUtf8, is_ascii_hexdigit, nat_tests, over_from, over, lacks}
 use lib.Dec.{ltb}
 use lib.Utf8.{encode, encodes, next}
-use Rattle.std.specs.Str.{chars, IsUtf8}
-use Rattle.std.specs.Char.{is_ascii_hexdigit}
 use Rattle.std.proofs.lemmas.Str.{encodes-chars}
-use Rattle.std.proofs.lemmas.Bool.Decides.{nat_tests}
-use Rattle.iri_grammar.specs.Over.{over_from, over}
-use Rattle.iri_grammar.specs.Cut.{lacks}
 use Rattle.iri_grammar.proofs.CutLaws.{by_test, both, lacks-other, lacks-append, test_apart}
 
 -- a text over a class lacks what is in no class

@@ -1,11 +1,7 @@
 -- Laws of cutting at a delimiter.
-use Rattle.std.proofs.Common.{◌≡◌, ℕ, ◌≢◌, Bool, true, false, cond, not, ◌&&◌, List, [], ◌∷◌, ◌++◌, Option, Some, None, refl, sym, ◌∙◌, ap}
-use Rattle.std.proofs.Common.{subst, arith}
-use Rattle.std.specs.Prelude.{◌==◌}
-use Rattle.std.specs.List.{list_all}
-use Rattle.std.proofs.lemmas.Bool.Decides.{nat_tests}
+use Rattle.iri_grammar.proofs.Common.{◌≡◌, ℕ, ◌≢◌, Bool, true, false, cond, not, ◌&&◌, List, [], ◌∷◌, ◌++◌, Option, Some, None, refl, sym}
+use Rattle.iri_grammar.proofs.Common.{◌∙◌, ap, subst, arith, ◌==◌, list_all, nat_tests, before, from, after, lacks, delimited}
 pub use Rattle.std.proofs.lemmas.Bool.{and_parts as both}
-use Rattle.iri_grammar.specs.Cut.{before, from, after, lacks, delimited}
 
 -- ---- tests
 pub by_test : (x c : ℕ) (P : Bool → Type 0) → (x ≡ c → P true) → (x ≢ c → P false) → P (x == c)

@@ -1,11 +1,9 @@
 -- Where a byte first stands, and what stands before and after it.
-use Rattle.std.proofs.Common.{◌≡◌, ℕ, zero, suc, ◌<◌, true, false, List, [], ◌∷◌, Some, None, Option, MatchOption, length, refl, ap}
-use Rattle.std.proofs.Common.{arith, add-one}
-use Rattle.std.specs.Prelude.{◌==◌, slice_index}
-use Rattle.std.proofs.lemmas.Bool.{eqb-true, false_from_ne_true}
-pub use Rattle.std.proofs.lemmas.Bool.{false_from_ne_true as false-where}
+use Rattle.iri_grammar.proofs.Common.{◌≡◌, ℕ, zero, suc, ◌<◌, true, false, List, [], ◌∷◌, Some, None, Option, MatchOption, length, refl, ap}
+use Rattle.iri_grammar.proofs.Common.{arith, add-one, ◌==◌, slice_index, eqb-true, false_from_ne_true}
 use Rattle.memchr.specs.Find.{is_byte, IsFirstByte}
 use Rattle.iri_grammar.specs.Cut.{CutAt, NoCut}
+pub use Rattle.std.proofs.lemmas.Bool.{false_from_ne_true as false-where}
 
 cut_at : (c : ℕ) (bs : List ℕ) (k : ℕ) → k < length bs → ((j : ℕ) → j < k → (slice_index bs j == c) ≡ true → ⊥)
     → (slice_index bs k == c) ≡ true → CutAt c bs k

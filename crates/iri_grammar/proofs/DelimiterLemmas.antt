@@ -1,26 +1,16 @@
 -- Where the parts of a reference end.
-use Rattle.std.proofs.Common.{◌≡◌, ℕ, zero, suc, ◌+◌, ◌<◌, Bool, true, false, cond, ◌&&◌, ◌||◌, List, [], ◌∷◌, Some, None, Option}
-use Rattle.std.proofs.Common.{MatchOption, length, take, drop, refl, sym, ap, subst, arith, add-one, ◌∙◌}
-use Rattle.std.specs.Prelude.{◌==◌, nat_lt, slice_index, is_some}
+use Rattle.iri_grammar.proofs.Common.{◌≡◌, ℕ, zero, suc, ◌+◌, ◌<◌, Bool, true, false, cond, ◌&&◌, ◌||◌, List, [], ◌∷◌, Some, None, Option}
+use Rattle.iri_grammar.proofs.Common.{MatchOption, length, take, drop, refl, sym, ap, subst, arith, add-one, ◌∙◌, ◌==◌, nat_lt, slice_index}
+use Rattle.iri_grammar.proofs.Common.{is_some, list_all, IsUtf8, IsUtf8-from_ascii, nat_tests, is_letter, is_scheme, is_scheme_char, or_all}
+use Rattle.iri_grammar.proofs.Common.{run_of, before, from, after, starts_with_slash, starts_with_slashes, authority_of, hier_of}
+use Rattle.iri_grammar.proofs.Common.{before_any, from_any, ends_scheme, SchemeAt, ends_authority, IsPastAuthority}
 use Rattle.std.specs.Char.{is_ascii_alphabetic}
-use Rattle.std.specs.List.{list_all}
-use Rattle.std.specs.Str.{IsUtf8}
-use Rattle.std.proofs.lemmas.Str.{IsUtf8-from_ascii}
 use Rattle.std.proofs.lemmas.Bool.{eqb-true, ltb-true, lt-ltb, false_from_ne_true}
-use Rattle.std.proofs.lemmas.Bool.Decides.{nat_tests}
 use Rattle.memchr.specs.Find.{is_byte3, IsFirstByte}
 use Rattle.iri_grammar.proofs.SplitUnique.{scheme_char-below}
-use Rattle.iri_grammar.specs.Components.{is_letter, is_scheme, is_scheme_char}
-use Rattle.iri_grammar.specs.Authority.{or_all}
-use Rattle.iri_grammar.specs.Runs.{run_of}
-use Rattle.iri_grammar.specs.Cut.{before, from, after}
 use Rattle.iri_grammar.proofs.CutLaws.{both, and_three, test_apart}
-use Rattle.iri_grammar.specs.Parts.{starts_with_slash, starts_with_slashes}
-use Rattle.iri_grammar.specs.Split.{authority_of, hier_of}
 use Rattle.iri_grammar.proofs.SplitLaws.{letter-is_scheme_char, colon_ends}
-use Rattle.iri_grammar.specs.Delimiters.{before_any, from_any}
-use Rattle.iri_grammar.specs.inside.Delimiters.{ends_scheme, SchemeAt, NoScheme, ends_authority, AuthorityEndAt, NoAuthorityEnd}
-use Rattle.iri_grammar.specs.inside.Delimiters.{IsPastAuthority}
+use Rattle.iri_grammar.specs.inside.Delimiters.{NoScheme, AuthorityEndAt, NoAuthorityEnd}
 use Rattle.iri_grammar.proofs.AuthorityTexts.{all_below}
 
 -- ---- the scheme

@@ -1,11 +1,9 @@
 -- What stands beside an ASCII delimiter is a text.
-use Rattle.std.proofs.Common.{◌≡◌, ℕ, ◌+◌, ◌<◌, List, [], ◌∷◌, ◌++◌, Some, length, drop, get_or, sym, ◌∙◌, ap, subst, arith, length-append}
-use Rattle.std.proofs.Common.{append_assoc}
-use Rattle.std.specs.Str.{IsUtf8}
+use Rattle.iri_grammar.proofs.Common.{◌≡◌, ℕ, ◌+◌, ◌<◌, List, [], ◌∷◌, ◌++◌, Some, length, drop, get_or, sym, ◌∙◌, ap, subst, arith}
+use Rattle.iri_grammar.proofs.Common.{length-append, append_assoc, IsUtf8, IsUtf8-drop, IsUtf8-take, before, after, delimited}
 use Rattle.std.proofs.lemmas.List.{drop_at}
 use Rattle.std.proofs.Math.Seq.{get_or-append_seam, take-append_seam}
-use Rattle.std.proofs.lemmas.Str.{IsUtf8-drop, IsCharBoundary-after_ascii, IsUtf8-take, IsCharBoundary-before_ascii}
-use Rattle.iri_grammar.specs.Cut.{before, after, delimited}
+use Rattle.std.proofs.lemmas.Str.{IsCharBoundary-after_ascii, IsCharBoundary-before_ascii}
 use Rattle.iri_grammar.proofs.CutLaws.{joined}
 
 pub text_after_delimiter : (c : ℕ) (b r : List ℕ) → c < 128 → IsUtf8 (b ++ c ∷ r) → IsUtf8 r

@@ -1,16 +1,15 @@
 -- What begins a dot after a slash, looked for in sixteen places at a time.
-use Rattle.std.proofs.Common.{◌≡◌, ℕ, zero, suc, ◌+◌, ◌-◌, ◌%◌, ◌^◌, ◌<◌, ◌≤◌, Bool, true, false, cond, not, eqb, ◌&&◌, ◌||◌, List, [], ◌∷◌, map, length, take, drop, get_or, replicate}
-use Rattle.std.proofs.Common.{◌≢◌, refl, sym, ◌∙◌, ap, ap₂, arith, drop-cons, inl, inr}
-use Rattle.std.specs.Prelude.{◌==◌, slice_index}
-use Rattle.std.proofs.lemmas.Bool.{cases_eq, cases_lt, or_parts, ne_eqb}
-use Rattle.std.specs.List.{prefix_len}
+use Rattle.iri_grammar.proofs.Common.{◌==◌, slice_index, cases_eq, cases_lt, ne_eqb, prefix_len, drop-drop, get_or-map, length-drop}
+use Rattle.iri_grammar.proofs.Common.{length-map, zip2_splat, has_slash_and_dot, slash_and_dot}
+use Rattle.std.proofs.Common.{◌≡◌, ℕ, zero, suc, ◌+◌, ◌-◌, ◌%◌, ◌^◌, ◌<◌, ◌≤◌, Bool, true, false, cond, not, eqb, ◌&&◌, ◌||◌, List, [], ◌∷◌}
+use Rattle.std.proofs.Common.{map, length, take, drop, get_or, replicate, ◌≢◌, refl, sym, ◌∙◌, ap, ap₂, arith, drop-cons, inl, inr, bit_and}
+use Rattle.std.proofs.lemmas.Bool.{or_parts}
 use Rattle.std.proofs.lemmas.List.Sums.{prefix_len-le-length, prefix_len_passes}
-use Rattle.std.proofs.lemmas.List.{drop-drop, get_or-map, length-drop, length-map}
-use Rattle.std.proofs.lemmas.Simd.{first_set_mask_l, mask_l-mod, zip2_splat, length-zip2, get_or-chunk, get_or-zip2, length-chunk}
-use lib.Bits.{bit_and, bit_or}
+use Rattle.std.proofs.lemmas.Simd.{first_set_mask_l, mask_l-mod, length-zip2, get_or-chunk, get_or-zip2, length-chunk}
+use lib.Bits.{bit_or}
 use lib.Count.{count_trailing_zeros}
 use lib.Lanes.{zip2, mask_l, top}
-use Rattle.iri_grammar.specs.Seen.{begins_dot, goes_on_as_dot, has_slash_and_dot, may_have_dots, slash_and_dot}
+use Rattle.iri_grammar.specs.Seen.{begins_dot, goes_on_as_dot, may_have_dots}
 
 -- of two bytes side by side, that no slash stands before what begins a dot
 abbrev pub begins_plain : ℕ → ℕ → Bool

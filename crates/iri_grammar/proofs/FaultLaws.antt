@@ -1,29 +1,22 @@
 -- A text has no fault exactly where it is in its production.
-use Rattle.std.proofs.Common.{◌≡◌, ◌↔◌, ℕ, Bool, true, false, cond, not, ◌&&◌, ◌||◌, List, [], ◌∷◌, ◌++◌, Option, Some, None, refl, sym}
-use Rattle.std.proofs.Common.{◌∙◌, ap, subst, append_assoc}
-use Rattle.std.specs.Prelude.{◌==◌, is_some, IsSome, IsNone}
-use Rattle.std.specs.Str.{IsUtf8, is_utf8}
-use Rattle.std.proofs.lemmas.Str.{is_utf8-from_IsUtf8}
-use Rattle.iri_grammar.specs.Classes.{Tests, IsSpec}
-use Rattle.iri_grammar.specs.Components.{if_there, is_scheme, is_userinfo, is_path, is_query, is_fragment}
-use Rattle.iri_grammar.specs.Host.{is_host}
-use Rattle.iri_grammar.specs.Authority.{authority_parts, is_authority}
-use Rattle.iri_grammar.specs.Cut.{before, from, after, lacks}
+use Rattle.iri_grammar.proofs.Common.{◌≡◌, ◌↔◌, ℕ, Bool, true, false, cond, not, ◌&&◌, ◌||◌, List, [], ◌∷◌, ◌++◌, Option, Some, None, refl}
+use Rattle.iri_grammar.proofs.Common.{sym, ◌∙◌, ap, subst, append_assoc, ◌==◌, is_some, IsSome, IsNone, IsUtf8, is_utf8}
+use Rattle.iri_grammar.proofs.Common.{is_utf8-from_IsUtf8, Tests, IsSpec, if_there, is_scheme, is_userinfo, is_query, is_fragment, is_host}
+use Rattle.iri_grammar.proofs.Common.{authority_parts, is_authority, before, from, after, lacks, Parts, Fits, Splits, IsReference, IsIri}
+use Rattle.iri_grammar.proofs.Common.{IsAbsolute, IsRelative, recompose, path_rules, is_empty, starts_with_slash, starts_with_slashes}
+use Rattle.iri_grammar.proofs.Common.{split_of, relative_split_of, parts_of, hier_of, scheme_of, after_scheme, authority_of, path_of}
+use Rattle.iri_grammar.proofs.Common.{ErrorKind, InvalidPath, InvalidQuery, InvalidFragment, UnexpectedFragment, InvalidUtf8, first, unless}
+use Rattle.iri_grammar.proofs.Common.{part_fault, authority_fault, query_fault, fragment_fault, bytes_fault, colon_allowed}
+use Rattle.iri_grammar.proofs.Common.{fault_before_fragment, parts_fault, reference_fault, iri_fault}
+use Rattle.iri_grammar.specs.Components.{is_path}
 use Rattle.iri_grammar.proofs.CutLaws.{both, before-delimited}
-use Rattle.iri_grammar.specs.Parts.{Parts, Fits, Splits, IsReference, IsIri, IsAbsolute, IsRelative, recompose, path_rules, is_empty}
-use Rattle.iri_grammar.specs.Parts.{starts_with_slash, starts_with_slashes}
-use Rattle.iri_grammar.specs.Split.{split_of, relative_split_of, parts_of, hier_of, scheme_of, after_scheme, authority_of, path_of}
 use Rattle.iri_grammar.specs.Split.{after_slashes}
 use Rattle.iri_grammar.proofs.SplitLaws.{recompose_split, recompose_relative_split, relative_split_is, scheme-lacks, colon_ends}
 use Rattle.iri_grammar.proofs.SplitUnique.{split_is, splits-utf8}
 use Rattle.iri_grammar.proofs.AuthorityTexts.{authority-utf8}
-use Rattle.iri_grammar.specs.declared.error.ErrorKind.{ErrorKind}
-use Rattle.iri_grammar.specs.declared.error.ErrorKind.TheVariants.{InvalidUserInfo, InvalidHost, InvalidPath, InvalidQuery}
-use Rattle.iri_grammar.specs.declared.error.ErrorKind.TheVariants.{InvalidFragment, UnexpectedFragment, InvalidUtf8}
-use Rattle.iri_grammar.specs.Fault.{first, unless, part_fault, scheme_fault, userinfo_fault, host_fault, authority_fault, query_fault}
-use Rattle.iri_grammar.specs.Fault.{fragment_fault, bytes_fault}
-use Rattle.iri_grammar.specs.WholeFault.{colon_allowed, fault_before_fragment, parts_fault, missing_scheme_fault, reference_fault, iri_fault}
-use Rattle.iri_grammar.specs.WholeFault.{absolute_fault, relative_fault}
+use Rattle.iri_grammar.specs.declared.error.ErrorKind.TheVariants.{InvalidUserInfo, InvalidHost}
+use Rattle.iri_grammar.specs.Fault.{scheme_fault, userinfo_fault, host_fault}
+use Rattle.iri_grammar.specs.WholeFault.{missing_scheme_fault, absolute_fault, relative_fault}
 use Rattle.iri_grammar.specs.inside.Scans.{absolute_kind}
 
 -- ---- faults that are none

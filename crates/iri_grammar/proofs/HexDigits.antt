@@ -1,8 +1,6 @@
 -- The table of hex digits agrees with their test at each of the 256 bytes, by computing.
-use Rattle.std.proofs.Common.{◌≡◌, ℕ, ◌<◌, Bool, true, false, cond, not, ◌&&◌, get_or, refl, ◌∙◌, ap}
-use Rattle.std.specs.Prelude.{◌==◌, bit_and}
-use Rattle.std.specs.Char.{is_ascii_hexdigit}
-use Rattle.std.proofs.lemmas.Bool.{eqb-true, agree_below, agree_below_at}
+use Rattle.iri_grammar.proofs.Common.{◌≡◌, ℕ, ◌<◌, Bool, true, false, cond, not, ◌&&◌, get_or, refl, ◌∙◌, ap, ◌==◌, bit_and}
+use Rattle.iri_grammar.proofs.Common.{is_ascii_hexdigit, eqb-true, agree_below, agree_below_at}
 use Rattle.iri_grammar.specs.declared.unit.TheConstants.{HEX_DIGITS}
 
 abbrev delimited : ℕ → ℕ → Bool

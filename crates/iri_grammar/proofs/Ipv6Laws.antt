@@ -1,18 +1,12 @@
 -- The test for IPv6 texts tells exactly the texts that are lists of groups.
-use Rattle.std.proofs.Common.{◌≡◌, ◌↔◌, ℕ, ◌+◌, inl, inr, Bool, true, false, cond, not, ◌&&◌, ◌||◌, List, [], ◌∷◌, ◌++◌, Option, Some}
-use Rattle.std.proofs.Common.{None, refl, sym, ◌∙◌, ap, subst, arith}
-use Rattle.std.specs.Prelude.{◌==◌, nat_lt}
-use Rattle.std.specs.Char.{is_ascii_digit, is_ascii_hexdigit}
-use Rattle.std.specs.List.{list_all}
-use Rattle.std.proofs.lemmas.Bool.Decides.{nat_tests}
-use Rattle.iri_grammar.specs.Cut.{before, after, lacks, tail, begins}
+use Rattle.iri_grammar.proofs.Common.{◌≡◌, ◌↔◌, ℕ, ◌+◌, inl, inr, Bool, true, false, cond, not, ◌&&◌, ◌||◌, List, [], ◌∷◌, ◌++◌, Option}
+use Rattle.iri_grammar.proofs.Common.{Some, None, refl, sym, ◌∙◌, ap, subst, arith, ◌==◌, nat_lt, is_ascii_digit, is_ascii_hexdigit}
+use Rattle.iri_grammar.proofs.Common.{list_all, nat_tests, before, after, lacks, tail, begins, pieces, onto, more_pieces, is_ipv4}
+use Rattle.iri_grammar.proofs.Common.{is_dec_octet, are_four_octets, before_double, after_double, group_texts, is_ipv6_around, is_ipv6}
 use Rattle.iri_grammar.proofs.CutLaws.{all-lacks, by_test, both}
-use Rattle.iri_grammar.specs.Pieces.{pieces, onto, joined}
-use Rattle.iri_grammar.specs.inside.PiecesLaws.{more_pieces}
+use Rattle.iri_grammar.specs.Pieces.{joined}
 use Rattle.iri_grammar.proofs.PiecesLaws.{pieces_cut}
-use Rattle.iri_grammar.specs.Ipv4.{is_ipv4, is_dec_octet, are_four_octets}
 use Rattle.iri_grammar.specs.Ipv6.{IsFullIpv6, IsShortenedIpv6, IsIpv6, is_group, are_groups, are_groups_or_ipv4, group_count}
-use Rattle.iri_grammar.specs.Ipv6Test.{before_double, after_double, group_texts, is_ipv6_around, is_ipv6}
 use Rattle.iri_grammar.proofs.LiteralChars.{hex_of_group, octet-digits}
 
 -- a text without a delimiter is one piece

@@ -1,16 +1,10 @@
 -- From one kind of whole text to another, and from a whole text to its parts, said of faults.
-use Rattle.std.proofs.Common.{◌≡◌, ℕ, true, List, [], ◌∷◌, ◌++◌, Option, Some, None, refl, sym, ◌∙◌, ap, subst, append_assoc}
-use Rattle.std.specs.Prelude.{IsSome}
-use Rattle.std.proofs.lemmas.List.{append-nil}
-use Rattle.iri_grammar.specs.Classes.{Tests, IsSpec}
-use Rattle.iri_grammar.specs.Components.{if_there, is_scheme}
-use Rattle.iri_grammar.specs.Cut.{before, lacks, delimited}
+use Rattle.iri_grammar.proofs.Common.{◌≡◌, ℕ, true, List, [], ◌∷◌, ◌++◌, Option, Some, None, refl, sym, ◌∙◌, ap, subst, append_assoc}
+use Rattle.iri_grammar.proofs.Common.{IsSome, append-nil, Tests, IsSpec, if_there, is_scheme, before, lacks, delimited, Parts, Splits}
+use Rattle.iri_grammar.proofs.Common.{recompose, scheme_text, authority_text, split_of, iri_fault}
 use Rattle.iri_grammar.proofs.CutLaws.{before-delimited, lacks-append, lacks-other}
-use Rattle.iri_grammar.specs.Parts.{Parts, Splits, recompose, scheme_text, authority_text}
-use Rattle.iri_grammar.specs.Split.{split_of}
 use Rattle.iri_grammar.proofs.SplitLaws.{Delimiters, scheme-lacks, hash_ends, authority_text-lacks, delimited-lacks}
 use Rattle.iri_grammar.proofs.SplitUnique.{fits-delimiters, split_is}
-use Rattle.iri_grammar.specs.WholeFault.{iri_fault}
 use Rattle.iri_grammar.proofs.FaultLaws.{iri-law}
 
 -- ---- what stands and what doesn't

@@ -1,17 +1,12 @@
 -- The characters of an IP literal.
+use Rattle.iri_grammar.proofs.Common.{◌==◌, is_ascii_hexdigit, is_ascii_digit, list_all, nat_tests, is_ascii_userinfo, is_ascii_reg_name}
+use Rattle.iri_grammar.proofs.Common.{is_ascii_unreserved, is_sub_delim, pieces, onto, is_ipv4, is_dec_octet, are_four_octets, is_group}
+use Rattle.iri_grammar.proofs.Common.{are_groups, are_groups_or_ipv4, group_count, before_double, after_double, group_texts, is_ipv6_around}
+use Rattle.iri_grammar.proofs.Common.{is_ipv6, is_ipvfuture, is_end, is_ip_literal, before, after, delimited, tail, begins}
 use Rattle.std.proofs.Common.{◌≡◌, ℕ, Bool, true, false, cond, ◌&&◌, ◌||◌, List, [], ◌∷◌, ◌++◌, Option, Some, None, refl, ◌∙◌, subst, arith}
-use Rattle.std.specs.Prelude.{◌==◌}
-use Rattle.std.specs.Char.{is_ascii_hexdigit, is_ascii_digit}
-use Rattle.std.specs.List.{list_all}
 use Rattle.std.proofs.lemmas.List.Folds.{list_all-append}
-use Rattle.std.proofs.lemmas.Bool.Decides.{nat_tests}
-use Rattle.iri_grammar.specs.Classes.{is_ascii_userinfo, is_ascii_reg_name, is_ascii_unreserved, is_sub_delim}
-use Rattle.iri_grammar.specs.Pieces.{pieces, onto}
-use Rattle.iri_grammar.specs.Ipv4.{is_ipv4, is_dec_octet, is_hundreds, are_four_octets}
-use Rattle.iri_grammar.specs.Ipv6.{is_group, are_groups, are_groups_or_ipv4, group_count}
-use Rattle.iri_grammar.specs.Ipv6Test.{before_double, after_double, group_texts, is_ipv6_around, is_ipv6}
-use Rattle.iri_grammar.specs.IpLiteral.{some_of, is_future_address, is_ipvfuture, is_end, is_ip_literal}
-use Rattle.iri_grammar.specs.Cut.{before, after, delimited, tail, begins}
+use Rattle.iri_grammar.specs.Ipv4.{is_hundreds}
+use Rattle.iri_grammar.specs.IpLiteral.{some_of, is_future_address}
 use Rattle.iri_grammar.proofs.CutLaws.{by_test, both, and_three, joined}
 
 -- brackets, and what stands in them: hex digits, `.`, `:` and the other ASCII characters of a userinfo

@@ -1,13 +1,10 @@
 -- Valid parts whose path keeps the rules make a valid text, and their text is split into them.
-use Rattle.std.proofs.Common.{◌≡◌, true, List, ℕ, None, refl}
-use Rattle.std.specs.Prelude.{IsSome, IsNone}
-use Rattle.iri_grammar.specs.Classes.{Tests, IsSpec}
-use Rattle.iri_grammar.specs.Authority.{AuthorityParts, FitsAuthority, recompose_authority, authority_parts, is_authority}
+use Rattle.iri_grammar.proofs.Common.{◌≡◌, true, List, ℕ, None, refl, IsSome, IsNone, Tests, IsSpec, recompose_authority, authority_parts}
+use Rattle.iri_grammar.proofs.Common.{is_authority, Parts, Fits, Splits, recompose, split_of, reference_fault, iri_fault}
+use Rattle.iri_grammar.specs.Authority.{AuthorityParts, FitsAuthority}
 use Rattle.iri_grammar.proofs.AuthorityLaws.{reading_is, passes}
-use Rattle.iri_grammar.specs.Parts.{Parts, Fits, Splits, recompose}
-use Rattle.iri_grammar.specs.Split.{split_of}
 use Rattle.iri_grammar.proofs.SplitUnique.{split_is}
-use Rattle.iri_grammar.specs.WholeFault.{reference_fault, iri_fault, absolute_fault, relative_fault}
+use Rattle.iri_grammar.specs.WholeFault.{absolute_fault, relative_fault}
 use Rattle.iri_grammar.proofs.FaultLaws.{splits_where_no_fault, no_fault_where_splits, iri-law, absolute-law, relative-law}
 
 made-splits : (s : Tests) (p : Parts) → Fits s p → Splits s (recompose p) p

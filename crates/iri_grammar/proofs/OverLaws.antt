@@ -1,9 +1,8 @@
 -- A text is over a class exactly where units of the class spell it.
-use Rattle.std.proofs.Common.{◌≡◌, ℕ, Bool, true, false, cond, ◌&&◌, List, [], ◌∷◌, refl, sym, ap, subst, ◌∙◌}
-use Rattle.std.specs.Char.{is_ascii_hexdigit}
-use Rattle.std.proofs.lemmas.Bool.{and_parts as both}
+use Rattle.iri_grammar.proofs.Common.{◌≡◌, ℕ, Bool, true, false, cond, ◌&&◌, List, [], ◌∷◌, refl, sym, ap, subst, ◌∙◌, is_ascii_hexdigit}
+use Rattle.iri_grammar.proofs.Common.{both, over, over_from}
 use Rattle.iri_grammar.proofs.CutLaws.{by_test}
-use Rattle.iri_grammar.specs.Over.{over, over_from, IsOver, done, plain, triplet}
+use Rattle.iri_grammar.specs.Over.{IsOver, done, plain, triplet}
 
 pub over-from_units : (p : ℕ → Bool) (cs : List ℕ) → p 37 ≡ false → IsOver p cs → over p cs ≡ true
 unfolding over_from

@@ -1,9 +1,6 @@
 -- Pieces and the first delimiter.
-use Rattle.std.proofs.Common.{◌≡◌, ℕ, ◌+◌, ◌≤◌, true, false, cond, List, [], ◌∷◌, Some, length, refl, ap, arith}
-use Rattle.std.specs.Prelude.{◌==◌}
-use Rattle.iri_grammar.specs.Cut.{before, after}
-use Rattle.iri_grammar.specs.Pieces.{onto, pieces}
-use Rattle.iri_grammar.specs.inside.PiecesLaws.{more_pieces}
+use Rattle.iri_grammar.proofs.Common.{◌≡◌, ℕ, ◌+◌, ◌≤◌, true, false, cond, List, [], ◌∷◌, Some, length, refl, ap, arith, ◌==◌, before}
+use Rattle.iri_grammar.proofs.Common.{after, onto, pieces, more_pieces}
 
 -- the first piece stands before the first delimiter
 pub pieces_cut : (c : ℕ) (t : List ℕ) → pieces c t ≡ before c t ∷ more_pieces c (after c t)

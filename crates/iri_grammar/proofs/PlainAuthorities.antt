@@ -1,29 +1,15 @@
 -- Plain authorities: a name in ASCII, and perhaps a port.
-use Rattle.std.proofs.Common.{◌≡◌, ℕ, suc, ◌+◌, ◌≤◌, Bool, true, false, cond, not, ◌&&◌, List, [], ◌∷◌, ◌++◌, Option, Some, None}
-use Rattle.std.proofs.Common.{length, take, drop, refl, sym, ◌∙◌, ap, arith, add-one}
-use Rattle.std.specs.Prelude.{◌==◌, is_some}
-use Rattle.std.specs.Char.{is_ascii_digit}
-use Rattle.std.specs.List.{list_all}
-use Rattle.std.specs.Str.{IsUtf8}
-use Rattle.std.proofs.lemmas.Bool.{eqb-true, ne_eqb}
-use Rattle.std.proofs.lemmas.Str.{IsUtf8-from_ascii}
-use Rattle.std.proofs.lemmas.Bool.Decides.{nat_tests}
+use Rattle.iri_grammar.proofs.Common.{◌≡◌, ℕ, suc, ◌+◌, ◌≤◌, Bool, true, false, cond, not, ◌&&◌, List, [], ◌∷◌, ◌++◌, Option, Some, None}
+use Rattle.iri_grammar.proofs.Common.{length, take, drop, refl, sym, ◌∙◌, ap, arith, add-one, ◌==◌, is_some, is_ascii_digit, list_all}
+use Rattle.iri_grammar.proofs.Common.{IsUtf8, eqb-true, ne_eqb, IsUtf8-from_ascii, nat_tests, take-add, or-true, authority_parts}
+use Rattle.iri_grammar.proofs.Common.{is_authority, Tests, IsSpec, is_ascii_userinfo, is_ascii_reg_name, is_ascii_unreserved, is_sub_delim}
+use Rattle.iri_grammar.proofs.Common.{ascii_test, if_there, is_port, is_userinfo, lacks, delimited, authority_fault, part_fault}
+use Rattle.iri_grammar.proofs.Common.{is_ip_literal, run_of, is_plain_authority, is_small, RegName, Userinfo, is_small_name, name_len}
 use Rattle.std.proofs.lemmas.List.{length-drop, length-take-le}
 use Rattle.std.proofs.lemmas.List.Folds.{list_all-append}
-use Rattle.std.proofs.Math.Seq.{take-add}
-use Rattle.std.proofs.Math.Bool.{or-true}
 use Rattle.iri_grammar.proofs.LiteralChars.{all-weaken}
-use Rattle.iri_grammar.specs.Authority.{authority_parts, is_authority}
-use Rattle.iri_grammar.specs.Classes.{Tests, IsSpec, is_ascii_userinfo, is_ascii_reg_name, is_ascii_unreserved, is_sub_delim}
-use Rattle.iri_grammar.specs.ClassTests.{ascii_test}
-use Rattle.iri_grammar.specs.Components.{if_there, is_port, is_userinfo}
-use Rattle.iri_grammar.specs.Cut.{lacks, delimited}
-use Rattle.iri_grammar.specs.Fault.{authority_fault, part_fault}
-use Rattle.iri_grammar.specs.IpLiteral.{is_ip_literal}
-use Rattle.iri_grammar.specs.Runs.{run_of}
-use Rattle.iri_grammar.specs.Seen.{is_kept_port, is_plain_authority, is_small}
-use Rattle.iri_grammar.specs.declared.class.Class.TheVariants.{RegName, Userinfo}
-use Rattle.iri_grammar.specs.inside.PlainAuthority.{is_small_name, is_small_name_char, name_len, plain_len, port_len}
+use Rattle.iri_grammar.specs.Seen.{is_kept_port}
+use Rattle.iri_grammar.specs.inside.PlainAuthority.{is_small_name_char, plain_len, port_len}
 use Rattle.iri_grammar.proofs.AuthorityLaws.{name_parts}
 use Rattle.iri_grammar.proofs.AuthorityTexts.{all_below}
 use Rattle.iri_grammar.proofs.ClassLaws.{ascii_test_below}

@@ -1,29 +1,12 @@
 -- Parts that are made of ASCII characters of their classes alone.
-use Rattle.std.proofs.Common.{◌≡◌, ℕ, suc, Bool, true, false, cond, List, [], ◌∷◌, ◌++◌, Option, Some, None, length, take, drop, refl, sym}
-use Rattle.std.proofs.Common.{◌∙◌, ap, append-nil}
-use Rattle.std.specs.List.{list_all}
-use Rattle.std.specs.Str.{chars}
-use Rattle.std.proofs.lemmas.Str.{IsUtf8-from_ascii}
-use Rattle.std.proofs.lemmas.Bool.{eqb-true}
-use Rattle.std.proofs.Math.Bool.{or-true}
+use Rattle.iri_grammar.proofs.Common.{◌≡◌, ℕ, suc, Bool, true, false, cond, List, [], ◌∷◌, ◌++◌, Option, Some, None, length, take, drop}
+use Rattle.iri_grammar.proofs.Common.{refl, sym, ◌∙◌, ap, append-nil, list_all, chars, IsUtf8-from_ascii, eqb-true, or-true}
+use Rattle.iri_grammar.proofs.Common.{recompose_authority, Tests, IsSpec, is_ascii_reg_name, is_ascii_userinfo, is_ascii_unreserved}
+use Rattle.iri_grammar.proofs.Common.{is_sub_delim, before_any, from_any, ends_at_start, ends_authority, ascii_test, class_test}
+use Rattle.iri_grammar.proofs.Common.{is_fragment, is_query, authority_fault, first, fragment_fault, part_fault, unless, is_ip_literal}
+use Rattle.iri_grammar.proofs.Common.{over, text_over, Parts, run_of, colon_allowed, fault_before_fragment, parts_fault, ErrorKind}
+use Rattle.iri_grammar.proofs.Common.{InvalidFragment, InvalidPath, InvalidQuery, AreOver, Class, RegName, Userinfo}
 use Rattle.std.proofs.Math.Seq.{drop-length}
-use Rattle.iri_grammar.specs.Authority.{recompose_authority}
-use Rattle.iri_grammar.specs.Classes.{Tests, IsSpec, is_ascii_reg_name, is_ascii_userinfo, is_ascii_unreserved, is_sub_delim}
-use Rattle.iri_grammar.specs.Delimiters.{before_any, from_any}
-use Rattle.iri_grammar.specs.inside.Delimiters.{ends_at_start, ends_authority}
-use Rattle.iri_grammar.specs.ClassTests.{ascii_test, class_test}
-use Rattle.iri_grammar.specs.Components.{is_fragment, is_query}
-use Rattle.iri_grammar.specs.Fault.{authority_fault, first, fragment_fault, part_fault, unless}
-use Rattle.iri_grammar.specs.IpLiteral.{is_ip_literal}
-use Rattle.iri_grammar.specs.Over.{over, text_over}
-use Rattle.iri_grammar.specs.Parts.{Parts}
-use Rattle.iri_grammar.specs.Runs.{run_of}
-use Rattle.iri_grammar.specs.WholeFault.{colon_allowed, fault_before_fragment, parts_fault}
-use Rattle.iri_grammar.specs.declared.error.ErrorKind.{ErrorKind}
-use Rattle.iri_grammar.specs.declared.error.ErrorKind.TheVariants.{InvalidFragment, InvalidPath, InvalidQuery}
-use Rattle.iri_grammar.specs.inside.Tails.{AreOver}
-use Rattle.iri_grammar.specs.declared.class.Class.{Class}
-use Rattle.iri_grammar.specs.declared.class.Class.TheVariants.{RegName, Userinfo}
 use Rattle.iri_grammar.proofs.AuthorityTexts.{all_below}
 use Rattle.iri_grammar.proofs.ClassLaws.{ascii_test_below, class_has_ascii, class_has_no_percent}
 use Rattle.iri_grammar.proofs.AuthorityLaws.{passes}

@@ -1,13 +1,8 @@
 -- The last colon, and host and port.
-use Rattle.std.proofs.Common.{◌≡◌, ℕ, zero, suc, ◌+◌, ◌<◌, true, false, ◌&&◌, List, [], ◌∷◌, Some, None, Option, MatchOption, length, drop}
-use Rattle.std.proofs.Common.{refl, sym, ◌∙◌, ap, arith, add-one}
-use Rattle.std.specs.Prelude.{◌==◌, slice_index}
-use Rattle.std.specs.Char.{is_ascii_digit}
-use Rattle.std.proofs.Math.Bool.{and-false}
-use Rattle.std.proofs.lemmas.Bool.{false_from_ne_true, eqb-true}
-use Rattle.std.proofs.lemmas.Bool.Decides.{nat_tests}
+use Rattle.iri_grammar.proofs.Common.{◌≡◌, ℕ, zero, suc, ◌+◌, ◌<◌, true, false, ◌&&◌, List, [], ◌∷◌, Some, None, Option, MatchOption}
+use Rattle.iri_grammar.proofs.Common.{length, drop, refl, sym, ◌∙◌, ap, arith, add-one, ◌==◌, slice_index, is_ascii_digit, and-false}
+use Rattle.iri_grammar.proofs.Common.{false_from_ne_true, eqb-true, nat_tests, is_port}
 use Rattle.memchr.specs.Find.{is_byte, IsLastByte}
-use Rattle.iri_grammar.specs.Components.{is_port}
 use Rattle.iri_grammar.specs.inside.LastColon.{LastColon, NoColon}
 
 none_at : (bs : List ℕ) → ((j : ℕ) → j < length bs → (slice_index bs j == 58) ≡ true → ⊥) → NoColon bs

@@ -1,23 +1,17 @@
 -- Runs of a class, 16 bytes at a time.
-use Rattle.std.proofs.Common.{◌≡◌, ℕ, zero, suc, ◌+◌, ◌-◌, ◌*◌, ◌/◌, ◌%◌, ◌^◌, ◌<◌, ◌≤◌, Bool, true, false, cond, eqb, List, [], ◌∷◌, map, length, take, drop, get_or, replicate, bit_and}
-use Rattle.std.proofs.Common.{◌≢◌, refl, sym, ap, ap₂, ◌∙◌, arith, w8, Fits}
-use Rattle.std.specs.List.{prefix_len}
-use Rattle.std.proofs.lemmas.List.{get_or-map, length-map, ext_get_or}
-use Rattle.std.proofs.lemmas.List.{length-drop, take_all}
+use Rattle.iri_grammar.proofs.Common.{◌*◌, prefix_len, get_or-map, length-map, length-drop, take_all, ne_eqb, agree_below, agree_below_at}
+use Rattle.iri_grammar.proofs.Common.{is_ascii_unreserved, is_ascii_reg_name, is_ascii_userinfo, is_ascii_pchar, is_ascii_path}
+use Rattle.iri_grammar.proofs.Common.{is_ascii_query, is_ascii_any, is_sub_delim, is_gen_delim, ascii_test, rank_of, Class, Unreserved}
+use Rattle.iri_grammar.proofs.Common.{RegName, Userinfo, Pchar, Path, Query, Fragment, Any, high_bit, low_bits, row_test, run_of}
+use Rattle.std.proofs.Common.{◌≡◌, ℕ, zero, suc, ◌+◌, ◌-◌, ◌/◌, ◌%◌, ◌^◌, ◌<◌, ◌≤◌, Bool, true, false, cond, eqb, List, [], ◌∷◌, map}
+use Rattle.std.proofs.Common.{length, take, drop, get_or, replicate, bit_and, ◌≢◌, refl, sym, ap, ap₂, ◌∙◌, arith, w8, Fits}
+use Rattle.std.proofs.lemmas.List.{ext_get_or}
 use Rattle.std.proofs.lemmas.Nat.{and_le_r}
 use Rattle.std.proofs.lemmas.Simd.{Each1-all, Each1-weaker, Each1-zip2, Each2-splat, SwzOk, SwzOk-from_below, below_from_Fits, length-zip2}
 use Rattle.std.proofs.lemmas.Simd.{map-map, bitmask_splat, first_set_mask_l, zip2-map, swz_l, length-swz_l, get_or-swz_l_below}
 use lib.Count.{count_trailing_zeros}
 use lib.Lanes.{zip2, mask_l, top, Each1}
-use Rattle.std.proofs.lemmas.Bool.{ne_eqb, agree_below, agree_below_at}
-use Rattle.iri_grammar.specs.Classes.{is_ascii_unreserved, is_ascii_reg_name, is_ascii_userinfo, is_ascii_pchar, is_ascii_path}
-use Rattle.iri_grammar.specs.Classes.{is_ascii_query, is_ascii_any, is_sub_delim, is_gen_delim}
-use Rattle.iri_grammar.specs.ClassTests.{ascii_test, rank_of}
-use Rattle.iri_grammar.specs.declared.class.Class.{Class}
-use Rattle.iri_grammar.specs.declared.class.Class.TheVariants.{Unreserved, RegName, Userinfo, Pchar, Path, Query, Fragment, Any}
-use Rattle.iri_grammar.specs.inside.Halves.{high_bit, low_bits, row_test}
 use Rattle.iri_grammar.specs.inside.PlainAuthority.{is_small_name_char}
-use Rattle.iri_grammar.specs.Runs.{run_of}
 
 -- a vector of bytes
 abbrev pub IsBlock : List ℕ → Type 0

@@ -1,24 +1,12 @@
 -- Where a scan of a reference stops, and the fault that it tells.
-use Rattle.std.proofs.Common.{◌≡◌, ℕ, Bool, true, false, cond, not, ◌&&◌, List, [], ◌∷◌, ◌++◌, Option, Some, None, refl, sym, ◌∙◌, ap, subst}
-use Rattle.std.proofs.Common.{append_assoc, append-nil, arith, length}
-use Rattle.std.specs.Prelude.{◌==◌}
-use Rattle.std.specs.Str.{is_utf8}
-use Rattle.std.proofs.lemmas.Bool.{eqb-true}
-use Rattle.std.proofs.lemmas.Str.{IsUtf8-from_is_utf8, is_utf8-from_IsUtf8}
-use Rattle.iri_grammar.specs.Classes.{Tests, IsSpec, fragment_char, path_char, query_char}
-use Rattle.iri_grammar.specs.Components.{if_there, is_query}
-use Rattle.iri_grammar.specs.Cut.{before, after, lacks, delimited, begins}
-use Rattle.iri_grammar.specs.Fault.{authority_fault, bytes_fault, first, fragment_fault, part_fault, query_fault, unless}
-use Rattle.iri_grammar.specs.OptionalSlices.{now_of}
-use Rattle.iri_grammar.specs.Over.{text_over}
-use Rattle.iri_grammar.specs.Parts.{Parts, is_empty}
-use Rattle.iri_grammar.specs.Split.{after_scheme, authority_of, hier_of, parts_of, scheme_of, split_of}
-use Rattle.iri_grammar.specs.WholeFault.{colon_allowed, fault_before_fragment, parts_fault, reference_fault}
-use Rattle.iri_grammar.specs.declared.error.ErrorKind.{ErrorKind}
-use Rattle.iri_grammar.specs.declared.error.ErrorKind.TheVariants.{InvalidFragment, InvalidPath, InvalidQuery, InvalidUtf8}
+use Rattle.iri_grammar.proofs.Common.{◌≡◌, ℕ, Bool, true, false, cond, not, ◌&&◌, List, [], ◌∷◌, ◌++◌, Option, Some, None, refl, sym, ◌∙◌}
+use Rattle.iri_grammar.proofs.Common.{ap, subst, append_assoc, append-nil, arith, length, ◌==◌, is_utf8, eqb-true, IsUtf8-from_is_utf8}
+use Rattle.iri_grammar.proofs.Common.{is_utf8-from_IsUtf8, Tests, IsSpec, fragment_char, path_char, query_char, if_there, is_query, before}
+use Rattle.iri_grammar.proofs.Common.{after, lacks, delimited, begins, authority_fault, bytes_fault, first, fragment_fault, part_fault}
+use Rattle.iri_grammar.proofs.Common.{query_fault, unless, now_of, text_over, Parts, is_empty, after_scheme, authority_of, hier_of}
+use Rattle.iri_grammar.proofs.Common.{parts_of, scheme_of, split_of, colon_allowed, fault_before_fragment, parts_fault, reference_fault}
+use Rattle.iri_grammar.proofs.Common.{ErrorKind, InvalidFragment, InvalidPath, InvalidQuery, InvalidUtf8, IsPastAuthority, HasNoUnit}
 use Rattle.iri_grammar.specs.declared.tail.Tail.{Tail}
-use Rattle.iri_grammar.specs.inside.Delimiters.{IsPastAuthority}
-use Rattle.iri_grammar.specs.inside.Runs.{HasNoUnit}
 use Rattle.iri_grammar.specs.inside.Scans.{fault_after, stop_fault, Scans}
 use Rattle.iri_grammar.specs.inside.Tails.{AreOver, ScansTail, TailStops}
 use Rattle.iri_grammar.proofs.AuthorityTexts.{nothing-utf8, over_text-lacks}

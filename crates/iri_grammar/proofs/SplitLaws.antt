@@ -1,18 +1,11 @@
 -- The laws of the split: recomposing it gives the text, and parts that bear no foreign delimiter are the split of their recomposition.
-use Rattle.std.proofs.Common.{◌≡◌, ℕ, Bool, true, false, cond, not, ◌&&◌, ◌||◌, List, [], ◌∷◌, ◌++◌, take, Option, Some, None, refl, sym}
-use Rattle.std.proofs.Common.{◌∙◌, ap, subst, arith, append_assoc}
-use Rattle.std.specs.Prelude.{◌==◌, is_some}
-use Rattle.std.proofs.lemmas.Bool.Decides.{nat_tests}
-use Rattle.std.specs.List.{list_all}
-use Rattle.std.proofs.lemmas.Bool.{not-true}
-use Rattle.iri_grammar.specs.Authority.{or_all}
-use Rattle.iri_grammar.specs.Components.{if_there, is_letter, is_scheme, is_scheme_char}
-use Rattle.iri_grammar.specs.Cut.{before, from, after, lacks, delimited}
-use Rattle.iri_grammar.proofs.CutLaws.{by_test, both, joined, joined_from, before-delimited, after-delimited, before-at, from-at, lacks-append}
-use Rattle.iri_grammar.proofs.CutLaws.{lacks-other, test_apart, all-lacks}
-use Rattle.iri_grammar.specs.Parts.{Parts, recompose, scheme_text, authority_text, starts_with_slash, starts_with_slashes, is_empty}
-use Rattle.iri_grammar.specs.Parts.{path_rules}
-use Rattle.iri_grammar.specs.Split.{split_of, relative_split_of, parts_of, hier_of, scheme_of, after_scheme, authority_of, path_of}
+use Rattle.iri_grammar.proofs.Common.{◌≡◌, ℕ, Bool, true, false, cond, not, ◌&&◌, ◌||◌, List, [], ◌∷◌, ◌++◌, take, Option, Some, None, refl}
+use Rattle.iri_grammar.proofs.Common.{sym, ◌∙◌, ap, subst, arith, append_assoc, ◌==◌, is_some, nat_tests, list_all, not-true, or_all}
+use Rattle.iri_grammar.proofs.Common.{if_there, is_letter, is_scheme, is_scheme_char, before, from, after, lacks, delimited, Parts}
+use Rattle.iri_grammar.proofs.Common.{recompose, scheme_text, authority_text, starts_with_slash, starts_with_slashes, is_empty, path_rules}
+use Rattle.iri_grammar.proofs.Common.{split_of, relative_split_of, parts_of, hier_of, scheme_of, after_scheme, authority_of, path_of}
+use Rattle.iri_grammar.proofs.CutLaws.{by_test, both, joined, joined_from, before-delimited, after-delimited, before-at, from-at}
+use Rattle.iri_grammar.proofs.CutLaws.{lacks-append, lacks-other, test_apart, all-lacks}
 
 pub letter-is_scheme_char : (x : ℕ) → is_letter x ≡ true → is_scheme_char x ≡ true
 unfolding is_letter is_scheme_char

@@ -1,18 +1,11 @@
 -- A text has at most one split, and it is UTF-8; it is a URI or a relative reference, and never both.
-use Rattle.std.proofs.Common.{◌≡◌, ◌↔◌, ◌⊎◌, inl, inr, ℕ, ◌<◌, Bool, true, false, List, [], ◌∷◌, Option, Some, None, refl, sym, ◌∙◌, ap}
-use Rattle.std.proofs.Common.{subst, arith}
-use Rattle.std.specs.Prelude.{IsSome, IsNone}
-use Rattle.std.specs.Str.{IsUtf8}
-use Rattle.std.proofs.lemmas.Str.{IsUtf8-from_ascii, IsUtf8-append}
-use Rattle.std.proofs.lemmas.Bool.Decides.{nat_tests}
-use Rattle.iri_grammar.specs.Classes.{Tests, IsSpec, path_char, query_char, fragment_char, is_ascii_path, is_ascii_pchar, is_ascii_query}
-use Rattle.iri_grammar.specs.Classes.{is_ascii_reg_name, is_ascii_unreserved, is_sub_delim}
-use Rattle.iri_grammar.specs.Over.{text_over}
-use Rattle.iri_grammar.specs.Components.{if_there, is_scheme, is_scheme_char, is_query}
-use Rattle.iri_grammar.specs.Authority.{is_authority}
-use Rattle.iri_grammar.specs.Cut.{lacks, delimited}
-use Rattle.iri_grammar.specs.Parts.{Parts, Fits, Splits, IsReference, IsIri, IsRelative, recompose, scheme_text, authority_text}
-use Rattle.iri_grammar.specs.Split.{split_of}
+use Rattle.iri_grammar.proofs.Common.{◌≡◌, ◌↔◌, inl, inr, ℕ, ◌<◌, Bool, true, false, List, [], ◌∷◌, Option, Some, None, refl, sym, ◌∙◌, ap}
+use Rattle.iri_grammar.proofs.Common.{subst, arith, IsSome, IsNone, IsUtf8, IsUtf8-from_ascii, IsUtf8-append, nat_tests, Tests, IsSpec}
+use Rattle.iri_grammar.proofs.Common.{path_char, query_char, fragment_char, is_ascii_path, is_ascii_pchar, is_ascii_query}
+use Rattle.iri_grammar.proofs.Common.{is_ascii_reg_name, is_ascii_unreserved, is_sub_delim, text_over, if_there, is_scheme, is_scheme_char}
+use Rattle.iri_grammar.proofs.Common.{is_query, is_authority, lacks, delimited, Parts, Fits, Splits, IsReference, IsIri, IsRelative}
+use Rattle.iri_grammar.proofs.Common.{recompose, scheme_text, authority_text, split_of}
+use Rattle.std.proofs.Common.{◌⊎◌}
 use Rattle.iri_grammar.proofs.SplitLaws.{Delimiters, split_parts, scheme-chars}
 use Rattle.iri_grammar.proofs.AuthorityTexts.{IsForeign, authority-lacks, hash-foreign, slash-foreign, delimiter-foreign, over_text-lacks}
 use Rattle.iri_grammar.proofs.AuthorityTexts.{text_over-utf8, authority-utf8, nothing-utf8, one_byte-utf8, delimited-utf8, all_below}

@@ -1,12 +1,9 @@
 -- The table of ranks agrees with the classes at each of the 256 bytes, by computing.
-use Rattle.std.proofs.Common.{◌≡◌, ℕ, ◌<◌, Bool, true, get_or, refl}
+use Rattle.iri_grammar.proofs.Common.{◌≡◌, ℕ, ◌<◌, Bool, true, get_or, refl, agree_below, agree_below_at, is_ascii_unreserved}
+use Rattle.iri_grammar.proofs.Common.{is_ascii_reg_name, is_ascii_userinfo, is_ascii_pchar, is_ascii_path, is_ascii_query, is_ascii_any}
+use Rattle.iri_grammar.proofs.Common.{is_sub_delim, is_gen_delim, ascii_test, rank_of, Class, Unreserved, RegName, Userinfo, Pchar, Path}
+use Rattle.iri_grammar.proofs.Common.{Query, Fragment, Any}
 use Rattle.std.specs.Prelude.{nat_le}
-use Rattle.std.proofs.lemmas.Bool.{agree_below, agree_below_at}
-use Rattle.iri_grammar.specs.Classes.{is_ascii_unreserved, is_ascii_reg_name, is_ascii_userinfo, is_ascii_pchar, is_ascii_path}
-use Rattle.iri_grammar.specs.Classes.{is_ascii_query, is_ascii_any, is_sub_delim, is_gen_delim}
-use Rattle.iri_grammar.specs.ClassTests.{ascii_test, rank_of}
-use Rattle.iri_grammar.specs.declared.class.Class.{Class}
-use Rattle.iri_grammar.specs.declared.class.Class.TheVariants.{Unreserved, RegName, Userinfo, Pchar, Path, Query, Fragment, Any}
 use Rattle.iri_grammar.specs.declared.class.TheConstants.{RANKS}
 
 abbrev ranked : ℕ → ℕ → Bool

@@ -1,20 +1,13 @@
 -- Bytes whose parts are texts are one.
-use Rattle.std.proofs.Common.{◌≡◌, ℕ, ◌+◌, ◌<◌, true, false, cond, List, [], ◌∷◌, ◌++◌, Option, Some, None, length, take, drop, sym, ◌∙◌, ap}
-use Rattle.std.proofs.Common.{subst, arith, add-one, drop-cons, length-append, refl}
-use Rattle.std.specs.Prelude.{Result, slice_index}
-use Rattle.std.specs.Str.{is_utf8, IsUtf8}
+use Rattle.iri_grammar.proofs.Common.{◌≡◌, ℕ, ◌+◌, ◌<◌, true, false, cond, List, [], ◌∷◌, ◌++◌, Option, Some, None, length, take, drop, sym}
+use Rattle.iri_grammar.proofs.Common.{◌∙◌, ap, subst, arith, add-one, length-append, refl, slice_index, is_utf8, IsUtf8}
+use Rattle.iri_grammar.proofs.Common.{IsCharBoundary-from_take, IsUtf8-append, IsUtf8-drop, IsUtf8-from_is_utf8, is_utf8-from_IsUtf8}
+use Rattle.iri_grammar.proofs.Common.{take-append_seam, drop-append_seam, false_from_ne_true, Tests, fragment_char, path_char, query_char}
+use Rattle.iri_grammar.proofs.Common.{delimited, Answers, bytes_fault, ErrorKind, InvalidUtf8, SchemeAt, AreOver}
+use Rattle.std.proofs.Common.{drop-cons}
+use Rattle.std.specs.Prelude.{Result}
 use Rattle.std.proofs.lemmas.List.{take-append-drop}
-use Rattle.std.proofs.lemmas.Str.{IsCharBoundary-from_take, IsUtf8-append, IsUtf8-drop, IsUtf8-from_is_utf8, is_utf8-from_IsUtf8}
-use Rattle.std.proofs.Math.Seq.{take-append_seam, drop-append_seam}
-use Rattle.std.proofs.lemmas.Bool.{false_from_ne_true}
-use Rattle.iri_grammar.specs.Classes.{Tests, fragment_char, path_char, query_char}
-use Rattle.iri_grammar.specs.Cut.{delimited}
-use Rattle.iri_grammar.specs.Fault.{Answers, bytes_fault}
 use Rattle.iri_grammar.specs.declared.error.Error.{Error}
-use Rattle.iri_grammar.specs.declared.error.ErrorKind.{ErrorKind}
-use Rattle.iri_grammar.specs.declared.error.ErrorKind.TheVariants.{InvalidUtf8}
-use Rattle.iri_grammar.specs.inside.Delimiters.{SchemeAt}
-use Rattle.iri_grammar.specs.inside.Tails.{AreOver}
 use Rattle.iri_grammar.proofs.AuthorityTexts.{one_byte-utf8, text_over-utf8}
 use Rattle.iri_grammar.proofs.SplitUnique.{part-utf8}
 

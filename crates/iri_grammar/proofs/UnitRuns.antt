@@ -1,32 +1,21 @@
 -- Units of a class at the start of a text, taken some at a time.
-use Rattle.std.proofs.Common.{◌≡◌, ℕ, zero, suc, ◌+◌, ◌-◌, ◌<◌, ◌≤◌, Bool, true, false, cond, ◌&&◌, List, [], ◌∷◌, ◌++◌, length, take, drop}
-use Rattle.std.proofs.Common.{◌≢◌, refl, sym, ◌∙◌, ap, subst, arith, length-append, append-nil}
-use Rattle.std.specs.Prelude.{◌==◌, slice_index}
-use Rattle.std.specs.Char.{is_ascii_hexdigit, encode_utf8}
-use Rattle.std.specs.Str.{chars, IsUtf8, is_utf8}
-use Rattle.std.proofs.lemmas.Bool.{and_parts as both, eqb-true}
-use Rattle.std.proofs.lemmas.Bool.Decides.{nat_tests}
-use Rattle.std.proofs.lemmas.List.{length-drop}
-use Rattle.std.proofs.lemmas.Str.{chars-append, IsUtf8-append, IsUtf8-drop, IsUtf8-from_ascii, IsUtf8-from_is_utf8, IsUtf8-past_char, IsUtf8-take}
-use Rattle.std.proofs.lemmas.Str.{IsCharBoundary-from_drop, IsCharBoundary-from_take}
-use Rattle.std.proofs.Math.Seq.{take-add, take-append_seam, drop-append_seam}
+use Rattle.iri_grammar.proofs.Common.{◌≡◌, ℕ, zero, suc, ◌+◌, ◌-◌, ◌<◌, ◌≤◌, Bool, true, false, cond, ◌&&◌, List, [], ◌∷◌, ◌++◌, length}
+use Rattle.iri_grammar.proofs.Common.{take, drop, ◌≢◌, refl, sym, ◌∙◌, ap, subst, arith, length-append, append-nil, ◌==◌, slice_index}
+use Rattle.iri_grammar.proofs.Common.{is_ascii_hexdigit, encode_utf8, chars, IsUtf8, is_utf8, both, eqb-true, nat_tests, length-drop}
+use Rattle.iri_grammar.proofs.Common.{take-add, take-append_seam, drop-append_seam, Tests, IsSpec, ascii_test, class_test, Class, over}
+use Rattle.iri_grammar.proofs.Common.{over_from, text_over, run_of, begins_with_triplet, AreUnits, HasNoUnit, lacks, is_empty}
+use Rattle.std.proofs.lemmas.Str.{chars-append, IsUtf8-append, IsUtf8-drop, IsUtf8-from_ascii, IsUtf8-from_is_utf8, IsUtf8-past_char}
+use Rattle.std.proofs.lemmas.Str.{IsUtf8-take, IsCharBoundary-from_drop, IsCharBoundary-from_take}
 use Rattle.std.proofs.lemmas.Str.Ascii.{IsAscii-cons, IsAscii-nil}
-use Rattle.iri_grammar.specs.Classes.{Tests, IsSpec}
-use Rattle.iri_grammar.specs.ClassTests.{ascii_test, class_test}
-use Rattle.iri_grammar.specs.declared.class.Class.{Class}
-use Rattle.iri_grammar.specs.Over.{over, over_from, text_over}
-use Rattle.iri_grammar.specs.Runs.{run_of}
-use Rattle.iri_grammar.specs.inside.Runs.{begins_with_triplet, AreUnits, HasNoUnit, LacksNearUnit}
+use Rattle.iri_grammar.specs.inside.Runs.{LacksNearUnit}
 use Rattle.iri_grammar.proofs.AuthorityTexts.{text_over-utf8}
 use Rattle.iri_grammar.proofs.CutLaws.{by_test, all-lacks, lacks-append, test_apart}
-use Rattle.iri_grammar.specs.Cut.{lacks}
 use Rattle.iri_grammar.proofs.ClassLaws.{no_percent}
 use Rattle.iri_grammar.proofs.CutBytes.{encode-lacks}
 use Rattle.iri_grammar.proofs.PlainTails.{plain-over, run-all}
-use Rattle.iri_grammar.proofs.Units.{ascii_prefix, char_past, char_stops, hex_is_ascii, none-over, nothing_left, nothing_more, of_text, run_of_le}
-use Rattle.iri_grammar.proofs.Units.{triplet_past}
+use Rattle.iri_grammar.proofs.Units.{ascii_prefix, char_past, char_stops, hex_is_ascii, none-over, nothing_left, nothing_more, of_text}
+use Rattle.iri_grammar.proofs.Units.{run_of_le, triplet_past}
 use Rattle.iri_grammar.proofs.TextParts.{rest-text}
-use Rattle.iri_grammar.specs.Parts.{is_empty}
 
 -- ---- units decide nothing: what follows them decides as the whole does
 over-past : (p : ℕ → Bool) (n : ℕ) (xs ys : List ℕ) → over_from p n xs ≡ true → over_from p n (xs ++ ys) ≡ over p ys

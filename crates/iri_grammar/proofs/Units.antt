@@ -1,20 +1,14 @@
 -- The first unit of a text over a class, and a run of ASCII characters at its start.
-use Rattle.std.proofs.Common.{◌≡◌, ℕ, suc, ◌<◌, ◌≤◌, ◌≢◌, Bool, true, false, cond, ◌&&◌, List, [], ◌∷◌, ◌++◌, length, drop, refl, sym, ◌∙◌}
-use Rattle.std.proofs.Common.{ap, subst, inl, inr, arith, length-append}
-use Rattle.std.specs.Prelude.{◌==◌}
-use Rattle.std.specs.Char.{is_ascii_hexdigit, encode_utf8}
-use Rattle.std.specs.Str.{chars, IsUtf8}
+use Rattle.iri_grammar.proofs.Common.{◌≡◌, ℕ, suc, ◌<◌, ◌≤◌, ◌≢◌, Bool, true, false, cond, ◌&&◌, List, [], ◌∷◌, ◌++◌, length, drop, refl}
+use Rattle.iri_grammar.proofs.Common.{sym, ◌∙◌, ap, subst, inl, inr, arith, length-append, ◌==◌, is_ascii_hexdigit, encode_utf8, chars}
+use Rattle.iri_grammar.proofs.Common.{IsUtf8, cases_lt, cases_eq, both, eqb-true, nat_tests, is_utf8-from_IsUtf8, and-false, tail, over}
+use Rattle.iri_grammar.proofs.Common.{over_from, text_over, run_of, is_empty, begins_with_triplet, HasNoUnit}
 use lib.Utf8.{encodes}
-use Rattle.std.proofs.lemmas.Bool.{cases_lt, cases_eq, and_parts as both, and_left, and_right, eqb-true}
-use Rattle.std.proofs.lemmas.Bool.Decides.{nat_tests}
+use Rattle.std.proofs.lemmas.Bool.{and_left, and_right}
 use Rattle.std.proofs.lemmas.Str.{chars_past_char, chars-nil, chars_from_encodes, encode_ascii, IsUtf8-past_char, byte_from_char}
-use Rattle.std.proofs.lemmas.Str.{is_utf8-from_IsUtf8, encodes-chars, chars-append, length-encode, len_utf8_bounds}
-use Rattle.std.proofs.Math.Bool.{and-false, and_assoc}
-use Rattle.iri_grammar.specs.Cut.{tail}
-use Rattle.iri_grammar.specs.Over.{over, over_from, text_over}
-use Rattle.iri_grammar.specs.Runs.{run_of}
-use Rattle.iri_grammar.specs.Parts.{is_empty}
-use Rattle.iri_grammar.specs.inside.Runs.{begins_with_digit, begins_with_triplet, first_passes, HasNoUnit}
+use Rattle.std.proofs.lemmas.Str.{encodes-chars, chars-append, length-encode, len_utf8_bounds}
+use Rattle.std.proofs.Math.Bool.{and_assoc}
+use Rattle.iri_grammar.specs.inside.Runs.{begins_with_digit, first_passes}
 
 -- an ASCII byte is a character
 pub ascii_prefix : (b : ℕ) (bs : List ℕ) → b < 128 → b ∷ bs ≡ encode_utf8 b ++ bs

@@ -1,17 +1,11 @@
 -- What is in a production of URIs is in the same production of every spec, so of IRIs.
-use Rattle.std.proofs.Common.{◌≡◌, ℕ, zero, suc, Bool, true, false, cond, ◌&&◌, ◌||◌, List, [], ◌∷◌, Option, Some, None, refl}
-use Rattle.std.specs.Prelude.{◌==◌}
-use Rattle.std.specs.Char.{is_ascii_hexdigit}
-use Rattle.std.specs.Str.{chars, is_utf8}
+use Rattle.iri_grammar.proofs.Common.{◌≡◌, ℕ, zero, suc, Bool, true, false, cond, ◌&&◌, ◌||◌, List, [], ◌∷◌, Option, Some, None, refl, ◌==◌}
+use Rattle.iri_grammar.proofs.Common.{is_ascii_hexdigit, chars, is_utf8, over_from, over, text_over, is_ip_literal, is_host, is_reg_name}
+use Rattle.iri_grammar.proofs.Common.{authority_parts, is_authority, Parts, Fits, Splits, IsReference, IsIri, IsAbsolute, IsRelative}
 use Rattle.iri_grammar.specs.Classes.{Tests, uri_tests, userinfo_char, reg_name_char, pchar, path_char, query_char, fragment_char}
 use Rattle.iri_grammar.specs.Classes.{is_ascii_userinfo, is_ascii_reg_name, is_ascii_pchar, is_ascii_path, is_ascii_query}
-use Rattle.iri_grammar.specs.Over.{over_from, over, text_over}
 use Rattle.iri_grammar.specs.Components.{if_there, is_userinfo, is_path, is_path_segment, is_query, is_fragment}
-use Rattle.iri_grammar.specs.IpLiteral.{is_ip_literal}
-use Rattle.iri_grammar.specs.Host.{is_host, is_reg_name}
-use Rattle.iri_grammar.specs.Authority.{authority_parts, is_authority}
 use Rattle.iri_grammar.proofs.CutLaws.{both}
-use Rattle.iri_grammar.specs.Parts.{Parts, Fits, Splits, IsReference, IsIri, IsAbsolute, IsRelative}
 
 -- ---- texts over a larger class
 over_from-weaken : (p q : ℕ → Bool) → ((c : ℕ) → p c ≡ true → q c ≡ true) → (due : ℕ) (cs : List ℕ) → over_from p due cs ≡ true

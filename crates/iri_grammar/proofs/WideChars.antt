@@ -1,19 +1,14 @@
 -- Characters past ASCII, told from their bytes.
-use Rattle.std.proofs.Common.{◌≡◌, ℕ, ◌+◌, ◌-◌, ◌<◌, ◌≤◌, true, List, [], ◌∷◌, ◌++◌, take, drop, length}
-use Rattle.std.proofs.Common.{refl, sym, ◌∙◌, ap, subst, arith, append-nil, inl, inr}
-use Rattle.std.specs.Prelude.{◌/◌, ◌*◌, ◌%◌, slice_index}
+use Rattle.iri_grammar.proofs.Common.{◌≡◌, ℕ, ◌+◌, ◌-◌, ◌<◌, ◌≤◌, true, List, [], ◌∷◌, ◌++◌, take, drop, length, refl, sym, ◌∙◌, ap, subst}
+use Rattle.iri_grammar.proofs.Common.{arith, append-nil, inl, inr, ◌/◌, ◌*◌, slice_index, cases_lt, nat_tests, IsUtf8, Tests, IsSpec}
+use Rattle.iri_grammar.proofs.Common.{class_test, lacks, Class, Unreserved, RegName, Userinfo, Pchar, Path, Query, Fragment, Any, AreUnits}
+use Rattle.std.proofs.Common.{◌%◌}
 use Rattle.std.specs.Int.{is_in_range}
-use Rattle.std.proofs.lemmas.Bool.{cases_lt, lt-ltb, le-ltb}
-use Rattle.std.proofs.lemmas.Bool.Decides.{nat_tests}
-use Rattle.std.specs.Str.{IsUtf8}
+use Rattle.std.proofs.lemmas.Bool.{lt-ltb, le-ltb}
 use Rattle.std.proofs.lemmas.Str.{IsUtf8-encode}
 use lib.Utf8.{encode, next, scalar}
-use Rattle.iri_grammar.specs.Classes.{Tests, IsSpec, HasFirstUcschars}
-use Rattle.iri_grammar.specs.ClassTests.{class_test}
-use Rattle.iri_grammar.specs.Cut.{lacks}
-use Rattle.iri_grammar.specs.declared.class.Class.{Class}
-use Rattle.iri_grammar.specs.declared.class.Class.TheVariants.{Unreserved, RegName, Userinfo, Pchar, Path, Query, Fragment, Any}
-use Rattle.iri_grammar.specs.inside.Runs.{begins_with_more, AreUnits, BeginsWide}
+use Rattle.iri_grammar.specs.Classes.{HasFirstUcschars}
+use Rattle.iri_grammar.specs.inside.Runs.{begins_with_more, BeginsWide}
 use Rattle.iri_grammar.proofs.ClassLaws.{class_past_ascii, class_has_no_percent}
 use Rattle.iri_grammar.proofs.UnitRuns.{char_units, char_lacks}
 

@@ -1,17 +1,10 @@
 -- What is answered of bytes, from what is answered of a text.
-use Rattle.std.proofs.Common.{◌≡◌, ℕ, List, cond, Some, Result, Ok, Err, sym, ap, ◌∙◌, subst}
-use Rattle.std.specs.Prelude.{MatchResult}
-use Rattle.std.specs.Str.{is_utf8, IsUtf8}
+use Rattle.iri_link.proofs.Common.{◌≡◌, ℕ, List, cond, Some, Result, Ok, Err, sym, ap, ◌∙◌, subst, MatchResult, is_utf8, IsUtf8}
+use Rattle.iri_link.proofs.Common.{false_from_ne_true, is_utf8-from_IsUtf8, IsUtf8-from_is_utf8, Tests, field_fault, place_in, fault_from}
+use Rattle.iri_link.proofs.Common.{LinkValue, HasLinks, before_link, IsRead}
 use Rattle.std.specs.Str.Lossy.{utf8_valid_len}
-use Rattle.std.proofs.lemmas.Bool.{false_from_ne_true}
-use Rattle.std.proofs.lemmas.Str.{is_utf8-from_IsUtf8, IsUtf8-from_is_utf8}
-use Rattle.iri_grammar.specs.Classes.{Tests}
-use Rattle.iri_link.specs.Fault.{Told, field_fault, place_in, fault_from}
-use Rattle.iri_link.specs.Field.{LinkValue}
-use Rattle.iri_link.specs.Links.{HasLinks}
-use Rattle.iri_link.specs.Phases.{before_link}
+use Rattle.iri_link.specs.Fault.{Told}
 use Rattle.iri_link.specs.Refusals.{RefusedBy}
-use Rattle.iri_link.specs.Resolved.{IsRead}
 use Rattle.iri_link.specs.inside.Halts.{IsTold}
 use Rattle.iri_link.specs.inside.ReadLinks.{ReadsField}
 use Rattle.iri_link.specs.declared.error.LinkError.{LinkError}

@@ -1,11 +1,9 @@
 -- The written form of a value, from delimiter to delimiter.
-use Rattle.std.proofs.Common.{◌≡◌, ℕ, zero, suc, ◌+◌, ◌-◌, ◌<◌, Bool, true, false, cond, List, [], ◌∷◌, ◌++◌, Option, Some, None, length, take, drop, refl, ap, ◌∙◌, arith}
+use Rattle.iri_link.proofs.Common.{◌≡◌, ℕ, zero, suc, ◌+◌, ◌-◌, ◌<◌, Bool, true, false, cond, List, [], ◌∷◌, ◌++◌, Option, Some, None}
+use Rattle.iri_link.proofs.Common.{length, take, drop, refl, ap, ◌∙◌, arith, drop-cons, false_from_ne_true, escaped}
 use Rattle.std.specs.Prelude.{◌==◌, ◌||◌, slice_index, slice_range, MatchOption}
 use Rattle.std.proofs.lemmas.Grind.{common_steps}
-use Rattle.std.proofs.Math.Seq.{drop-cons}
-use Rattle.std.proofs.lemmas.Bool.{false_from_ne_true}
 use Rattle.memchr.specs.Find.{IsFirstByte, is_byte2}
-use Rattle.iri_link.specs.Written.{escaped}
 use Rattle.iri_link.specs.inside.CutDelimiters.{IsDelimiterAt, IsCutAtDelimiter}
 
 -- a `"` or a `\`

@@ -1,25 +1,17 @@
 -- A text without a fault is a field value: that of the link-values that a reading gives.
-use Rattle.std.proofs.Common.{◌≡◌, ℕ, Bool, true, false, cond, ◌&&◌, List, [], ◌∷◌, ◌++◌, Option, Some, None, ◌⊎◌, inl, inr, refl, sym, ap, ◌∙◌, subst, append_assoc}
-use Rattle.std.specs.Prelude.{◌==◌}
-use Rattle.std.specs.List.{list_all, All}
-use Rattle.std.specs.Str.{str_to_ascii_lowercase, is_utf8}
+use Rattle.iri_link.proofs.Common.{◌≡◌, ℕ, Bool, true, false, cond, ◌&&◌, List, [], ◌∷◌, ◌++◌, Option, Some, None, inl, inr, refl, sym, ap}
+use Rattle.iri_link.proofs.Common.{◌∙◌, subst, append_assoc, ◌==◌, list_all, All, str_to_ascii_lowercase, is_utf8, append-nil, All-cons}
+use Rattle.iri_link.proofs.Common.{All-nil, IsUtf8-from_is_utf8, Tests, before, lacks, reference_fault, both, by_test, is_blank}
+use Rattle.iri_link.proofs.Common.{is_pair_char, is_plain_char, is_blanks, is_token_char, is_token, IsQuoted, done, plain, pair, LinkParam}
+use Rattle.iri_link.proofs.Common.{LinkValue, IsValue, token, quoted, IsParam, bare, valued, IsParams, none, empty, param, IsLink, link}
+use Rattle.iri_link.proofs.Common.{IsElement, no_element, element, IsField, last, more_elements, HasReference, HasLinks, before_link}
+use Rattle.iri_link.proofs.Common.{in_target, after_param, after_semicolon, in_name, after_name, after_equals, in_token, in_quoted}
+use Rattle.std.proofs.Common.{◌⊎◌}
 use Rattle.std.specs.Str.Lossy.{utf8_valid_len}
-use Rattle.std.proofs.lemmas.List.{append-nil}
-use Rattle.std.proofs.lemmas.List.Elements.{All-cons, All-nil}
-use Rattle.std.proofs.lemmas.Str.{IsUtf8-from_is_utf8}
-use Rattle.iri_grammar.specs.Classes.{Tests}
-use Rattle.iri_grammar.specs.Cut.{before, lacks}
-use Rattle.iri_grammar.specs.WholeFault.{reference_fault}
 use Rattle.iri_grammar.specs.declared.error.ErrorKind.{ErrorKind}
-use Rattle.std.proofs.lemmas.Bool.{and_parts as both}
-use Rattle.iri_grammar.proofs.CutLaws.{by_test, before-delimited, lacks-other}
-use Rattle.iri_grammar.specs.Blanks.{is_blank}
-use Rattle.iri_link.specs.Token.{is_pair_char, is_plain_char, is_blanks, is_token_char, is_token, IsQuoted, done, plain, pair}
-use Rattle.iri_link.specs.Field.{LinkParam, LinkValue, IsValue, token, quoted, IsParam, bare, valued, IsParams, none, empty, param}
-use Rattle.iri_link.specs.Field.{IsLink, link, IsElement, empty as no_element, link as element, IsField, last, more as more_elements}
+use Rattle.iri_grammar.proofs.CutLaws.{before-delimited, lacks-other}
 use Rattle.iri_link.specs.Fault.{Fault, fault_from, closes_from, target_fault, told_target, earlier, place_in, field_fault}
-use Rattle.iri_link.specs.Links.{HasReference, HasLinks}
-use Rattle.iri_link.specs.Phases.{before_link, in_target, after_param, after_semicolon, in_name, after_name, after_equals, in_token, in_quoted, in_pair}
+use Rattle.iri_link.specs.Phases.{in_pair}
 use Rattle.iri_link.specs.declared.error.LinkKind.TheVariants.{NotUtf8, NoTarget, OpenTarget, NoParam, NoValue, OpenString}
 use Rattle.iri_link.proofs.OneListLemmas.{name_stops, semicolon-name as semicolon_read, equals-token as equals_read}
 use Rattle.iri_link.proofs.ParamLemmas.{no_param}

@@ -1,22 +1,15 @@
 -- What the link-values of a field value keep: names are tokens in lower case, values are texts that a quoted string can have.
-use Rattle.std.proofs.Common.{◌≡◌, ℕ, ◌+◌, ◌<◌, ◌≤◌, inl, inr, Bool, true, List, [], ◌∷◌, ◌++◌, Option, Some, None, map, refl, sym, ap, ◌∙◌, subst, arith, append_assoc}
+use Rattle.iri_link.proofs.Common.{◌≡◌, ℕ, ◌+◌, ◌<◌, ◌≤◌, inl, inr, Bool, true, List, [], ◌∷◌, ◌++◌, Option, Some, None, map, refl, sym, ap}
+use Rattle.iri_link.proofs.Common.{◌∙◌, subst, arith, append_assoc, list_all, All, str_to_ascii_lowercase, IsUtf8, both, cases_lt}
+use Rattle.iri_link.proofs.Common.{nat_tests, append-nil, IsUtf8-nil, delimited-utf8, All-append, All-nil, All-cons, is_blank, is_pair_char}
+use Rattle.iri_link.proofs.Common.{is_plain_char, is_blanks, is_token_char, is_token, IsQuoted, done, plain, pair, LinkParam, LinkValue}
+use Rattle.iri_link.proofs.Common.{IsValue, token, quoted, IsParam, bare, valued, IsParams, none, empty, param, IsLink, link, IsElement}
+use Rattle.iri_link.proofs.Common.{no_element, element, IsField, last, more}
 use Rattle.std.specs.Prelude.{⊤}
 use Rattle.std.specs.Char.{to_ascii_lowercase}
-use Rattle.std.specs.List.{list_all, All}
-use Rattle.std.specs.Str.{str_to_ascii_lowercase, IsUtf8}
-use Rattle.std.proofs.lemmas.Bool.{and_parts as both, cases_lt}
-use Rattle.std.proofs.lemmas.Bool.Decides.{nat_tests}
-use Rattle.std.proofs.lemmas.List.{append-nil}
-use Rattle.std.proofs.lemmas.Str.{IsUtf8-nil}
 use Rattle.std.proofs.lemmas.Str.Ascii.{lowercase-lowercase, lowercase_is}
-use Rattle.iri_grammar.proofs.AuthorityTexts.{delimited-utf8}
-use Rattle.std.proofs.lemmas.List.Elements.{All-append, All-nil, All-cons}
 use Rattle.iri_grammar.proofs.Delimiters.{text_after_delimiter, text_before_delimiter}
 use Rattle.iri_grammar.proofs.Units.{text_after_ascii}
-use Rattle.iri_grammar.specs.Blanks.{is_blank}
-use Rattle.iri_link.specs.Token.{is_pair_char, is_plain_char, is_blanks, is_token_char, is_token, IsQuoted, done, plain, pair}
-use Rattle.iri_link.specs.Field.{LinkParam, LinkValue, IsValue, token, quoted, IsParam, bare, valued, IsParams, none, empty, param}
-use Rattle.iri_link.specs.Field.{IsLink, link, IsElement, empty as no_element, link as element, IsField, last, more}
 use Rattle.iri_link.proofs.RunLemmas.{blank-low, token-low}
 use Rattle.iri_link.proofs.Utf8Lemmas.{value-utf8}
 

@@ -1,3 +1,4 @@
+mod Common
 pub mod RunLemmas
 pub mod PhaseLemmas
 pub mod QuotedLemmas

@@ -1,33 +1,20 @@
 -- Link-values, read one after the other.
-use Rattle.std.proofs.Common.{◌≡◌, ℕ, suc, true, false, List, [], ◌∷◌, ◌++◌, Option, Some, None, length, map, refl, sym, ap, ◌∙◌, subst, arith, append_assoc}
-use Rattle.std.specs.Prelude.{◌==◌, ◌||◌, MatchOption, MatchResult, Result, Ok, Err}
-use Rattle.std.specs.List.{list_all}
+use Rattle.iri_link.proofs.Common.{◌≡◌, ℕ, suc, true, false, List, [], ◌∷◌, ◌++◌, Option, Some, None, length, map, refl, sym, ap, ◌∙◌}
+use Rattle.iri_link.proofs.Common.{subst, arith, append_assoc, ◌==◌, ◌||◌, MatchResult, Result, Ok, Err, list_all, both, eqb-true, now_of}
+use Rattle.iri_link.proofs.Common.{append-nil, map-append, All-append, All-nil, All-cons, Tests, before, after, delimited, reference_fault}
+use Rattle.iri_link.proofs.Common.{is_blank, is_blanks, LinkParam, LinkValue, IsLink, link, IsElement, empty, element, IsField, last, more}
+use Rattle.iri_link.proofs.Common.{before_link, in_target, after_param, next, fault_from, target_fault, earlier, first_passes, IsRun}
+use Rattle.iri_link.proofs.Common.{ends_link, ReadsParams, HasReference, resolved}
+use Rattle.std.specs.Prelude.{MatchOption}
 use denote.Bor.{Bor}
-use Rattle.std.proofs.lemmas.Bool.{and_parts as both, eqb-true}
-use Rattle.iri_grammar.specs.OptionalSlices.{now_of}
 use Rattle.iri_link.specs.declared.halt.Halt.{Halt}
 use Rattle.iri_link.specs.declared.halt.Halt.TheVariants.{Fault as Halted, Memory}
-use Rattle.std.proofs.lemmas.List.{append-nil, map-append}
-use Rattle.std.proofs.lemmas.List.Elements.{All-append, All-nil, All-cons}
-use Rattle.iri_grammar.specs.Classes.{Tests}
-use Rattle.iri_grammar.specs.Cut.{before, after, delimited}
 use Rattle.iri_grammar.proofs.CutLaws.{joined}
 use Rattle.iri_grammar.proofs.Scans.{before-lacks}
-use Rattle.iri_grammar.specs.WholeFault.{reference_fault}
 use Rattle.iri_grammar.specs.declared.error.Error.{Error}
 use Rattle.iri_normal.specs.NormalForm.{canonical}
-use Rattle.iri_grammar.specs.Blanks.{is_blank}
-use Rattle.iri_link.specs.Token.{is_blanks}
-use Rattle.iri_link.specs.Field.{LinkParam, LinkValue, IsLink, link, IsElement, empty, link as element, IsField, last, more}
-use Rattle.iri_link.specs.Phases.{before_link, in_target, after_param, next}
-use Rattle.iri_link.specs.Fault.{fault_from, target_fault, earlier}
-use Rattle.iri_grammar.specs.inside.Runs.{first_passes}
-use Rattle.iri_link.specs.inside.Runs.{IsRun}
-use Rattle.iri_link.specs.inside.ReadParams.{ends_link, ReadsParams}
 use Rattle.iri_link.specs.inside.Halts.{HaltsAt, HaltsIn}
-use Rattle.iri_link.specs.Links.{HasReference}
 use Rattle.iri_link.specs.Refusals.{KeepsTarget}
-use Rattle.iri_link.specs.Resolved.{resolved}
 use Rattle.iri_link.specs.inside.ReadLinks.{CutsTarget, ReadsLink, SkipsEmpty, AddsLink, ReadsField, ReadsUpTo, fault_after, KeepsAfter}
 use Rattle.iri_link.specs.declared.error.LinkKind.TheVariants.{NoTarget, OpenTarget, BadTarget}
 use Rattle.iri_link.proofs.PhaseLemmas.{by_blank, start-blanks}

@@ -1,23 +1,15 @@
 -- Field values as the grammar has them have no fault.
-use Rattle.std.proofs.Common.{◌≡◌, ℕ, true, false, not, ◌&&◌, List, [], ◌∷◌, ◌++◌, Option, None, refl, sym, ap, ◌∙◌, subst, append_assoc}
-use Rattle.std.specs.Prelude.{◌==◌}
-use Rattle.std.specs.List.{list_all, All}
-use Rattle.std.proofs.lemmas.Str.{is_utf8-from_IsUtf8}
-use Rattle.std.proofs.lemmas.List.{append-nil}
-use Rattle.std.proofs.lemmas.List.Elements.{All-head, All-tail, All-cons, All-nil}
-use Rattle.iri_grammar.specs.Classes.{Tests}
-use Rattle.std.proofs.lemmas.Bool.{and_parts as both}
-use Rattle.iri_grammar.proofs.CutLaws.{test_apart}
-use Rattle.iri_grammar.specs.Blanks.{is_blank}
-use Rattle.iri_link.specs.Token.{is_pair_char, is_plain_char, is_blanks, is_token_char, IsQuoted, done, plain, pair}
-use Rattle.iri_link.specs.Field.{LinkParam, LinkValue, IsValue, token, quoted, IsParam, bare, valued, IsParams, none, empty, param}
-use Rattle.iri_link.specs.Field.{IsLink, link, IsElement, empty as no_element, link as element, IsField, last, more}
-use Rattle.iri_link.specs.Links.{HasReference, HasLinks}
-use Rattle.iri_link.specs.Phases.{before_link, after_param, after_semicolon, in_name, after_name, after_equals, in_quoted}
-use Rattle.iri_link.specs.Fault.{Fault, fault_from, closes_from, place_in, field_fault}
-use Rattle.iri_grammar.specs.inside.Runs.{first_passes}
+use Rattle.iri_link.proofs.Common.{◌≡◌, ℕ, true, false, not, ◌&&◌, List, [], ◌∷◌, ◌++◌, Option, None, refl, sym, ap, ◌∙◌, subst}
+use Rattle.iri_link.proofs.Common.{append_assoc, ◌==◌, list_all, All, is_utf8-from_IsUtf8, append-nil, All-head, All-tail, All-cons}
+use Rattle.iri_link.proofs.Common.{All-nil, Tests, both, test_apart, is_blank, is_pair_char, is_plain_char, is_blanks, is_token_char}
+use Rattle.iri_link.proofs.Common.{IsQuoted, done, plain, pair, LinkParam, LinkValue, IsValue, token, quoted, IsParam, bare, valued}
+use Rattle.iri_link.proofs.Common.{IsParams, none, empty, param, IsLink, link, IsElement, no_element, element, IsField, last, more}
+use Rattle.iri_link.proofs.Common.{HasReference, HasLinks, before_link, after_param, after_semicolon, in_name, after_name, after_equals}
+use Rattle.iri_link.proofs.Common.{in_quoted, fault_from, closes_from, place_in, field_fault, first_passes}
+use Rattle.iri_link.specs.Fault.{Fault}
 use Rattle.iri_link.proofs.TargetLemmas.{closed_goes}
-use Rattle.iri_link.proofs.PhaseLemmas.{equals-token, token-run, token-ends, by_blank, start-blanks, ready-blanks, semicolon-blanks, semicolon-name, equals-blanks, named-blanks, name-equals, name-run, name-ends}
+use Rattle.iri_link.proofs.PhaseLemmas.{equals-token, token-run, token-ends, by_blank, start-blanks, ready-blanks, semicolon-blanks}
+use Rattle.iri_link.proofs.PhaseLemmas.{semicolon-name, equals-blanks, named-blanks, name-equals, name-run, name-ends}
 
 pub quoted_closes : (s : Tests) (t v z : List ℕ) → IsQuoted t v → (closes_from false (t ++ 34 ∷ z) ≡ true) × (fault_from s in_quoted (t ++ 34 ∷ z) ≡ fault_from s after_param z)
 unfolding closes_from fault_from

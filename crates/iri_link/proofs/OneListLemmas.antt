@@ -1,18 +1,10 @@
 -- A field value has one list of link-values: the one that a reading gives.
-use Rattle.std.proofs.Common.{◌≡◌, ℕ, true, false, cond, not, List, [], ◌∷◌, ◌++◌, Option, Some, None, refl, sym, ap, ◌∙◌, subst, append_assoc}
-use Rattle.std.specs.Prelude.{◌==◌, ◌||◌}
-use Rattle.std.specs.List.{list_all}
-use Rattle.std.specs.Str.{str_to_ascii_lowercase}
-use Rattle.std.proofs.lemmas.List.{append-nil}
-use Rattle.iri_grammar.specs.Cut.{lacks}
-use Rattle.std.proofs.lemmas.Bool.{and_parts as both}
-use Rattle.iri_grammar.proofs.CutLaws.{by_test, test_apart}
-use Rattle.iri_grammar.specs.Blanks.{is_blank}
-use Rattle.iri_link.specs.Token.{is_plain_char, is_blanks, is_token_char, is_token, IsQuoted, done, plain, pair}
-use Rattle.iri_link.specs.Field.{LinkParam, LinkValue, IsValue, token, quoted, IsParam, bare, valued, IsParams, none, empty, param}
-use Rattle.iri_link.specs.Field.{IsLink, link, IsElement, empty as no_element, link as element, IsField, last, more as more_elements}
-use Rattle.iri_link.specs.Phases.{before_link, in_target, after_param, after_semicolon, in_name, after_name, after_equals, in_token, in_quoted}
-use Rattle.iri_grammar.specs.inside.Runs.{first_passes}
+use Rattle.iri_link.proofs.Common.{◌≡◌, ℕ, true, false, cond, not, List, [], ◌∷◌, ◌++◌, Option, Some, None, refl, sym, ap, ◌∙◌, subst}
+use Rattle.iri_link.proofs.Common.{append_assoc, ◌==◌, ◌||◌, list_all, str_to_ascii_lowercase, append-nil, lacks, both, by_test, test_apart}
+use Rattle.iri_link.proofs.Common.{is_blank, is_plain_char, is_blanks, is_token_char, is_token, IsQuoted, done, plain, pair, LinkParam}
+use Rattle.iri_link.proofs.Common.{LinkValue, IsValue, token, quoted, IsParam, bare, valued, IsParams, none, empty, param, IsLink, link}
+use Rattle.iri_link.proofs.Common.{IsElement, no_element, element, IsField, last, more_elements, before_link, in_target, after_param}
+use Rattle.iri_link.proofs.Common.{after_semicolon, in_name, after_name, after_equals, in_token, in_quoted, first_passes}
 use Rattle.iri_link.proofs.NoFaultLemmas.{blank_no_token, element_parts}
 use Rattle.iri_link.proofs.PhaseLemmas.{by_blank}
 use Rattle.iri_link.specs.Readings.{Reading, of_params, of_links, more, param_end, reading, links_in, name_end, of_value}

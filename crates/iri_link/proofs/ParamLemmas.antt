@@ -1,22 +1,14 @@
 -- Parameters, read piece by piece.
-use Rattle.std.proofs.Common.{◌≡◌, ℕ, true, false, List, [], ◌∷◌, ◌++◌, Option, Some, None, refl, sym, ap, ◌∙◌, subst, append_assoc}
-use Rattle.std.specs.Prelude.{◌==◌}
-use Rattle.std.specs.Str.{str_to_ascii_lowercase}
-use Rattle.std.proofs.lemmas.List.{append-nil}
-use Rattle.iri_grammar.specs.Classes.{Tests}
-use Rattle.iri_grammar.proofs.CutLaws.{by_test}
-use Rattle.iri_grammar.specs.Blanks.{is_blank}
-use Rattle.iri_link.specs.Token.{is_token_char, is_token}
-use Rattle.iri_link.specs.Field.{LinkParam, bare, valued, IsParams, none, empty, param}
-use Rattle.iri_link.specs.Phases.{Phase, after_param, after_semicolon, in_name, after_name, after_equals}
-use Rattle.iri_link.specs.Fault.{fault_from}
-use Rattle.iri_grammar.specs.inside.Runs.{first_passes}
-use Rattle.iri_link.specs.inside.Runs.{IsRun}
-use Rattle.iri_link.specs.inside.ReadParams.{ends_link, ReadsValue, ReadsEquals, ReadsParam, AddsParam, ReadsSome, ReadsParams}
+use Rattle.iri_link.proofs.Common.{◌≡◌, ℕ, true, false, List, [], ◌∷◌, ◌++◌, Option, Some, None, refl, sym, ap, ◌∙◌, subst, append_assoc}
+use Rattle.iri_link.proofs.Common.{◌==◌, str_to_ascii_lowercase, append-nil, Tests, by_test, is_blank, is_token_char, is_token, LinkParam}
+use Rattle.iri_link.proofs.Common.{bare, valued, IsParams, none, empty, param, Phase, after_param, after_semicolon, in_name, after_name}
+use Rattle.iri_link.proofs.Common.{after_equals, fault_from, first_passes, IsRun, ends_link, ReadsValue, ReadsSome, ReadsParams}
+use Rattle.iri_link.specs.inside.ReadParams.{ReadsEquals, ReadsParam, AddsParam}
 use Rattle.iri_link.specs.inside.Halts.{HaltsAt}
 use Rattle.iri_link.specs.declared.error.LinkKind.TheVariants.{NoParam}
 use Rattle.iri_link.specs.declared.halt.Halt.{Halt}
-use Rattle.iri_link.proofs.PhaseLemmas.{ready-blanks, semicolon-blanks, named-blanks, equals-blanks, name-run, name-equals, semicolon-name, name-ends, named-ends}
+use Rattle.iri_link.proofs.PhaseLemmas.{ready-blanks, semicolon-blanks, named-blanks, equals-blanks, name-run, name-equals, semicolon-name}
+use Rattle.iri_link.proofs.PhaseLemmas.{name-ends, named-ends}
 
 -- ---- `=`
 pub equals_read : (t a next following b rest : List ℕ) → IsRun is_blank t a next → next ≡ 61 ∷ following → IsRun is_blank following b rest → ReadsEquals t rest

@@ -1,15 +1,8 @@
 -- How a reading of a field value goes on over runs.
-use Rattle.std.proofs.Common.{◌≡◌, ℕ, Bool, true, false, List, [], ◌∷◌, ◌++◌, None, refl, sym, ◌∙◌, ap, subst}
-use Rattle.std.specs.Prelude.{◌==◌, ◌||◌}
-use Rattle.std.specs.List.{list_all}
-use Rattle.iri_grammar.specs.Classes.{Tests}
-use Rattle.std.proofs.lemmas.Bool.{and_parts as both}
-use Rattle.iri_grammar.proofs.CutLaws.{by_test, test_apart}
-use Rattle.iri_grammar.specs.Blanks.{is_blank}
-use Rattle.iri_link.specs.Token.{is_token_char}
-use Rattle.iri_link.specs.Phases.{Phase, before_link, after_param, after_semicolon, in_name, after_name, after_equals, in_token, next}
-use Rattle.iri_link.specs.Fault.{fault_from, wrong, earlier}
-use Rattle.iri_grammar.specs.inside.Runs.{first_passes}
+use Rattle.iri_link.proofs.Common.{◌≡◌, ℕ, Bool, true, false, List, [], ◌∷◌, ◌++◌, None, refl, sym, ◌∙◌, ap, subst, ◌==◌, ◌||◌, list_all}
+use Rattle.iri_link.proofs.Common.{Tests, both, by_test, test_apart, is_blank, is_token_char, Phase, before_link, after_param}
+use Rattle.iri_link.proofs.Common.{after_semicolon, in_name, after_name, after_equals, in_token, next, fault_from, earlier, first_passes}
+use Rattle.iri_link.specs.Fault.{wrong}
 
 -- bytes that are right and leave the phase as it is
 pub runs-on : (s : Tests) (p : Phase) (q : ℕ → Bool) → ((c : ℕ) (cs : List ℕ) → q c ≡ true → (wrong s p c cs ≡ None) × (next p c ≡ p))

@@ -1,17 +1,9 @@
 -- The end and the value of a quoted string.
-use Rattle.std.proofs.Common.{◌≡◌, ℕ, suc, ◌<◌, ◌≤◌, ◌+◌, Bool, true, false, cond, not, ◌&&◌, List, [], ◌∷◌, ◌++◌, Option, Some, None, length, take, drop, get_or, refl, sym, ◌∙◌, ap, subst, arith}
-use Rattle.std.proofs.Math.Seq.{drop-cons}
-use Rattle.std.proofs.lemmas.List.{drop_all}
-use Rattle.std.specs.Prelude.{◌==◌, slice_index}
-use Rattle.iri_grammar.specs.Classes.{Tests}
-use Rattle.iri_grammar.specs.Cut.{before, after}
-use Rattle.std.proofs.lemmas.Bool.{and_parts as both}
-use Rattle.iri_grammar.proofs.CutLaws.{by_test}
-use Rattle.iri_link.specs.Token.{is_pair_char, is_plain_char, IsQuoted, done, plain, pair}
-use Rattle.iri_link.specs.Phases.{Phase, in_quoted, in_pair as escape, after_param}
-use Rattle.iri_link.specs.Fault.{closes_from, fault_from}
-use Rattle.iri_link.specs.inside.ReadQuoted.{quoted_len, unquoted, unquoted_from}
-use Rattle.iri_grammar.specs.inside.Runs.{first_passes}
+use Rattle.iri_link.proofs.Common.{◌≡◌, ℕ, suc, ◌<◌, ◌≤◌, ◌+◌, Bool, true, false, cond, not, ◌&&◌, List, [], ◌∷◌, ◌++◌, Option, Some, None}
+use Rattle.iri_link.proofs.Common.{length, take, drop, get_or, refl, sym, ◌∙◌, ap, subst, arith, drop-cons, drop_all, ◌==◌, slice_index}
+use Rattle.iri_link.proofs.Common.{Tests, before, after, both, by_test, is_pair_char, is_plain_char, IsQuoted, done, plain, pair, Phase}
+use Rattle.iri_link.proofs.Common.{in_quoted, after_param, closes_from, fault_from, quoted_len, unquoted, unquoted_from, first_passes}
+use Rattle.iri_link.specs.Phases.{in_pair as escape}
 
 -- ---- where it ends
 at_delimiter : (e : Bool) (c : ℕ) (cs : List ℕ) → (not e && c == 34) ≡ true → (closes_from e (c ∷ cs) ≡ true) × (quoted_len e (c ∷ cs) ≡ 0)

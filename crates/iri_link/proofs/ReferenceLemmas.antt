@@ -1,12 +1,11 @@
 -- A URI-reference is a text, and has no `>`.
-use Rattle.std.proofs.Common.{◌≡◌, ℕ, true, false, List, [], ◌∷◌, Option, Some, None, refl, subst, arith}
-use Rattle.iri_grammar.specs.Classes.{Tests, IsSpec, userinfo_char, reg_name_char, path_char, query_char, fragment_char}
-use Rattle.iri_grammar.specs.Classes.{is_ascii_userinfo, is_ascii_reg_name, is_ascii_unreserved, is_sub_delim, is_ascii_path, is_ascii_pchar, is_ascii_query}
+use Rattle.iri_link.proofs.Common.{◌≡◌, ℕ, true, false, List, [], ◌∷◌, Option, Some, None, refl, subst, arith, Tests, IsSpec, lacks}
+use Rattle.iri_link.proofs.Common.{delimited, reference_fault}
+use Rattle.iri_grammar.specs.Classes.{userinfo_char, reg_name_char, path_char, query_char, fragment_char, is_ascii_userinfo}
+use Rattle.iri_grammar.specs.Classes.{is_ascii_reg_name, is_ascii_unreserved, is_sub_delim, is_ascii_path, is_ascii_pchar, is_ascii_query}
 use Rattle.iri_grammar.specs.Authority.{is_authority}
 use Rattle.iri_grammar.specs.Components.{if_there, is_fragment, is_query, is_scheme, is_scheme_char}
-use Rattle.iri_grammar.specs.Cut.{lacks, delimited}
 use Rattle.iri_grammar.specs.Parts.{Parts, Splits, recompose, scheme_text, authority_text}
-use Rattle.iri_grammar.specs.WholeFault.{reference_fault}
 use Rattle.iri_grammar.proofs.AuthorityTexts.{IsForeign, authority-lacks, over_text-lacks}
 use Rattle.iri_grammar.proofs.CutLaws.{lacks-append}
 use Rattle.iri_grammar.proofs.FaultLaws.{reference-law}

@@ -1,11 +1,7 @@
 -- How a reading of a field value goes over a target.
-use Rattle.std.proofs.Common.{◌≡◌, ℕ, true, false, cond, not, ◌&&◌, List, [], ◌∷◌, ◌++◌, Some, None, refl, sym, ap, ◌∙◌}
-use Rattle.iri_grammar.specs.Classes.{Tests}
-use Rattle.iri_grammar.specs.Cut.{before, after, lacks}
-use Rattle.iri_grammar.specs.WholeFault.{reference_fault}
+use Rattle.iri_link.proofs.Common.{◌≡◌, ℕ, true, false, cond, not, ◌&&◌, List, [], ◌∷◌, ◌++◌, Some, None, refl, sym, ap, ◌∙◌, Tests, before}
+use Rattle.iri_link.proofs.Common.{after, lacks, reference_fault, fault_from, target_fault, earlier, before_link, in_target, after_param}
 use Rattle.iri_grammar.proofs.CutLaws.{by_test, before-delimited, after-delimited}
-use Rattle.iri_link.specs.Fault.{fault_from, target_fault, earlier}
-use Rattle.iri_link.specs.Phases.{before_link, in_target, after_param}
 
 pub some-lacks : (c : ℕ) (t b : List ℕ) → Some b ≡ after c t → lacks c t ≡ false
 some-lacks c [] b h = cc

@@ -1,18 +1,11 @@
 -- The values of quoted strings, and their written form, are texts.
-use Rattle.std.proofs.Common.{◌≡◌, ℕ, ◌<◌, ◌≤◌, true, false, cond, not, List, [], ◌∷◌, ◌++◌, refl, sym, ap, ◌∙◌, subst, arith, inl, inr}
-use Rattle.std.specs.Prelude.{◌==◌, ◌||◌}
-use Rattle.std.specs.Str.{IsUtf8}
-use Rattle.std.proofs.lemmas.Bool.Decides.{nat_tests}
-use Rattle.std.proofs.lemmas.Bool.{and_parts as both, cases_lt, not-true}
-use Rattle.std.proofs.lemmas.List.{append-nil}
-use Rattle.std.proofs.lemmas.Str.{IsUtf8-append, IsUtf8-nil, IsUtf8-encode, encode_ascii}
+use Rattle.iri_link.proofs.Common.{◌≡◌, ℕ, ◌<◌, ◌≤◌, true, false, cond, not, List, [], ◌∷◌, ◌++◌, refl, sym, ap, ◌∙◌, subst, arith, inl}
+use Rattle.iri_link.proofs.Common.{inr, ◌==◌, ◌||◌, IsUtf8, nat_tests, both, cases_lt, append-nil, IsUtf8-append, IsUtf8-nil, lacks}
+use Rattle.iri_link.proofs.Common.{delimited-utf8, by_test, IsQuoted, done, plain, pair, escaped}
+use Rattle.std.proofs.lemmas.Bool.{not-true}
+use Rattle.std.proofs.lemmas.Str.{IsUtf8-encode, encode_ascii}
 use lib.Utf8.{encode, encodes, scalar, scalars}
-use Rattle.iri_grammar.specs.Cut.{lacks}
-use Rattle.iri_grammar.proofs.AuthorityTexts.{delimited-utf8}
 use Rattle.iri_grammar.proofs.CutBytes.{lacks-encodes}
-use Rattle.iri_grammar.proofs.CutLaws.{by_test}
-use Rattle.iri_link.specs.Token.{IsQuoted, done, plain, pair}
-use Rattle.iri_link.specs.Written.{escaped}
 
 -- ---- characters
 low_encoded : (x : ℕ) → x < 128 → encode x ≡ x ∷ []

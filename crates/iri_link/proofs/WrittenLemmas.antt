@@ -1,28 +1,19 @@
 -- The written form is read back.
-use Rattle.std.proofs.Common.{◌≡◌, ℕ, true, cond, List, [], ◌∷◌, ◌++◌, Option, Some, None, map, refl, sym, ap, ◌∙◌, subst, arith}
-use Rattle.std.specs.Prelude.{◌==◌, ◌||◌}
-use Rattle.std.specs.List.{list_all, All, flat_map}
-use Rattle.std.specs.Str.{str_to_ascii_lowercase, IsUtf8}
-use Rattle.std.proofs.lemmas.List.{append-nil}
-use Rattle.std.proofs.lemmas.List.Elements.{All-head, All-tail, All-cons, All-nil}
-use Rattle.std.proofs.lemmas.Str.{IsUtf8-append, IsUtf8-nil}
-use Rattle.iri_grammar.specs.Classes.{Tests, IsSpec}
-use Rattle.iri_grammar.specs.Cut.{lacks}
+use Rattle.iri_link.proofs.Common.{◌≡◌, ℕ, true, cond, List, [], ◌∷◌, ◌++◌, Option, Some, None, map, refl, sym, ap, ◌∙◌, subst, arith, ◌==◌}
+use Rattle.iri_link.proofs.Common.{◌||◌, list_all, All, flat_map, str_to_ascii_lowercase, IsUtf8, append-nil, All-head, All-tail, All-cons}
+use Rattle.iri_link.proofs.Common.{All-nil, IsUtf8-append, IsUtf8-nil, Tests, IsSpec, lacks, delimited-utf8, HasReference, HasLinks}
+use Rattle.iri_link.proofs.Common.{resolved, IsRead, both, by_test, is_pair_char, is_token, IsQuoted, done, plain, pair, LinkParam}
+use Rattle.iri_link.proofs.Common.{LinkValue, quoted, IsParam, bare, valued, IsParams, none, param, link, IsElement, empty, element}
+use Rattle.iri_link.proofs.Common.{IsField, last, more, escaped, written_param, written_link, written}
 use Rattle.iri_grammar.specs.Parts.{IsAbsolute}
-use Rattle.iri_grammar.proofs.AuthorityTexts.{delimited-utf8, one_byte-utf8}
+use Rattle.iri_grammar.proofs.AuthorityTexts.{one_byte-utf8}
 use Rattle.iri_grammar.proofs.FaultLaws.{reference-law, reference-utf8}
 use Rattle.iri_normal.specs.NormalForm.{canonical}
 use Rattle.iri_normal.proofs.CanonLaws.{canonical-iri, canonical-own}
-use Rattle.iri_link.specs.Links.{HasReference, HasLinks}
-use Rattle.iri_link.specs.Resolved.{resolved, IsRead}
 use Rattle.iri_link.proofs.OneListLemmas.{one_list}
 use Rattle.iri_link.proofs.ReferenceLemmas.{reference-closed}
 use Rattle.iri_link.proofs.Utf8Lemmas.{escaped-utf8}
-use Rattle.std.proofs.lemmas.Bool.{and_parts as both}
-use Rattle.iri_grammar.proofs.CutLaws.{by_test}
-use Rattle.iri_link.specs.Token.{is_pair_char, is_token, IsQuoted, done, plain, pair}
-use Rattle.iri_link.specs.Field.{LinkParam, LinkValue, quoted, IsParam, bare, valued, IsParams, none, param, link, IsElement, empty, link as element, IsField, last, more}
-use Rattle.iri_link.specs.Written.{escaped, written_value, written_param, written_link, written}
+use Rattle.iri_link.specs.Written.{written_value}
 use Rattle.iri_link.proofs.KeptLemmas.{IsKeptValue, IsKeptParam, HasKeptParams, token-utf8, field-kept}
 
 escaped_read : (v : List ℕ) → list_all is_pair_char v ≡ true → IsQuoted (escaped v) v

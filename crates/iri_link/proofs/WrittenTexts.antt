@@ -1,12 +1,8 @@
 -- The written form of link-values, put together from what is shown.
-use Rattle.std.proofs.Common.{◌≡◌, ℕ, suc, ◌+◌, ◌<◌, ◌≤◌, List, [], ◌∷◌, ◌++◌, length, get_or, drop, map, refl, sym, ap, ◌∙◌, append_assoc, arith}
-use Rattle.std.proofs.Math.Seq.{drop-cons}
-use Rattle.std.proofs.lemmas.List.{append-nil, drop_all}
-use Rattle.std.specs.List.{flat_map}
+use Rattle.iri_link.proofs.Common.{◌≡◌, ℕ, suc, ◌+◌, ◌<◌, ◌≤◌, List, [], ◌∷◌, ◌++◌, length, get_or, drop, map, refl, sym, ap, ◌∙◌}
+use Rattle.iri_link.proofs.Common.{append_assoc, arith, drop-cons, append-nil, drop_all, flat_map, LinkValue, param_of, link_of, links_of}
+use Rattle.iri_link.proofs.Common.{written_param, written_link, written}
 use Rattle.std.proofs.lemmas.List.Folds.{flat_map-map}
-use Rattle.iri_link.specs.Field.{LinkValue}
-use Rattle.iri_link.specs.Stored.{param_of, link_of, links_of}
-use Rattle.iri_link.specs.Written.{written_param, written_link, written}
 use Rattle.iri_link.specs.declared.link.Link.{Link}
 use Rattle.iri_link.specs.declared.param.Param.{Param}
 

@@ -1,29 +1,20 @@
 -- The normal form of an authority is an authority, and stable.
-use Rattle.std.proofs.Common.{◌≡◌, ℕ, true, false, cond, ◌||◌, List, [], ◌∷◌, ◌++◌, Option, Some, None, map, refl, sym, ◌∙◌, ap}
-use Rattle.std.proofs.Common.{append-nil}
-use Rattle.std.specs.Prelude.{nat_lt}
-use Rattle.std.specs.Char.{to_ascii_lowercase}
-use Rattle.std.proofs.Math.Bool.{or-true}
-use Rattle.iri_grammar.specs.Classes.{Tests, IsSpec}
-use Rattle.iri_grammar.specs.Components.{is_userinfo, is_port, if_there}
-use Rattle.iri_grammar.specs.Host.{is_host, is_reg_name}
-use Rattle.iri_grammar.specs.IpLiteral.{is_ip_literal}
+use Rattle.iri_normal.proofs.Common.{◌≡◌, ℕ, true, false, cond, ◌||◌, List, [], ◌∷◌, ◌++◌, Option, Some, None, map, refl, sym, ◌∙◌, ap}
+use Rattle.iri_normal.proofs.Common.{append-nil, nat_lt, to_ascii_lowercase, or-true, Tests, IsSpec, is_userinfo, is_port, if_there}
+use Rattle.iri_normal.proofs.Common.{is_host, is_reg_name, is_ip_literal, normal, pct, is_ascii_host, is_dropped, normal_host}
+use Rattle.iri_normal.proofs.Common.{normal_userinfo, normal_port_in, normal_authority_parts_in, normal_authority, normal_authority_in}
+use Rattle.iri_normal.proofs.Common.{authority_in, normal_nil, pct-stable, userinfo-whole, host-whole}
 use Rattle.iri_grammar.proofs.LiteralChars.{is_literal_char, ip_literal-chars, all-weaken}
 use Rattle.iri_grammar.specs.Authority.{AuthorityParts, FitsAuthority, ReadsAuthority, recompose_authority, authority_parts, is_authority}
 use Rattle.iri_grammar.proofs.AuthorityLaws.{reading_is, authority_law}
-use Rattle.iri_percent.specs.Triplets.{normal, pct}
-use Rattle.iri_percent.specs.NormalHost.{is_ascii_host, is_dropped, normal_host, normal_userinfo, normal_port_in, normal_authority_parts_in}
-use Rattle.iri_percent.specs.NormalHost.{normal_authority, authority_without, normal_authority_in}
-use Rattle.iri_percent.proofs.Authorities.{authority_in}
-use Rattle.iri_percent.proofs.NormalLaws.{normal_nil, normal_plains}
-use Rattle.iri_percent.proofs.Stability.{pct-stable}
-use Rattle.iri_normal.specs.LowerCase as P
+use Rattle.iri_percent.specs.NormalHost.{authority_without}
+use Rattle.iri_percent.proofs.NormalLaws.{normal_plains}
 use Rattle.iri_percent.proofs.ClassLaws.{pct-userinfo, pct-reg_name, lowered-reg_name}
-use Rattle.iri_percent.proofs.WholeLaws.{literal-lacks, userinfo-whole, host-whole}
+use Rattle.iri_percent.proofs.WholeLaws.{literal-lacks}
 use Rattle.iri_normal.proofs.HostLaws.{host-stable, ascii-plains}
 use Rattle.iri_normal.proofs.LiteralLaws.{literal-lower}
-use Rattle.iri_percent.proofs.MapKinds.{authority-reads as reads}
-use Rattle.iri_percent.proofs.MapKinds.{literal_low as literal-ascii}
+use Rattle.iri_percent.proofs.MapKinds.{authority-reads as reads, literal_low as literal-ascii}
+use Rattle.iri_normal.specs.LowerCase as P
 
 -- ---- hosts
 ascii-nothing : is_ascii_host [] ≡ true

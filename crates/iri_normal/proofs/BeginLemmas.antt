@@ -1,12 +1,7 @@
 -- The guard before a path in either form.
-use Rattle.std.proofs.Common.{◌≡◌, ℕ, Bool, true, false, cond, not, ◌&&◌, List, [], ◌∷◌, ◌++◌, refl, sym}
-use Rattle.std.proofs.Common.{◌∙◌, ap}
-use Rattle.iri_grammar.specs.Classes.{Tests, IsSpec}
-use Rattle.iri_grammar.specs.Parts.{starts_with_slashes}
-use Rattle.iri_normal.specs.Guard.{guard}
-use Rattle.iri_normal.specs.inside.PathForm.{in_form}
+use Rattle.iri_normal.proofs.Common.{◌≡◌, ℕ, Bool, true, false, cond, not, ◌&&◌, List, [], ◌∷◌, ◌++◌, refl, sym, ◌∙◌, ap, Tests, IsSpec}
+use Rattle.iri_normal.proofs.Common.{starts_with_slashes, guard, in_form, whole_triplets}
 use Rattle.iri_normal.proofs.TripletHeads.{pct-heads}
-use Rattle.iri_percent.specs.Units.{whole_triplets}
 
 pub form-heads : (s : Tests) (normal : Bool) (t : List ℕ) → IsSpec s → whole_triplets t ≡ true
     → starts_with_slashes (in_form s normal t) ≡ starts_with_slashes t

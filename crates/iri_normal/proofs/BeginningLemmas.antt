@@ -1,7 +1,5 @@
 -- A text that begins with two slashes.
-use Rattle.std.proofs.Common.{◌≡◌, ℕ, true, false, cond, ◌&&◌, List, [], ◌∷◌, refl}
-use Rattle.std.specs.Prelude.{◌==◌}
-use Rattle.iri_grammar.specs.Parts.{starts_with_slashes}
+use Rattle.iri_normal.proofs.Common.{◌≡◌, ℕ, true, false, cond, ◌&&◌, List, [], ◌∷◌, refl, ◌==◌, starts_with_slashes}
 use Rattle.iri_normal.specs.inside.Beginning.{begun_by, is_slashes}
 use Rattle.iri_normal.specs.declared.beginning.Begun.TheVariants.{Nothing, Slash, Slashes, Other}
 

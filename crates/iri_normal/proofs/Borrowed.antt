@@ -1,9 +1,7 @@
 -- A part that may stand, borrowed.
-use Rattle.std.proofs.Common.{◌≡◌, ℕ, List, Option, Some, None, refl}
-use Rattle.std.specs.Prelude.{String, string_bytes, option_map}
+use Rattle.iri_normal.proofs.Common.{◌≡◌, ℕ, List, Option, Some, None, refl, string_bytes, option_map, Bor, now_of}
+use Rattle.std.specs.Prelude.{String}
 use Rattle.std.specs.declared.alloc.Global.{Global}
-use denote.Ref.{Bor}
-use Rattle.iri_grammar.specs.OptionalSlices.{now_of}
 use Rattle.iri_normal.specs.Resolver.{bytes_of}
 
 pub borrowed : (part : Option (Bor (List ℕ))) (text : Option (String Global))

@@ -1,16 +1,9 @@
 -- The canonical text in either normal form: it is valid, splits into the normal parts, and is its own canonical form.
-use Rattle.std.proofs.Common.{◌≡◌, ℕ, Bool, List, Option, Some, None, refl, sym, ◌∙◌, ap}
-use Rattle.std.specs.Prelude.{IsSome}
-use Rattle.iri_grammar.specs.Classes.{Tests, IsSpec}
-use Rattle.iri_grammar.specs.Parts.{Parts, Fits, Splits, IsReference, IsIri, IsAbsolute, recompose}
-use Rattle.iri_grammar.specs.Split.{split_of}
-use Rattle.iri_grammar.proofs.SplitUnique.{split_is}
-use Rattle.iri_percent.specs.declared.canon_mode.CanonMode.{CanonMode}
-use Rattle.iri_percent.specs.declared.canon_mode.CanonMode.TheVariants.{Default, Scheme}
-use Rattle.iri_normal.specs.Target.{target, target_under}
-use Rattle.iri_normal.specs.Modes.{mode_of}
+use Rattle.iri_normal.proofs.Common.{◌≡◌, ℕ, Bool, List, Option, Some, None, refl, sym, ◌∙◌, ap, IsSome, Tests, IsSpec, Parts, Fits, Splits}
+use Rattle.iri_normal.proofs.Common.{IsReference, IsAbsolute, recompose, split_of, split_is, CanonMode, Default, Scheme, target}
+use Rattle.iri_normal.proofs.Common.{target_under, mode_of, normal_form_in, canonical_parts_in, canonical, canonical_in}
+use Rattle.iri_grammar.specs.Parts.{IsIri}
 use Rattle.iri_normal.specs.Normalized.{written_text}
-use Rattle.iri_normal.specs.NormalForm.{normal_form_in, canonical_parts_in, canonical, canonical_in}
 use Rattle.iri_normal.proofs.FormLaws.{normal_in-fits, normal_in-stable}
 use Rattle.iri_normal.proofs.SchemeForm.{form-is}
 use Rattle.iri_normal.proofs.TargetLaws.{target-fits}

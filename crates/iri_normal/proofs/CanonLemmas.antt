@@ -1,19 +1,15 @@
 -- The canonical text of a valid reference against a valid base.
-use Rattle.std.proofs.Common.{◌≡◌, ℕ, true, false, cond, List, Option, Some, None, Result, Ok, Err, ap, sym, subst, ◌∙◌, refl}
+use Rattle.iri_normal.proofs.Common.{◌≡◌, ℕ, true, false, cond, List, Option, Some, None, Result, Ok, Err, ap, sym, subst, ◌∙◌, refl, Tests}
+use Rattle.iri_normal.proofs.Common.{IsSpec, absolute-law, reference-law, IsAbsolute, IsReference, absolute_fault, reference_fault}
+use Rattle.iri_normal.proofs.Common.{CanonMode, canonical_in}
 use Rattle.std.specs.Prelude.{IfOk, MatchResult}
 use Rattle.std.specs.Str.{is_utf8}
-use Rattle.iri_grammar.specs.Classes.{Tests, IsSpec}
 use Rattle.iri_grammar.specs.Fault.{bytes_fault}
-use Rattle.iri_grammar.proofs.FaultLaws.{absolute-law, reference-law}
-use Rattle.iri_grammar.specs.Parts.{IsAbsolute, IsReference}
-use Rattle.iri_grammar.specs.WholeFault.{absolute_fault, reference_fault}
 use Rattle.iri_grammar.specs.declared.error.ErrorKind.{ErrorKind}
 use Rattle.iri_grammar.specs.declared.error.ErrorKind.TheVariants.{InvalidUtf8}
 use Rattle.iri_owned.specs.OwnedText.{OwnedText}
-use Rattle.iri_percent.specs.declared.canon_mode.CanonMode.{CanonMode}
 use Rattle.iri_normal.specs.Canonicalized.{IsCanonicalTextIn, CausedBy}
 use Rattle.iri_normal.proofs.CanonLaws.{canonical_in-iri, canonical_in-split, canonical_in-own}
-use Rattle.iri_normal.specs.NormalForm.{canonical_in}
 use Rattle.iri_normal.specs.declared.canonical.CanonError.{CanonError}
 
 absolute : (s : Tests) → IsSpec s → (b : List ℕ) → absolute_fault s b ≡ None → IsAbsolute s b

@@ -1,9 +1,7 @@
 -- A text compared with what is put piece by piece.
-use Rattle.std.proofs.Common.{◌≡◌, ℕ, ◌+◌, true, false, List, ◌++◌, Option, Some, None, length, sym, ◌∙◌, ap, subst, take-append-drop}
-use Rattle.std.specs.Prelude.{MatchOption, OnErr, Result, Err, take, drop}
-use denote.Ref.{Bor}
-use Rattle.std.specs.Str.{bytes_eq}
-use Rattle.std.proofs.Math.Seq.{take-append_seam}
+use Rattle.iri_normal.proofs.Common.{◌≡◌, ℕ, ◌+◌, true, false, List, ◌++◌, Option, Some, None, length, sym, ◌∙◌, ap, subst}
+use Rattle.iri_normal.proofs.Common.{take-append-drop, MatchOption, Result, Err, take, drop, Bor, bytes_eq, take-append_seam}
+use Rattle.std.specs.Prelude.{OnErr}
 use Rattle.std.proofs.lemmas.Slice.Eq.{bytes_eq-Decides}
 use Rattle.iri_text.specs.declared.shown.show.Stop.{Stop}
 use Rattle.iri_normal.specs.inside.Comparison.{IsApart, Differs}

@@ -1,16 +1,10 @@
 -- Dot segments, byte by byte.
-use Rattle.std.proofs.Common.{◌≡◌, ℕ, ◌≢◌, Bool, true, false, cond, ◌&&◌, ◌||◌, List, [], ◌∷◌, Option, Some, None, ◌≤◌, ◌<◌, length, drop}
-use Rattle.std.proofs.Common.{refl, sym, ◌∙◌, ap, subst, arith}
-use Rattle.std.specs.Prelude.{◌==◌}
-use Rattle.std.proofs.lemmas.Bool.{or_parts}
-use Rattle.iri_grammar.specs.Cut.{before, after}
-use Rattle.iri_grammar.proofs.CutLaws.{by_test}
-use Rattle.iri_grammar.specs.Parts.{is_empty}
-use Rattle.iri_grammar.specs.Seen.{begins_dot, has_slash_and_dot, may_have_dots, slash_and_dot}
-use Rattle.iri_grammar.specs.inside.PiecesLaws.{more_pieces}
-use Rattle.iri_grammar.proofs.PiecesLaws.{pieces_cut}
-use Rattle.iri_normal.specs.Dots.{after_dot, is_dot_segment, is_dot_segment_after, is_dot_or_nothing, any_dot_segment, has_dot_segment}
-use Rattle.iri_normal.specs.inside.DotSearch.{dots_before, slash_and_dots, dots_after}
+use Rattle.iri_normal.proofs.Common.{◌≡◌, ℕ, Bool, true, false, cond, ◌&&◌, ◌||◌, List, [], ◌∷◌, Option, Some, None, ◌≤◌, ◌<◌, length, drop}
+use Rattle.iri_normal.proofs.Common.{refl, sym, ◌∙◌, ap, subst, arith, ◌==◌, or_parts, before, after, by_test, is_empty, may_have_dots}
+use Rattle.iri_normal.proofs.Common.{more_pieces, pieces_cut, after_dot, is_dot_segment, is_dot_segment_after, is_dot_or_nothing}
+use Rattle.iri_normal.proofs.Common.{any_dot_segment, has_dot_segment, dots_before, slash_and_dots, dots_after}
+use Rattle.std.proofs.Common.{◌≢◌}
+use Rattle.iri_grammar.specs.Seen.{begins_dot, has_slash_and_dot, slash_and_dot}
 
 pub first_or_after : (t : List ℕ) → has_dot_segment t ≡ (dots_before t || dots_after t)
 first_or_after t = ap any_dot_segment (pieces_cut 47 t)

@@ -1,13 +1,8 @@
 -- Texts that end with a slash, cut between their segments.
-use Rattle.std.proofs.Common.{◌≡◌, ℕ, zero, suc, ◌+◌, ◌-◌, ◌<◌, true, ◌||◌, List, [], ◌∷◌, ◌++◌, Some}
-use Rattle.std.proofs.Common.{length, take, drop, refl, sym, ◌∙◌, ap, arith, append_assoc, length-append, eq-eqb}
-use Rattle.std.specs.Prelude.{◌==◌, slice_index}
-use Rattle.std.proofs.lemmas.Bool.{eqb-true}
-use Rattle.std.proofs.lemmas.List.{drop_at, take_at}
-use Rattle.memchr.specs.Find.{is_byte, IsLastByte}
-use Rattle.iri_grammar.specs.Cut.{before, after, lacks, delimited}
-use Rattle.iri_grammar.proofs.CutLaws.{joined}
-use Rattle.iri_normal.specs.Target.{ends_at_slash, last_segment}
+use Rattle.iri_normal.proofs.Common.{◌≡◌, ℕ, zero, suc, ◌+◌, ◌-◌, ◌<◌, true, ◌||◌, List, [], ◌∷◌, ◌++◌, Some, length, take, drop, refl, sym}
+use Rattle.iri_normal.proofs.Common.{◌∙◌, ap, arith, append_assoc, length-append, eq-eqb, ◌==◌, slice_index, eqb-true, drop_at, is_byte}
+use Rattle.iri_normal.proofs.Common.{IsLastByte, before, after, lacks, delimited, joined, ends_at_slash, last_segment}
+use Rattle.std.proofs.lemmas.List.{take_at}
 use Rattle.iri_normal.proofs.SlashLemmas.{at_last_slash, after_slash}
 
 -- ---- where a text ends with a slash

@@ -1,30 +1,14 @@
 -- The normal form of parts fits and is stable, whatever port is dropped.
-use Rattle.std.proofs.Common.{◌≡◌, ℕ, true, false, List, [], ◌∷◌, Option, Some, None, refl, sym, ◌∙◌, ap, subst, arith, Bool}
-use Rattle.std.specs.Prelude.{IsSome}
-use Rattle.std.specs.Char.{to_ascii_lowercase}
-use Rattle.std.specs.List.{list_all}
-use Rattle.std.proofs.lemmas.Bool.Decides.{nat_tests}
+use Rattle.iri_normal.proofs.Common.{◌≡◌, ℕ, true, false, List, [], ◌∷◌, Option, Some, None, refl, sym, ◌∙◌, ap, subst, arith, Bool, IsSome}
+use Rattle.iri_normal.proofs.Common.{to_ascii_lowercase, list_all, nat_tests, Tests, IsSpec, path_char, if_there, is_scheme, is_scheme_char}
+use Rattle.iri_normal.proofs.Common.{is_path, is_query, is_fragment, is_authority, both, Parts, Fits, path_rules, is_empty, as_it_is, pct}
+use Rattle.iri_normal.proofs.Common.{normal_authority, normal_authority_in, dropped_port, CanonMode, Default, normal_nil, normal_plain}
+use Rattle.iri_normal.proofs.Common.{pct-stable, query-whole, fragment-whole, whole_triplets, dots, is_dot_segment, lowered, where_there}
+use Rattle.iri_normal.proofs.Common.{becomes_slash, normal_form, normal_form_in, normal_parts, normal_path, slash_or}
 use Rattle.std.proofs.lemmas.List.Folds.{list_all-map}
-use Rattle.iri_grammar.specs.Classes.{Tests, IsSpec, path_char}
-use Rattle.iri_grammar.specs.Components.{if_there, is_scheme, is_scheme_char, is_letter, is_path, is_query, is_fragment}
-use Rattle.iri_grammar.specs.Authority.{is_authority}
-use Rattle.iri_grammar.proofs.CutLaws.{both}
-use Rattle.iri_grammar.specs.Parts.{Parts, Fits, path_rules, is_empty}
+use Rattle.iri_grammar.specs.Components.{is_letter}
 use Rattle.iri_grammar.proofs.LiteralChars.{all-weaken}
-use Rattle.iri_percent.specs.Triplets.{as_it_is, pct}
-use Rattle.iri_percent.specs.NormalHost.{normal_authority, normal_authority_in}
-use Rattle.iri_percent.specs.SchemeRules.{dropped_port}
-use Rattle.iri_percent.specs.declared.canon_mode.CanonMode.{CanonMode}
-use Rattle.iri_percent.specs.declared.canon_mode.CanonMode.TheVariants.{Default}
 use Rattle.iri_percent.proofs.ClassLaws.{pct-query, pct-fragment}
-use Rattle.iri_percent.proofs.NormalLaws.{normal_nil, normal_plain}
-use Rattle.iri_percent.proofs.Stability.{pct-stable}
-use Rattle.iri_percent.proofs.WholeLaws.{query-whole, fragment-whole}
-use Rattle.iri_percent.specs.Units.{whole_triplets}
-use Rattle.iri_normal.specs.DotRemoval.{dots}
-use Rattle.iri_normal.specs.Dots.{is_dot_segment}
-use Rattle.iri_normal.specs.LowerCase.{lowered, where_there}
-use Rattle.iri_normal.specs.NormalForm.{becomes_slash, normal_form, normal_form_in, normal_parts, normal_path, slash_or}
 use Rattle.iri_normal.proofs.AuthorityForm.{authority_in-fits, authority_in-stable}
 use Rattle.iri_normal.proofs.PathLaws.{path-over, path-rules, path-stable}
 use Rattle.iri_normal.proofs.SchemeForm.{dropped-still, lowered-twice, normal-empty, normal-is, there-fits, there-one}

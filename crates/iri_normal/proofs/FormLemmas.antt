@@ -1,31 +1,11 @@
 -- Parts shown in a mode.
-use Rattle.std.proofs.Common.{◌≡◌, ℕ, Bool, true, false, cond, ◌&&◌, ◌||◌, List, [], ◌∷◌, ◌++◌, Option, Some, Bor, refl, sym, ◌∙◌}
-use Rattle.std.proofs.Common.{ap, subst, arith}
-use Rattle.std.specs.Prelude.{◌==◌}
-use Rattle.std.specs.Char.{to_ascii_lowercase}
-use Rattle.std.specs.List.{list_all}
-use Rattle.std.proofs.lemmas.Str.{encode_ascii}
-use Rattle.std.proofs.lemmas.Bool.Decides.{nat_tests}
-use Rattle.std.proofs.Math.Bool.{or-true}
-use Rattle.std.proofs.lemmas.Bool.{lt-ltb}
-use Rattle.std.proofs.Math.Utf8.{low_scalar}
-use Rattle.iri_grammar.specs.Classes.{Tests, IsSpec, reg_name_char, is_ascii_reg_name, is_ascii_unreserved, is_sub_delim}
-use Rattle.iri_grammar.specs.Components.{is_scheme, is_scheme_char}
-use Rattle.iri_grammar.specs.Cut.{delimited}
-use Rattle.iri_grammar.proofs.CutLaws.{both}
-use Rattle.iri_grammar.specs.Host.{is_host}
-use Rattle.iri_grammar.specs.IpLiteral.{is_ip_literal}
-use Rattle.iri_grammar.specs.Parts.{is_empty, scheme_text, authority_text}
-use Rattle.iri_grammar.proofs.SplitLaws.{scheme-chars}
-use Rattle.iri_grammar.specs.OptionalSlices.{now_of}
-use Rattle.iri_percent.proofs.ClassLaws.{IsText, ended, letter, over-from_text}
-use Rattle.iri_percent.specs.NormalHost.{normal_host, is_ascii_host}
-use Rattle.iri_percent.proofs.NormalLaws.{normal_nil, normal_plain}
-use Rattle.iri_percent.specs.Triplets.{normal, pct}
-use Rattle.iri_percent.proofs.WholeLaws.{reg_name_percent}
-use Rattle.iri_normal.specs.LowerCase.{lowered, where_there}
-use Rattle.iri_normal.specs.NormalForm.{becomes_slash, part_in}
-use Rattle.iri_normal.specs.inside.PathForm.{in_form}
+use Rattle.iri_normal.proofs.Common.{◌≡◌, ℕ, Bool, true, false, cond, ◌&&◌, ◌||◌, List, [], ◌∷◌, ◌++◌, Option, Some, Bor, refl, sym, ◌∙◌}
+use Rattle.iri_normal.proofs.Common.{ap, subst, arith, ◌==◌, to_ascii_lowercase, list_all, encode_ascii, nat_tests, or-true, lt-ltb}
+use Rattle.iri_normal.proofs.Common.{low_scalar, Tests, IsSpec, reg_name_char, is_ascii_reg_name, is_ascii_unreserved, is_sub_delim}
+use Rattle.iri_normal.proofs.Common.{is_scheme, is_scheme_char, delimited, both, is_host, is_ip_literal, is_empty, scheme_text}
+use Rattle.iri_normal.proofs.Common.{authority_text, scheme-chars, now_of, IsText, ended, letter, over-from_text, normal_host}
+use Rattle.iri_normal.proofs.Common.{is_ascii_host, normal_nil, normal_plain, normal, pct, reg_name_percent, lowered, where_there}
+use Rattle.iri_normal.proofs.Common.{becomes_slash, part_in, in_form}
 use Rattle.iri_grammar.proofs.SplitUnique.{scheme_char-below as scheme-low}
 
 -- ---- a scheme is a host, and put into lower case as one

@@ -1,21 +1,14 @@
 -- The normal form of a host is stable.
-use Rattle.std.proofs.Common.{◌≡◌, ℕ, Bool, true, false, cond, not, ◌&&◌, List, [], ◌∷◌, ◌++◌, map, refl, sym, ◌∙◌, ap, arith}
+use Rattle.iri_normal.proofs.Common.{◌≡◌, ℕ, Bool, true, false, cond, not, ◌&&◌, List, [], ◌∷◌, ◌++◌, map, refl, sym, ◌∙◌, ap, arith, ◌==◌}
+use Rattle.iri_normal.proofs.Common.{nat_lt, is_ascii_hexdigit, to_ascii_lowercase, to_ascii_uppercase, encode_utf8, list_all, nat_tests}
+use Rattle.iri_normal.proofs.Common.{lt-ltb, ltb-true, Tests, IsSpec, unreserved, lacks, octet, whole_triplets, normal, as_it_is, pct}
+use Rattle.iri_normal.proofs.Common.{is_ascii_host, normal_host, Spells, none, more, normal_nil, normal_plain, normal_lone, normal_char}
+use Rattle.iri_normal.proofs.Common.{Reading, done, plain, char, lone, read, as_it_is-case, lower-case, upper_hex, upper_octet, pct-stable}
 use mathlib.Core.Bool.{and_assoc}
-use Rattle.std.specs.Prelude.{◌==◌, nat_lt}
-use Rattle.std.specs.Char.{is_ascii_hexdigit, to_ascii_lowercase, to_ascii_uppercase, encode_utf8}
-use Rattle.std.specs.List.{list_all}
-use Rattle.std.proofs.lemmas.Bool.Decides.{nat_tests}
-use Rattle.std.proofs.lemmas.Bool.{lt-ltb, ltb-true, ltb-false}
-use Rattle.iri_grammar.specs.Classes.{Tests, IsSpec, unreserved}
-use Rattle.iri_grammar.specs.Cut.{lacks}
-use Rattle.iri_percent.specs.Units.{octet, whole_triplets}
-use Rattle.iri_percent.specs.Triplets.{normal, as_it_is, pct}
-use Rattle.iri_percent.specs.NormalHost.{is_ascii_host, lowered_host, normal_host}
-use Rattle.iri_percent.proofs.UnitLaws.{Spells, none, more, hex_apart}
-use Rattle.iri_percent.proofs.NormalLaws.{normal_nil, normal_plain, normal_lone, normal_char}
-use Rattle.iri_percent.proofs.Reading.{Reading, done, plain, char, lone, read}
-use Rattle.iri_percent.proofs.Stability.{IsCase, as_it_is-case, lower-case, upper_hex, upper_octet, upper_spells, written_percent}
-use Rattle.iri_percent.proofs.Stability.{normal-stable, pct-stable}
+use Rattle.std.proofs.lemmas.Bool.{ltb-false}
+use Rattle.iri_percent.specs.NormalHost.{lowered_host}
+use Rattle.iri_percent.proofs.UnitLaws.{hex_apart}
+use Rattle.iri_percent.proofs.Stability.{IsCase, upper_spells, written_percent, normal-stable}
 
 abbrev is_ascii : ℕ → Bool
 is_ascii x = nat_lt x 128

@@ -1,25 +1,12 @@
 -- How segments act on those before them: what they take away, and what stays of them.
-use Rattle.std.proofs.Common.{◌≡◌, ℕ, zero, suc, ◌+◌, ◌-◌, ◌<◌, ◌≤◌, Bool, true, false, cond, not, ◌&&◌, ◌||◌, List, [], ◌∷◌, ◌++◌}
-use Rattle.std.proofs.Common.{refl, sym, ◌∙◌, ap, subst, arith, append_assoc, length, drop, take}
-use Rattle.std.proofs.lemmas.Bool.{eqb-true, not-true, not-false}
-use Rattle.std.proofs.lemmas.Bool.Decides.{nat_tests}
-use Rattle.std.proofs.lemmas.List.{append-nil, length-take-le}
-use Rattle.std.specs.List.{list_all}
-use Rattle.std.specs.Prelude.{◌==◌}
-use Rattle.std.proofs.Math.Bool.{or-true, or-false}
-use Rattle.iri_grammar.specs.Classes.{Tests, path_char}
-use Rattle.iri_grammar.specs.Components.{is_path}
-use Rattle.iri_grammar.specs.Cut.{lacks}
-use Rattle.iri_grammar.proofs.CutLaws.{both}
-use Rattle.iri_grammar.specs.Over.{text_over}
-use Rattle.iri_grammar.specs.Parts.{is_empty}
-use Rattle.iri_grammar.specs.Pieces.{pieces}
-use Rattle.iri_grammar.proofs.UnitRuns.{text_over-append, nothing_over}
-use Rattle.iri_normal.specs.DotRemoval.{is_two_dots, without_last}
-use Rattle.iri_normal.specs.Dots.{any_dot_segment, has_dot_segment, is_dot_segment}
-use Rattle.iri_normal.specs.inside.Kept.{kept, taken, taken_by}
-use Rattle.iri_normal.specs.Target.{ends_at_slash}
-use Rattle.iri_normal.specs.inside.Written.{left, popped, popped_times, written, written_segments}
+use Rattle.iri_normal.proofs.Common.{◌≡◌, ℕ, zero, suc, ◌+◌, ◌-◌, ◌<◌, ◌≤◌, Bool, true, false, cond, not, ◌&&◌, ◌||◌, List, [], ◌∷◌, ◌++◌}
+use Rattle.iri_normal.proofs.Common.{refl, sym, ◌∙◌, ap, subst, arith, append_assoc, length, drop, take, eqb-true, not-true, nat_tests}
+use Rattle.iri_normal.proofs.Common.{append-nil, length-take-le, list_all, ◌==◌, or-true, or-false, Tests, path_char, is_path, lacks, both}
+use Rattle.iri_normal.proofs.Common.{text_over, is_empty, pieces, text_over-append, nothing_over, is_two_dots, without_last}
+use Rattle.iri_normal.proofs.Common.{any_dot_segment, has_dot_segment, is_dot_segment, kept, taken, ends_at_slash, left, popped}
+use Rattle.iri_normal.proofs.Common.{popped_times, written, written_segments}
+use Rattle.std.proofs.lemmas.Bool.{not-false}
+use Rattle.iri_normal.specs.inside.Kept.{taken_by}
 use Rattle.iri_normal.proofs.EndedLemmas.{both-end, slash-ends, without_end}
 use Rattle.iri_normal.proofs.OutputLaws.{without_last-all, without_last-slash}
 use Rattle.iri_normal.proofs.PathLaws.{pieces-over}

@@ -1,43 +1,27 @@
 -- How many bytes a form, a target and a canonical text have at most.
-use Rattle.std.proofs.Common.{◌≡◌, ℕ, ◌+◌, ◌≤◌, Bool, true, false, cond, ◌&&◌, ◌||◌, not, List, [], ◌∷◌, ◌++◌, Option, Some, None, length}
-use Rattle.std.proofs.Common.{map, refl, sym, ap, subst, arith, length-append}
-use Rattle.std.specs.Prelude.{is_some}
-use Rattle.std.specs.Char.{to_ascii_uppercase, to_ascii_lowercase, encode_utf8}
-use Rattle.std.proofs.lemmas.List.{length-map}
-use Rattle.iri_grammar.specs.Classes.{Tests, IsSpec, unreserved, path_char}
-use Rattle.iri_grammar.specs.Components.{if_there, is_userinfo, is_path, is_query, is_fragment}
-use Rattle.iri_grammar.specs.Cut.{lacks, delimited}
-use Rattle.iri_grammar.specs.Authority.{AuthorityParts, FitsAuthority, recompose_authority, userinfo_text, authority_parts, is_authority}
+use Rattle.iri_normal.proofs.Common.{◌≡◌, ℕ, ◌+◌, ◌≤◌, Bool, true, false, cond, ◌&&◌, ◌||◌, not, List, [], ◌∷◌, ◌++◌, Option, Some, None}
+use Rattle.iri_normal.proofs.Common.{length, map, refl, sym, ap, subst, arith, length-append, is_some, to_ascii_uppercase}
+use Rattle.iri_normal.proofs.Common.{to_ascii_lowercase, encode_utf8, length-map, Tests, IsSpec, unreserved, path_char, if_there}
+use Rattle.iri_normal.proofs.Common.{is_userinfo, is_path, is_query, is_fragment, lacks, delimited, AuthorityParts, recompose_authority}
+use Rattle.iri_normal.proofs.Common.{authority_parts, is_authority, Parts, Fits, IsReference, IsAbsolute, recompose, scheme_text}
+use Rattle.iri_normal.proofs.Common.{authority_text, is_empty, starts_with_slash, starts_with_slashes, pieces, split_is, whole_triplets}
+use Rattle.iri_normal.proofs.Common.{normal, as_it_is, pct, is_ascii_host, is_dropped, normal_host, normal_userinfo, normal_port_in}
+use Rattle.iri_normal.proofs.Common.{normal_authority_parts_in, normal_authority, normal_authority_in, dropped_port, CanonMode, Scheme}
+use Rattle.iri_normal.proofs.Common.{authority_in, normal_nil, normal_plain, normal_lone, normal_char, Reading, done, plain, char, lone}
+use Rattle.iri_normal.proofs.Common.{read, lowered, where_there, is_dot_segment, is_two_dots, without_last, dots, target, target_under}
+use Rattle.iri_normal.proofs.Common.{target_path, merge_prefix, to_last_slash, becomes_slash, canonical_in, canonical_parts_in, form}
+use Rattle.iri_normal.proofs.Common.{normal_parts, normal_path, preserved_path, slash_or, Mode, Plain, Normal, Preserving, ByScheme}
+use Rattle.iri_normal.proofs.Common.{userinfo-whole, host-whole, path-whole, query-whole, fragment-whole}
+use Rattle.iri_grammar.specs.Authority.{FitsAuthority, userinfo_text}
 use Rattle.iri_grammar.proofs.AuthorityLaws.{authority_recomposed}
-use Rattle.iri_grammar.specs.Parts.{Parts, Fits, IsReference, IsAbsolute, recompose, scheme_text, authority_text, is_empty}
-use Rattle.iri_grammar.specs.Parts.{starts_with_slash, starts_with_slashes}
-use Rattle.iri_grammar.specs.Pieces.{pieces}
-use Rattle.iri_grammar.proofs.SplitUnique.{split_is}
-use Rattle.iri_percent.specs.Units.{whole_triplets}
-use Rattle.iri_percent.specs.Triplets.{normal, as_it_is, pct}
-use Rattle.iri_percent.specs.NormalHost.{is_ascii_host, is_dropped, normal_host, normal_userinfo, normal_port_in, normal_authority_parts_in}
-use Rattle.iri_percent.specs.NormalHost.{normal_authority, normal_authority_in}
-use Rattle.iri_percent.specs.SchemeRules.{dropped_port}
-use Rattle.iri_percent.specs.declared.canon_mode.CanonMode.{CanonMode}
-use Rattle.iri_percent.specs.declared.canon_mode.CanonMode.TheVariants.{Scheme}
-use Rattle.iri_percent.proofs.Authorities.{authority_in}
 use Rattle.iri_percent.proofs.UnitLaws.{length-spelled}
-use Rattle.iri_percent.proofs.NormalLaws.{normal_nil, normal_plain, normal_lone, normal_char}
-use Rattle.iri_percent.proofs.Reading.{Reading, done, plain, char, lone, read}
-use Rattle.iri_normal.specs.LowerCase.{lowered, where_there}
-use Rattle.iri_normal.specs.Dots.{is_dot_segment}
-use Rattle.iri_normal.specs.DotRemoval.{is_two_dots, without_last, dots}
-use Rattle.iri_normal.specs.Target.{target, target_under, target_path, target_query, merged, merge_prefix, to_last_slash, or_base}
-use Rattle.iri_normal.specs.NormalForm.{becomes_slash, canonical_in, canonical_parts_in, form, normal_parts, normal_path, parts_with, plain_path, preserved_path}
-use Rattle.iri_normal.specs.NormalForm.{slash_or}
-use Rattle.iri_normal.specs.declared.mode.Mode.{Mode}
-use Rattle.iri_normal.specs.declared.mode.Mode.TheVariants.{Plain, Normal, Preserving, ByScheme}
+use Rattle.iri_normal.specs.Target.{target_query, merged, or_base}
+use Rattle.iri_normal.specs.NormalForm.{parts_with, plain_path}
 use Rattle.iri_normal.proofs.CanonLaws.{canonical_in-text}
 use Rattle.iri_normal.proofs.SchemeForm.{normal-is}
 use Rattle.iri_normal.proofs.OutputLaws.{closed_text, text_after, text_from, dots-text}
 use Rattle.iri_normal.proofs.StableLaws.{slashed, unsplit, unsplit-pieces}
 use Rattle.iri_normal.proofs.TargetLaws.{target-fits, slash_in_path}
-use Rattle.iri_percent.proofs.WholeLaws.{userinfo-whole, host-whole, path-whole, query-whole, fragment-whole}
 use Rattle.iri_normal.proofs.PathLaws.{dots-over}
 use Rattle.iri_percent.proofs.MapKinds.{authority-reads as reads}
 

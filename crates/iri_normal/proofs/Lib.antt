@@ -1,3 +1,4 @@
+mod Common
 pub mod SlashLemmas
 pub mod NormalLemmas
 pub mod SegmentLemmas

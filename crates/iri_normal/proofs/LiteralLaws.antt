@@ -1,20 +1,14 @@
 -- An IP literal in lower case is an IP literal.
-use Rattle.std.proofs.Common.{◌≡◌, ℕ, Bool, true, false, cond, ◌&&◌, ◌||◌, List, [], ◌∷◌, Option, Some, None, map, refl, ◌∙◌, ap}
-use Rattle.std.proofs.Common.{arith}
-use Rattle.std.specs.Prelude.{◌==◌}
+use Rattle.iri_normal.proofs.Common.{◌≡◌, ℕ, Bool, true, false, cond, ◌&&◌, ◌||◌, List, [], ◌∷◌, Option, Some, None, map, refl, ◌∙◌, ap}
+use Rattle.iri_normal.proofs.Common.{arith, ◌==◌, list_all, nat_tests, length-map, is_ascii_userinfo, is_ascii_reg_name}
+use Rattle.iri_normal.proofs.Common.{is_ascii_unreserved, is_sub_delim, before, after, pieces, onto, is_ip_literal, lowered, where_there}
 use Rattle.std.specs.Char.{is_ascii_hexdigit, is_ascii_digit, to_ascii_lowercase}
 use Rattle.std.specs.Int.{is_in_range}
-use Rattle.std.specs.List.{list_all}
-use Rattle.std.proofs.lemmas.Bool.Decides.{nat_tests}
-use Rattle.std.proofs.lemmas.List.{length-map}
-use Rattle.iri_grammar.specs.Classes.{is_ascii_userinfo, is_ascii_reg_name, is_ascii_unreserved, is_sub_delim}
-use Rattle.iri_grammar.specs.Cut.{before, after, tail}
-use Rattle.iri_grammar.specs.Pieces.{pieces, onto}
+use Rattle.iri_grammar.specs.Cut.{tail}
 use Rattle.iri_grammar.specs.Ipv4.{is_ipv4, is_dec_octet, is_hundreds, are_four_octets}
 use Rattle.iri_grammar.specs.Ipv6.{is_group, are_groups, are_groups_or_ipv4, group_count}
 use Rattle.iri_grammar.specs.Ipv6Test.{begins, before_double, after_double, group_texts, is_ipv6_around, is_ipv6}
-use Rattle.iri_grammar.specs.IpLiteral.{some_of, is_future_address, is_ipvfuture, is_end, is_ip_literal}
-use Rattle.iri_normal.specs.LowerCase.{lowered, where_there}
+use Rattle.iri_grammar.specs.IpLiteral.{some_of, is_future_address, is_ipvfuture, is_end}
 
 -- ---- what is no letter
 abbrev Stays : ℕ → Type 0

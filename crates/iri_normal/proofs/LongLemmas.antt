@@ -1,40 +1,23 @@
 -- A long path in parts.
-use Rattle.std.proofs.Common.{◌≡◌, ℕ, zero, suc, ◌+◌, ◌-◌, ◌<◌, ◌≤◌, Bool, true, false, cond, not, ◌&&◌, ◌||◌, List, [], ◌∷◌, ◌++◌, Option, Some, None}
-use Rattle.std.proofs.Common.{refl, sym, ◌∙◌, ap, ap₂, subst, arith, append_assoc, length, take, drop}
-use Rattle.std.proofs.lemmas.List.{append-nil, get_or-take, length-drop, length-take-le, take-append-drop, nil_from_length}
+use Rattle.iri_normal.proofs.Common.{length-take-le, take-append-drop, count_by, ◌==◌, MatchOption, slice_index, IsUtf8, is_byte, Tests}
+use Rattle.iri_normal.proofs.Common.{path_char, is_path, before, after, lacks, delimited, both, joined, eqb-true, or_parts, or-true}
+use Rattle.iri_normal.proofs.Common.{is_empty, onto, pieces, more_pieces, pieces_cut, pct, pct_delimiter, slash, dots, is_two_dots}
+use Rattle.iri_normal.proofs.Common.{is_dot_segment, any_dot_segment, has_dot_segment, kept, taken, in_form, ends_at_slash, or_nothing}
+use Rattle.iri_normal.proofs.Common.{popped, popped_times, written, written_segments, nothing_over}
+use Rattle.std.proofs.Common.{◌≡◌, ℕ, zero, suc, ◌+◌, ◌-◌, ◌<◌, ◌≤◌, Bool, true, false, cond, not, ◌&&◌, ◌||◌, List, [], ◌∷◌, ◌++◌, Option}
+use Rattle.std.proofs.Common.{Some, None, refl, sym, ◌∙◌, ap, ap₂, subst, arith, append_assoc, length, take, drop, append-nil}
+use Rattle.std.proofs.lemmas.List.{get_or-take, length-drop, nil_from_length}
 use Rattle.std.proofs.lemmas.List.Recursion.{is_count_by}
-use Rattle.std.specs.List.{count_by}
-use Rattle.std.specs.Prelude.{◌==◌, MatchOption, slice_index}
-use Rattle.std.specs.Str.{IsUtf8}
-use Rattle.memchr.specs.Find.{IsFirstByte, is_byte}
-use Rattle.iri_grammar.specs.Classes.{Tests, path_char}
-use Rattle.iri_grammar.specs.Components.{is_path}
-use Rattle.iri_grammar.specs.Cut.{before, after, lacks, delimited}
-use Rattle.iri_grammar.proofs.CutLaws.{both, joined}
+use Rattle.memchr.specs.Find.{IsFirstByte}
 use Rattle.iri_grammar.proofs.CutLemmas.{found}
-use Rattle.std.proofs.lemmas.Bool.{eqb-true, or_parts}
-use Rattle.std.proofs.Math.Bool.{or-true}
-use Rattle.iri_grammar.specs.Parts.{is_empty}
-use Rattle.iri_grammar.specs.Pieces.{onto, pieces}
-use Rattle.iri_grammar.specs.inside.PiecesLaws.{more_pieces}
 use Rattle.iri_grammar.proofs.AuthorityTexts.{text_over-utf8}
-use Rattle.iri_grammar.proofs.PiecesLaws.{pieces_cut}
-use Rattle.iri_percent.specs.Triplets.{pct}
-use Rattle.iri_percent.proofs.DelimiterLaws.{pct_delimiter, slash}
-use Rattle.iri_normal.specs.DotRemoval.{dots, is_two_dots}
-use Rattle.iri_normal.specs.Dots.{is_dot_segment, any_dot_segment, has_dot_segment}
-use Rattle.iri_normal.specs.inside.Kept.{kept, taken}
-use Rattle.iri_normal.specs.inside.PathForm.{in_form}
-use Rattle.iri_normal.specs.Target.{ends_at_slash}
 use Rattle.iri_normal.specs.inside.CutText.{IsCut}
 use Rattle.iri_normal.specs.inside.NextDots.{IsNext}
-use Rattle.iri_normal.specs.inside.Written.{or_nothing, popped, popped_times, written, written_segments}
 use Rattle.iri_normal.proofs.EndedLemmas.{first_whole, rest-ends, slash-ends, take-ends}
 use Rattle.iri_normal.proofs.KeptLemmas.{bottom-times, kept-ends, kept-two, path-stays, taken-two}
 use Rattle.iri_normal.proofs.NormalLemmas.{pct_nil}
 use Rattle.iri_normal.proofs.PieceLaws.{nothing-is_no_dot, pieces-some}
 use Rattle.iri_normal.proofs.TargetLaws.{parts_over}
-use Rattle.iri_grammar.proofs.UnitRuns.{nothing_over}
 use Rattle.iri_normal.proofs.TextLaws.{text_over-cut}
 use Rattle.iri_normal.proofs.WriterLemmas.{form-append, form-nil}
 use Rattle.iri_normal.proofs.WrittenLemmas.{left-nothing, popped-ends, written-dot, written-dots, written-nothing, written-two}

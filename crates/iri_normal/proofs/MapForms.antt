@@ -1,48 +1,32 @@
 -- The mapping and normal forms, targets and canonical texts: they may be done in either order.
-use Rattle.std.proofs.Common.{◌≡◌, ℕ, Bool, true, false, cond, ◌&&◌, ◌||◌, List, [], ◌∷◌, ◌++◌, Option, Some, None, refl, sym, ◌∙◌, ap}
-use Rattle.std.proofs.Common.{subst, arith, ltb-true}
-use Rattle.std.specs.Prelude.{nat_lt, is_some, IsSome, option_map}
-use Rattle.std.specs.Char.{to_ascii_lowercase}
-use Rattle.std.specs.List.{list_all}
-use lib.Utf8.{encode}
-use Rattle.std.proofs.lemmas.Str.{encode_ascii}
-use Rattle.std.proofs.Math.Utf8.{low_scalar}
+use Rattle.iri_normal.proofs.Common.{◌≡◌, ℕ, Bool, true, false, cond, ◌&&◌, ◌||◌, List, [], ◌∷◌, ◌++◌, Option, Some, None, refl, sym, ◌∙◌}
+use Rattle.iri_normal.proofs.Common.{ap, subst, arith, ltb-true, nat_lt, is_some, IsSome, option_map, to_ascii_lowercase, list_all, encode}
+use Rattle.iri_normal.proofs.Common.{encode_ascii, low_scalar, Tests, IsSpec, reg_name_char, path_char, is_ascii_userinfo}
+use Rattle.iri_normal.proofs.Common.{is_ascii_reg_name, is_ascii_unreserved, is_sub_delim, if_there, is_scheme, is_scheme_char, is_port}
+use Rattle.iri_normal.proofs.Common.{is_userinfo, is_path, is_query, is_fragment, both, test_apart, is_host, is_reg_name, is_ip_literal}
+use Rattle.iri_normal.proofs.Common.{Parts, Fits, IsReference, IsAbsolute, recompose, is_empty, starts_with_slash, split_of, scheme-chars}
+use Rattle.iri_normal.proofs.Common.{split_is, IsText, ended, letter, is_ascii_host, is_dropped, normal_host, normal_userinfo}
+use Rattle.iri_normal.proofs.Common.{normal_port_in, normal_authority_parts_in, normal_authority_in, default_port, dropped_port, CanonMode}
+use Rattle.iri_normal.proofs.Common.{Default, Scheme, authority_in, as_it_is-case, lower-case, as_it_is, normal, pct, reg_name_percent}
+use Rattle.iri_normal.proofs.Common.{path_percent, dots, lowered, becomes_slash, canonical_in, normal_form_in, normal_parts, normal_path}
+use Rattle.iri_normal.proofs.Common.{slash_or, target, target_under, target_path, merge_prefix, to_last_slash}
 use Rattle.iri_grammar.specs.Authority.{AuthorityParts, FitsAuthority, authority_parts, recompose_authority, is_authority}
-use Rattle.iri_grammar.specs.Classes.{Tests, IsSpec, uri_tests, userinfo_char, reg_name_char, path_char, query_char, fragment_char}
-use Rattle.iri_grammar.specs.Classes.{is_ascii_userinfo, is_ascii_reg_name, is_ascii_unreserved, is_sub_delim}
-use Rattle.iri_grammar.specs.Components.{if_there, is_scheme, is_scheme_char, is_port, is_userinfo, is_path, is_query, is_fragment}
-use Rattle.iri_grammar.proofs.CutLaws.{both, test_apart}
-use Rattle.iri_grammar.specs.Host.{is_host, is_reg_name}
-use Rattle.iri_grammar.specs.IpLiteral.{is_ip_literal}
+use Rattle.iri_grammar.specs.Classes.{uri_tests, userinfo_char, query_char, fragment_char}
 use Rattle.iri_grammar.proofs.LiteralChars.{is_literal_char, ip_literal-chars}
-use Rattle.iri_grammar.specs.Parts.{Parts, Fits, IsReference, IsAbsolute, recompose, is_empty, starts_with_slash}
-use Rattle.iri_grammar.specs.Split.{split_of}
-use Rattle.iri_grammar.proofs.SplitLaws.{scheme-chars}
-use Rattle.iri_grammar.proofs.SplitUnique.{split_is}
-use Rattle.iri_percent.proofs.ClassLaws.{IsText, ended, letter, escape, text-from_over}
+use Rattle.iri_percent.proofs.ClassLaws.{escape, text-from_over}
 use Rattle.iri_percent.specs.Mapping.{mapped, mapped_parts}
 use Rattle.iri_percent.proofs.MapDelimiters.{mapped-empty, mapped-slash}
 use Rattle.iri_percent.proofs.MapTexts.{mapped-low, mapped-append, mapped-triplet, mapped-spells, encode-high}
-use Rattle.iri_percent.proofs.MapKinds.{mapped_authority, mapped-recomposed_authority, mapped-recomposed, mapped-authority}
-use Rattle.iri_percent.proofs.MapKinds.{authority-reads, each-low, scheme_low, literal_low, mapped-scheme, mapped-port, mapped-split}
-use Rattle.iri_percent.specs.NormalHost.{is_ascii_host, is_dropped, normal_host, normal_userinfo, normal_port_in, normal_authority_parts_in}
-use Rattle.iri_percent.specs.NormalHost.{normal_authority_in}
-use Rattle.iri_percent.specs.SchemeRules.{default_port, dropped_port}
-use Rattle.iri_percent.specs.declared.canon_mode.CanonMode.{CanonMode}
-use Rattle.iri_percent.specs.declared.canon_mode.CanonMode.TheVariants.{Default, Scheme}
-use Rattle.iri_percent.proofs.Authorities.{authority_in}
-use Rattle.iri_percent.proofs.Stability.{as_it_is-case, lower-case, encode_percent}
-use Rattle.iri_percent.specs.Triplets.{as_it_is, normal, pct}
-use Rattle.iri_percent.proofs.WholeLaws.{reg_name_percent, userinfo_percent, path_percent, query_percent, fragment_percent}
+use Rattle.iri_percent.proofs.MapKinds.{mapped_authority, mapped-recomposed_authority, mapped-recomposed, mapped-authority, authority-reads}
+use Rattle.iri_percent.proofs.MapKinds.{each-low, scheme_low, literal_low, mapped-scheme, mapped-port, mapped-split}
+use Rattle.iri_percent.proofs.Stability.{encode_percent}
+use Rattle.iri_percent.proofs.WholeLaws.{userinfo_percent, query_percent, fragment_percent}
 use Rattle.iri_percent.proofs.MapForms.{mapped-normal, mapped-normal_text}
-use Rattle.iri_normal.specs.DotRemoval.{dots}
 use Rattle.iri_normal.proofs.HostLaws.{ascii-plains, ascii-spelled, ascii-triplet}
-use Rattle.iri_normal.specs.LowerCase.{lowered}
-use Rattle.iri_normal.specs.NormalForm.{becomes_slash, canonical_in, normal_form_in, normal_parts, normal_path, slash_or}
 use Rattle.iri_normal.proofs.CanonLaws.{canonical_in-text}
 use Rattle.iri_normal.proofs.SchemeForm.{normal-is, there-both}
 use Rattle.iri_normal.proofs.PathLaws.{dots-over}
-use Rattle.iri_normal.specs.Target.{target, target_under, target_path, target_query, merged, merge_prefix, or_base, to_last_slash}
+use Rattle.iri_normal.specs.Target.{target_query, merged, or_base}
 use Rattle.iri_normal.proofs.TargetLaws.{target-fits, slash_in_path}
 use Rattle.iri_normal.proofs.MapPaths.{mapped-last_slash, mapped-dots, mapped-guard}
 use Rattle.iri_normal.proofs.FormLaws.{lowered-chars}

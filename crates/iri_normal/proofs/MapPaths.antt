@@ -1,25 +1,14 @@
 -- The mapping of paths: segments, and dot removal.
-use Rattle.std.proofs.Common.{◌≡◌, ℕ, Bool, true, false, cond, not, ◌&&◌, ◌||◌, List, [], ◌∷◌, ◌++◌, Option, Some, None, map, refl, sym}
-use Rattle.std.proofs.Common.{◌∙◌, ap, subst, arith}
-use Rattle.std.specs.Prelude.{◌==◌, ◌/◌, ◌%◌, nat_lt}
-use Rattle.std.proofs.lemmas.Bool.Decides.{nat_tests}
-use Rattle.std.proofs.Math.Bool.{and-false}
-use Rattle.std.specs.List.{list_all}
-use Rattle.iri_grammar.specs.Cut.{lacks}
-use Rattle.iri_grammar.proofs.CutLaws.{by_test}
-use Rattle.iri_grammar.specs.Parts.{starts_with_slashes}
-use Rattle.iri_grammar.specs.Pieces.{pieces, onto}
+use Rattle.iri_normal.proofs.Common.{◌≡◌, ℕ, Bool, true, false, cond, not, ◌&&◌, ◌||◌, List, [], ◌∷◌, ◌++◌, Option, Some, None, map, refl}
+use Rattle.iri_normal.proofs.Common.{sym, ◌∙◌, ap, subst, arith, ◌==◌, nat_lt, nat_tests, and-false, list_all, lacks, by_test}
+use Rattle.iri_normal.proofs.Common.{starts_with_slashes, pieces, onto, after_dot, is_dot_segment, is_all, is_one_dot, is_one_dot_after}
+use Rattle.iri_normal.proofs.Common.{is_two_dots, dots, guard, where_there, to_last_slash}
+use Rattle.std.specs.Prelude.{◌/◌, ◌%◌}
 use Rattle.iri_percent.specs.Mapping.{capital_hex, triplet, mapped}
 use Rattle.iri_percent.proofs.MapTexts.{mapped-low, mapped-high, mapped-append}
 use Rattle.iri_percent.proofs.MapDelimiters.{slash-apart, slash_hex, high_apart, mapped-lacks, mapped-slashes}
-use Rattle.iri_normal.specs.Dots.{after_dot, is_dot_segment}
-use Rattle.iri_normal.specs.DotRemoval.{is_all, is_one_dot, is_one_dot_after, is_two_dots}
-use Rattle.iri_normal.specs.DotRemoval.{dots}
-use Rattle.iri_normal.specs.Guard.{guard}
-use Rattle.iri_normal.specs.LowerCase.{where_there}
 use Rattle.iri_normal.proofs.OutputLaws.{KeepsSegments, dots-map}
 use Rattle.iri_normal.proofs.PieceLaws.{pieces-some, dot_kinds}
-use Rattle.iri_normal.specs.Target.{to_last_slash}
 
 last_slash-triplet : (x : ℕ) (ys : List ℕ) → to_last_slash (triplet x ++ ys) ≡ cond (lacks 47 ys) [] (triplet x ++ to_last_slash ys)
 last_slash-triplet x ys = rw (slash_hex (x / 16), slash_hex (x % 16))

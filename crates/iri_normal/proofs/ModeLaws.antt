@@ -1,29 +1,15 @@
 -- Parts in a mode fit, and stay texts of their kind; the preserving form is stable.
-use Rattle.std.proofs.Common.{◌≡◌, ℕ, Bool, true, false, cond, not, ◌||◌, List, [], ◌∷◌, Option, Some, None, refl, sym, ◌∙◌, ap, subst}
-use Rattle.std.specs.Prelude.{IsSome, IsNone, is_some}
-use Rattle.iri_grammar.specs.Classes.{Tests, IsSpec}
-use Rattle.iri_grammar.specs.Components.{is_path, is_query, is_fragment}
-use Rattle.iri_grammar.proofs.FaultLaws.{iri-law, absolute-law}
-use Rattle.iri_grammar.specs.Parts.{Parts, Fits, path_rules, recompose, starts_with_slash, starts_with_slashes}
+use Rattle.iri_normal.proofs.Common.{◌≡◌, ℕ, Bool, true, false, cond, not, ◌||◌, List, [], ◌∷◌, Option, Some, None, refl, sym, ◌∙◌, ap}
+use Rattle.iri_normal.proofs.Common.{subst, IsSome, is_some, Tests, IsSpec, is_path, is_query, is_fragment, iri-law, absolute-law, Parts}
+use Rattle.iri_normal.proofs.Common.{Fits, path_rules, recompose, starts_with_slash, starts_with_slashes, iri_fault, absolute_fault}
+use Rattle.iri_normal.proofs.Common.{pct-path, normal_authority, pct-stable, pct, CanonMode, Default, Scheme, path-whole, query-whole}
+use Rattle.iri_normal.proofs.Common.{fragment-whole, dots, guard, is_normalizing, mode_of, lowered, where_there, form, normal_path}
+use Rattle.iri_normal.proofs.Common.{preserved_path, part_in, Mode, Plain, Normal, Preserving, ByScheme}
+use Rattle.std.specs.Prelude.{IsNone}
 use Rattle.iri_grammar.proofs.SplitUnique.{one_split}
-use Rattle.iri_grammar.specs.WholeFault.{iri_fault, absolute_fault}
-use Rattle.iri_percent.proofs.ClassLaws.{pct-path}
-use Rattle.iri_percent.specs.NormalHost.{normal_authority}
-use Rattle.iri_percent.proofs.Stability.{pct-stable}
-use Rattle.iri_percent.specs.Triplets.{pct}
-use Rattle.iri_percent.specs.declared.canon_mode.CanonMode.{CanonMode}
-use Rattle.iri_percent.specs.declared.canon_mode.CanonMode.TheVariants.{Default, Scheme}
-use Rattle.iri_percent.proofs.WholeLaws.{path-whole, query-whole, fragment-whole}
-use Rattle.iri_normal.specs.DotRemoval.{dots}
 use Rattle.iri_normal.proofs.SchemeForm.{form-is}
 use Rattle.iri_normal.proofs.FormLaws.{normal_in-fits, parts-fit, scheme-stable, authorities-stable, triplets-stable}
-use Rattle.iri_normal.specs.Guard.{guard}
-use Rattle.iri_normal.specs.Modes.{is_normalizing, mode_of}
-use Rattle.iri_normal.specs.LowerCase.{lowered, where_there}
-use Rattle.iri_normal.specs.NormalForm.{form, normal_path, preserved_path, part_in}
 use Rattle.iri_normal.proofs.PathLaws.{path-over, path-rules, path-stable, plain-over, plain-rules, pct-unrooted, normal-rooted}
-use Rattle.iri_normal.specs.declared.mode.Mode.{Mode}
-use Rattle.iri_normal.specs.declared.mode.Mode.TheVariants.{Plain, Normal, Preserving, ByScheme}
 
 -- ---- the preserved path
 preserved-over : (s : Tests) (a : Option (List ℕ)) (p : List ℕ) → IsSpec s → is_path s p ≡ true → is_path s (preserved_path s a p) ≡ true

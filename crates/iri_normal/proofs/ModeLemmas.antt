@@ -1,23 +1,11 @@
 -- Texts written in a mode.
-use Rattle.std.proofs.Common.{◌≡◌, ℕ, Bool, List, Option, None, refl, sym, ◌∙◌, ap, subst}
-use Rattle.std.proofs.Math.Logic.{∥∥₁_elim}
-use Rattle.std.proofs.Props.{props}
-use Rattle.std.specs.Prelude.{IsSome}
-use Rattle.iri_grammar.specs.Classes.{Tests, IsSpec}
-use Rattle.iri_grammar.proofs.FaultLaws.{iri-law, no_fault_where_splits, splits_where_no_fault}
-use Rattle.iri_grammar.specs.Parts.{Fits, recompose}
-use Rattle.iri_grammar.specs.Split.{split_of}
-use Rattle.iri_grammar.proofs.SplitLaws.{recompose_split}
-use Rattle.iri_grammar.proofs.SplitUnique.{split_is}
-use Rattle.iri_grammar.specs.WholeFault.{reference_fault, iri_fault}
+use Rattle.iri_normal.proofs.Common.{◌≡◌, ℕ, Bool, List, Option, None, refl, sym, ◌∙◌, ap, subst, ∥∥₁_elim, props, IsSome, Tests, IsSpec}
+use Rattle.iri_normal.proofs.Common.{iri-law, Fits, recompose, split_of, recompose_split, split_is, reference_fault, iri_fault, CanonMode}
+use Rattle.iri_normal.proofs.Common.{canonical_in, mode_of, slices, target}
+use Rattle.iri_grammar.proofs.FaultLaws.{no_fault_where_splits, splits_where_no_fault}
 use Rattle.iri_grammar.specs.declared.error.ErrorKind.{ErrorKind}
-use Rattle.iri_percent.specs.declared.canon_mode.CanonMode.{CanonMode}
 use Rattle.iri_normal.proofs.CanonLaws.{written-canonical as targets-canonical}
 use Rattle.iri_normal.specs.Normalized.{AreSound, Written, written_text}
-use Rattle.iri_normal.specs.NormalForm.{canonical_in}
-use Rattle.iri_normal.specs.Modes.{mode_of}
-use Rattle.iri_normal.specs.Slices.{slices}
-use Rattle.iri_normal.specs.Target.{target}
 use Rattle.iri_normal.specs.declared.target.TargetSlices.{TargetSlices}
 
 -- ---- what sound slices are

@@ -1,24 +1,17 @@
 -- The first dot segment of a path.
+use Rattle.iri_normal.proofs.Common.{eqb-true, length-take-le, take-append-drop, ◌==◌, slice_index, and-false, before, after, both}
+use Rattle.iri_normal.proofs.Common.{after_shorter, pieces_cut, is_empty, is_all, is_one_dot_after, is_two_dots, any_dot_segment, after_dot}
+use Rattle.iri_normal.proofs.Common.{is_dot_segment, has_dot_segment, ends_at_slash, dots_before, slash_and_dots, dots_after, left}
+use Rattle.iri_normal.proofs.Common.{or_nothing, written}
 use Rattle.std.proofs.Common.{◌≡◌, ℕ, suc, ◌+◌, ◌-◌, ◌<◌, ◌≤◌, Bool, true, false, cond, ◌&&◌, ◌||◌, List, [], ◌∷◌, ◌++◌, Option, Some, None}
-use Rattle.std.proofs.Common.{refl, sym, ◌∙◌, ap, subst, arith, length, take, drop, length-append, drop-cons, below_more}
-use Rattle.std.proofs.lemmas.Bool.{eqb-true, or_right, ne_eqb}
-use Rattle.std.proofs.lemmas.List.{append-nil, length-take-le, take-append-drop}
-use Rattle.std.specs.Prelude.{◌==◌, slice_index}
-use Rattle.std.proofs.Math.Bool.{and-false}
-use Rattle.iri_grammar.specs.Cut.{before, after}
-use Rattle.iri_grammar.proofs.CutLaws.{both}
-use Rattle.iri_grammar.proofs.PiecesLaws.{after_shorter, pieces_cut}
-use Rattle.iri_grammar.specs.Parts.{is_empty}
-use Rattle.iri_normal.specs.DotRemoval.{is_all, is_one_dot_after, is_two_dots}
-use Rattle.iri_normal.specs.Dots.{any_dot_segment, after_dot, is_dot_segment, has_dot_segment}
-use Rattle.iri_normal.specs.Target.{ends_at_slash}
-use Rattle.iri_normal.specs.inside.DotSearch.{dots_before, slash_and_dots, dots_after}
-use Rattle.iri_normal.proofs.DotLemmas.{cut_rest, dot_cut, empty_after, first_or_after, next_place, one_dot_first, plain_prefix, too_short, two_dots_first}
+use Rattle.std.proofs.Common.{refl, sym, ◌∙◌, ap, subst, arith, length, take, drop, length-append, drop-cons, below_more, append-nil}
+use Rattle.std.proofs.lemmas.Bool.{or_right, ne_eqb}
+use Rattle.iri_normal.proofs.DotLemmas.{cut_rest, dot_cut, empty_after, first_or_after, next_place, one_dot_first, plain_prefix, too_short}
+use Rattle.iri_normal.proofs.DotLemmas.{two_dots_first}
 use Rattle.iri_normal.proofs.EndedLemmas.{both-end, take-ends}
 use Rattle.iri_normal.proofs.PieceLaws.{nothing-is_no_dot, past_dot}
 use Rattle.iri_normal.proofs.SegmentLemmas.{dot_in_two, nothing-plain}
 use Rattle.iri_normal.specs.inside.NextDots.{IsBefore, IsNext}
-use Rattle.iri_normal.specs.inside.Written.{left, or_nothing, written}
 use Rattle.iri_normal.proofs.WrittenLemmas.{left-ends, written-dot, written-run}
 
 -- ---- a dot segment at the start

@@ -1,27 +1,12 @@
 -- Parts without a stray `%`, and a path in two pieces.
-use Rattle.std.proofs.Common.{◌≡◌, ℕ, true, false, cond, ◌&&◌, ◌||◌, List, [], ◌∷◌, ◌++◌, Option, Some, None, Bor, refl, sym, ◌∙◌, arith}
-use Rattle.std.proofs.Common.{ap, subst, append_assoc}
-use Rattle.std.specs.Prelude.{◌==◌, is_some}
-use Rattle.std.specs.Char.{is_ascii_hexdigit}
-use Rattle.std.proofs.lemmas.List.{append-nil}
-use Rattle.std.proofs.lemmas.Bool.{eqb-true}
-use Rattle.iri_grammar.specs.Classes.{Tests, IsSpec, path_char}
-use Rattle.iri_grammar.specs.OptionalSlices.{now_of}
-use Rattle.iri_grammar.specs.Components.{is_path}
-use Rattle.iri_grammar.proofs.CutLaws.{both}
-use Rattle.iri_grammar.specs.Parts.{is_empty}
-use Rattle.iri_percent.proofs.DelimiterLaws.{pct_delimiter, slash}
-use Rattle.iri_percent.specs.Triplets.{pct, normal}
-use Rattle.iri_percent.specs.Units.{whole_triplets, two_digits}
+use Rattle.iri_normal.proofs.Common.{◌≡◌, ℕ, true, false, cond, ◌&&◌, ◌||◌, List, [], ◌∷◌, ◌++◌, Option, Some, None, Bor, refl, sym, ◌∙◌}
+use Rattle.iri_normal.proofs.Common.{arith, ap, subst, append_assoc, ◌==◌, is_some, is_ascii_hexdigit, append-nil, eqb-true, Tests, IsSpec}
+use Rattle.iri_normal.proofs.Common.{path_char, now_of, is_path, both, is_empty, pct_delimiter, slash, pct, normal, whole_triplets}
+use Rattle.iri_normal.proofs.Common.{two_digits, dots, guard, normal_path, ends_at_slash, path-whole}
 use Rattle.iri_percent.specs.CharUnits.{char_units_from}
-use Rattle.iri_normal.specs.DotRemoval.{dots}
-use Rattle.iri_normal.specs.Guard.{guard}
-use Rattle.iri_normal.specs.NormalForm.{normal_path}
 use Rattle.iri_normal.proofs.PathLaws.{dots-over}
-use Rattle.iri_normal.specs.Target.{ends_at_slash}
 use Rattle.iri_normal.proofs.TargetLaws.{slash_in_path}
 use Rattle.iri_normal.proofs.EndedLemmas.{end_slash}
-use Rattle.iri_percent.proofs.WholeLaws.{path-whole}
 
 pub pct_nil : (s : Tests) → pct s [] ≡ []
 unfolding normal char_units_from

@@ -1,12 +1,6 @@
 -- Dot removal over segments and over the output's text.
-use Rattle.std.proofs.Common.{◌≡◌, ℕ, Bool, true, false, cond, not, ◌&&◌, List, [], ◌∷◌, ◌++◌, refl, sym, ◌∙◌, ap, map}
-use Rattle.std.specs.Prelude.{◌==◌}
-use Rattle.std.proofs.lemmas.Bool.{eq-eqb}
-use Rattle.std.specs.List.{list_all}
-use Rattle.iri_grammar.specs.Cut.{lacks}
-use Rattle.iri_grammar.proofs.CutLaws.{both}
-use Rattle.iri_grammar.specs.Pieces.{pieces}
-use Rattle.iri_normal.specs.Dots.{is_dot_segment}
+use Rattle.iri_normal.proofs.Common.{◌≡◌, ℕ, Bool, true, false, cond, not, ◌&&◌, List, [], ◌∷◌, ◌++◌, refl, sym, ◌∙◌, ap, map, ◌==◌, eq-eqb}
+use Rattle.iri_normal.proofs.Common.{list_all, lacks, both, pieces, is_dot_segment}
 use Rattle.iri_normal.specs.DotRemoval.{is_two_dots, without_last, without_top, closed, remove_after, remove_dots, path_text, dots}
 use Rattle.iri_normal.proofs.PieceLaws.{all_lack, pieces-lack}
 

@@ -1,15 +1,11 @@
 -- The last segment of the output buffer.
-use Rattle.std.proofs.Common.{◌≡◌, ℕ, ◌+◌, ◌-◌, ◌<◌, ◌≤◌, true, List, [], ◌∷◌, ◌++◌, Some, None, refl, sym, ◌∙◌, ap, arith}
-use Rattle.std.proofs.Common.{append_assoc, length, take, drop}
+use Rattle.iri_normal.proofs.Common.{◌≡◌, ℕ, ◌+◌, ◌-◌, ◌<◌, ◌≤◌, true, List, [], ◌∷◌, ◌++◌, Some, None, refl, sym, ◌∙◌, ap, arith}
+use Rattle.iri_normal.proofs.Common.{append_assoc, length, take, drop, is_byte, IsLastByte, without_last, ends_at_slash, popped}
 use Rattle.std.proofs.lemmas.List.{length-take-le, take-append-drop, take-take, take_more}
 use Rattle.std.specs.Prelude.{slice_set}
-use Rattle.memchr.specs.Find.{is_byte, IsLastByte}
-use Rattle.iri_normal.specs.DotRemoval.{without_last}
-use Rattle.iri_normal.specs.Target.{ends_at_slash}
 use Rattle.iri_normal.proofs.EndedLemmas.{after_last, without_end}
 use Rattle.iri_normal.proofs.OutputLaws.{without_last-all, without_last-slash}
 use Rattle.iri_normal.proofs.SlashLemmas.{no_slash, slash_is}
-use Rattle.iri_normal.specs.inside.Written.{popped}
 use Rattle.iri_normal.proofs.WrittenLemmas.{popped-output}
 
 -- the buffer is what stands before its last slash, and the slash

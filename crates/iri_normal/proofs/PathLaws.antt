@@ -1,35 +1,18 @@
 -- The normal form of a path: it stays a path, keeps its rules, and is stable.
-use Rattle.std.proofs.Common.{◌≡◌, ℕ, Bool, true, false, cond, not, ◌||◌, List, [], ◌∷◌, ◌++◌, Option, Some, None, refl, ◌∙◌, ap, subst}
-use Rattle.std.proofs.Common.{append-nil, eqb-true}
-use Rattle.std.specs.Prelude.{◌==◌, is_some}
-use Rattle.std.specs.List.{list_all}
-use Rattle.iri_grammar.specs.Classes.{Tests, IsSpec, path_char, is_ascii_path, is_ascii_pchar, is_ascii_reg_name, is_ascii_unreserved}
-use Rattle.iri_grammar.specs.Classes.{is_sub_delim}
-use Rattle.iri_grammar.specs.Components.{is_path}
-use Rattle.iri_grammar.specs.Cut.{lacks}
-use Rattle.iri_grammar.proofs.CutLaws.{both}
-use Rattle.iri_grammar.specs.Over.{text_over}
-use Rattle.iri_grammar.specs.Parts.{path_rules, is_empty, starts_with_slash, starts_with_slashes}
-use Rattle.iri_grammar.specs.Pieces.{pieces}
-use Rattle.iri_percent.specs.Triplets.{as_it_is, pct}
-use Rattle.iri_percent.specs.Units.{whole_triplets}
-use Rattle.iri_percent.proofs.NormalLaws.{normal_nil, normal_plain}
-use Rattle.iri_percent.proofs.Stability.{pct-stable}
-use Rattle.iri_normal.specs.Dots.{is_dot_segment}
-use Rattle.iri_normal.specs.DotRemoval.{is_two_dots, without_last, closed, remove_after, remove_dots, path_text, dots}
-use Rattle.iri_normal.specs.Guard.{guard}
-use Rattle.iri_normal.specs.NormalForm.{normal_path}
-use Rattle.iri_grammar.proofs.UnitRuns.{text_over-append, nothing_over}
+use Rattle.iri_normal.proofs.Common.{◌≡◌, ℕ, Bool, true, false, cond, not, ◌||◌, List, [], ◌∷◌, ◌++◌, Option, Some, None, refl, ◌∙◌, ap}
+use Rattle.iri_normal.proofs.Common.{subst, append-nil, eqb-true, ◌==◌, is_some, list_all, Tests, IsSpec, path_char, is_ascii_path}
+use Rattle.iri_normal.proofs.Common.{is_ascii_pchar, is_ascii_reg_name, is_ascii_unreserved, is_sub_delim, is_path, lacks, both, text_over}
+use Rattle.iri_normal.proofs.Common.{path_rules, is_empty, starts_with_slash, starts_with_slashes, pieces, as_it_is, pct, whole_triplets}
+use Rattle.iri_normal.proofs.Common.{normal_nil, normal_plain, pct-stable, is_dot_segment, is_two_dots, without_last, closed, remove_after}
+use Rattle.iri_normal.proofs.Common.{remove_dots, path_text, dots, guard, normal_path, text_over-append, nothing_over, where_there}
+use Rattle.iri_normal.proofs.Common.{pct-path, path-whole}
 use Rattle.iri_normal.proofs.TextLaws.{slash_over, point_over, text_over-cut}
 use Rattle.iri_normal.proofs.TargetLaws.{slash_in_path}
-use Rattle.iri_normal.specs.LowerCase.{where_there}
 use Rattle.iri_normal.proofs.PieceLaws.{nothing-is_no_dot, pieces-some}
 use Rattle.iri_normal.proofs.OutputLaws.{left, text_after, dots-text}
 use Rattle.iri_normal.proofs.StableLaws.{unsplit, unsplit-pieces, dots-stable, guard-dots}
 use Rattle.iri_normal.proofs.TripletPaths.{dots-pct}
 use Rattle.iri_normal.proofs.TripletHeads.{pct-head}
-use Rattle.iri_percent.proofs.ClassLaws.{pct-path}
-use Rattle.iri_percent.proofs.WholeLaws.{path-whole}
 
 -- ---- what holds of each segment holds of each that is left
 each-left : (P : List ℕ → Bool) (two : Bool) (st : List (List ℕ)) → P [] ≡ true → list_all P st ≡ true → list_all P (left two st) ≡ true

@@ -1,14 +1,8 @@
 -- The segments of a path.
-use Rattle.std.proofs.Common.{◌≡◌, ℕ, Bool, true, false, cond, not, ◌&&◌, ◌||◌, List, [], ◌∷◌, ◌++◌, Option, Some, None, refl, sym, ◌∙◌}
-use Rattle.std.proofs.Common.{ap, subst, arith}
-use Rattle.std.specs.Prelude.{◌==◌}
-use Rattle.std.proofs.lemmas.Bool.Decides.{nat_tests}
-use Rattle.std.proofs.Math.Bool.{or-true, or-false}
-use Rattle.iri_grammar.specs.Cut.{lacks}
-use Rattle.iri_grammar.proofs.CutLaws.{by_test, both}
-use Rattle.iri_grammar.specs.Pieces.{pieces, onto}
-use Rattle.iri_normal.specs.Dots.{after_dot, is_dot_segment, is_dot_segment_after, is_dot_or_nothing}
-use Rattle.iri_normal.specs.DotRemoval.{is_all, is_one_dot, is_one_dot_after, is_two_dots}
+use Rattle.iri_normal.proofs.Common.{◌≡◌, ℕ, Bool, true, false, cond, not, ◌&&◌, ◌||◌, List, [], ◌∷◌, ◌++◌, Option, Some, None, refl, sym}
+use Rattle.iri_normal.proofs.Common.{◌∙◌, ap, subst, arith, ◌==◌, nat_tests, or-true, or-false, lacks, by_test, both, pieces, onto}
+use Rattle.iri_normal.proofs.Common.{after_dot, is_dot_segment, is_dot_segment_after, is_dot_or_nothing, is_all, is_one_dot}
+use Rattle.iri_normal.proofs.Common.{is_one_dot_after, is_two_dots}
 
 -- each of the texts lacks the slash
 abbrev pub all_lack : List (List ℕ) → Bool

@@ -1,44 +1,27 @@
 -- References in which nothing changes.
-use Rattle.std.proofs.Common.{◌≡◌, ℕ, Bool, true, false, cond, not, ◌||◌, List, [], ◌∷◌, ◌++◌, Option, Some, None, refl, sym, ◌∙◌, ap}
-use Rattle.std.proofs.Common.{◌≤◌, append_assoc, append-nil, arith, drop, length, subst}
-use Rattle.std.specs.Char.{to_ascii_lowercase}
+use Rattle.iri_normal.proofs.Common.{◌≡◌, ℕ, Bool, true, false, cond, not, ◌||◌, List, [], ◌∷◌, ◌++◌, Option, Some, None, refl, sym, ◌∙◌}
+use Rattle.iri_normal.proofs.Common.{ap, ◌≤◌, append_assoc, append-nil, arith, drop, length, subst, to_ascii_lowercase, ◌==◌, is_some}
+use Rattle.iri_normal.proofs.Common.{MatchOption, list_all, or_parts, not-true, or-true, Tests, IsSpec, if_there, is_fragment, is_query}
+use Rattle.iri_normal.proofs.Common.{is_scheme, is_scheme_char, lacks, delimited, Parts, Fits, authority_text, is_empty, path_rules}
+use Rattle.iri_normal.proofs.Common.{recompose, scheme_text, starts_with_slash, starts_with_slashes, split_of, both, lacks-append}
+use Rattle.iri_normal.proofs.Common.{scheme-chars, normal_authority, pct, whole_triplets, pct_delimiter, whole_plain, fragment-whole}
+use Rattle.iri_normal.proofs.Common.{path-whole, query-whole, has_dot_segment, guard, lowered, where_there, canonical, normal_form}
+use Rattle.iri_normal.proofs.Common.{normal_path, IsPrefix, prefix_in, ends_at_slash, merge_prefix, target, target_path, Normal}
 use Rattle.std.specs.Str.{IsAscii}
 use Rattle.std.proofs.lemmas.List.{map-append}
 use Rattle.std.proofs.lemmas.Str.Ascii.{IsAscii-cons, IsAscii-nil}
 use Rattle.std.proofs.Math.Seq.{drop-append_seam}
-use Rattle.std.specs.Prelude.{◌==◌, is_some, MatchOption}
-use Rattle.std.specs.List.{list_all}
-use Rattle.std.proofs.lemmas.Bool.{or_parts, not-true}
-use Rattle.std.proofs.Math.Bool.{or-true}
 use Rattle.std.proofs.lemmas.Str.{IsAscii-append}
-use Rattle.iri_grammar.specs.Classes.{Tests, IsSpec}
-use Rattle.iri_grammar.specs.Components.{if_there, is_fragment, is_query, is_scheme, is_scheme_char}
-use Rattle.iri_grammar.specs.Cut.{lacks, delimited}
-use Rattle.iri_grammar.specs.Parts.{Parts, Fits, authority_text, is_empty, path_rules, recompose, scheme_text, starts_with_slash}
-use Rattle.iri_grammar.specs.Parts.{starts_with_slashes}
 use Rattle.iri_grammar.specs.Seen.{is_plain_authority, is_small}
-use Rattle.iri_grammar.specs.Split.{split_of}
-use Rattle.iri_grammar.proofs.CutLaws.{both, lacks-append}
-use Rattle.iri_grammar.proofs.SplitLaws.{scheme-chars, scheme-lacks, delimited-lacks}
+use Rattle.iri_grammar.proofs.SplitLaws.{scheme-lacks, delimited-lacks}
 use Rattle.iri_grammar.proofs.SplitUnique.{scheme_char-below}
 use Rattle.iri_grammar.proofs.AuthorityTexts.{all_below}
 use Rattle.iri_grammar.proofs.LiteralChars.{all-join}
 use Rattle.iri_percent.specs.DelimiterLaws.{IsOutsideTriplets}
-use Rattle.iri_percent.specs.NormalHost.{normal_authority}
-use Rattle.iri_percent.specs.Triplets.{pct}
-use Rattle.iri_percent.specs.Units.{whole_triplets}
-use Rattle.iri_percent.proofs.DelimiterLaws.{pct_delimiter}
 use Rattle.iri_percent.proofs.PlainTexts.{pct-prefix, pct-delimited, plain-ascii, plain-lacks, plain_authority, small-lowered}
-use Rattle.iri_percent.proofs.Reading.{whole_plain}
-use Rattle.iri_percent.proofs.WholeLaws.{fragment-whole, lacks-whole, path-whole, query-whole, whole-append}
-use Rattle.iri_normal.specs.Dots.{has_dot_segment}
-use Rattle.iri_normal.specs.Guard.{guard}
-use Rattle.iri_normal.specs.LowerCase.{lowered, where_there}
-use Rattle.iri_normal.specs.NormalForm.{canonical, normal_form, normal_path}
-use Rattle.iri_normal.specs.Prefix.{IsPrefix, prefix_in}
-use Rattle.iri_normal.specs.Target.{ends_at_slash, merge_prefix, target, target_path}
-use Rattle.iri_normal.specs.declared.mode.Mode.TheVariants.{Normal}
-use Rattle.iri_normal.specs.inside.Unchanged.{EndsCanonical, IsLowered, KeepsPrefix, LacksTriplets, StandBefore, is_plain_prefix, lacks_triplets_and_dots}
+use Rattle.iri_percent.proofs.WholeLaws.{lacks-whole, whole-append}
+use Rattle.iri_normal.specs.inside.Unchanged.{EndsCanonical, IsLowered, KeepsPrefix, LacksTriplets, StandBefore, is_plain_prefix}
+use Rattle.iri_normal.specs.inside.Unchanged.{lacks_triplets_and_dots}
 use Rattle.iri_normal.proofs.PieceLaws.{nothing-is_no_dot}
 use Rattle.iri_normal.proofs.PrefixLemmas.{prefix-form, rest, text-cut}
 use Rattle.iri_normal.proofs.SegmentLemmas.{dot_in_parts}

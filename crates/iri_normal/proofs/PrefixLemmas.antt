@@ -1,24 +1,12 @@
 -- Prefixes of bases and targets.
-use Rattle.std.proofs.Common.{◌≡◌, ℕ, ◌≤◌, ◌+◌, Bool, List, [], ◌++◌, Option, Some, None, true, false, length, take, refl, sym, ◌∙◌, ap}
-use Rattle.std.proofs.Common.{subst, arith, append_assoc, append-nil, length-append}
+use Rattle.iri_normal.proofs.Common.{◌≡◌, ℕ, ◌≤◌, ◌+◌, Bool, List, [], ◌++◌, Option, Some, None, true, false, length, take, refl, sym, ◌∙◌}
+use Rattle.iri_normal.proofs.Common.{ap, subst, arith, append_assoc, append-nil, length-append, take-append_seam, Tests, IsSpec, path_char}
+use Rattle.iri_normal.proofs.Common.{delimited, IsUtf8, IsCharBoundary, Parts, Fits, Splits, path_rules, recompose, scheme_text}
+use Rattle.iri_normal.proofs.Common.{authority_text, split_of, recompose_split, ended, over-from_text, pct, path_percent, is_normalizing}
+use Rattle.iri_normal.proofs.Common.{form, part_in, path_in, IsPrefix, prefix_in, target, Mode, Plain, Normal, Preserving, ByScheme}
 use Rattle.std.proofs.lemmas.Str.{IsCharBoundary-from_take}
-use Rattle.std.proofs.Math.Seq.{take-append_seam}
-use Rattle.iri_grammar.specs.Classes.{Tests, IsSpec, path_char}
-use Rattle.iri_grammar.specs.Cut.{delimited}
 use Rattle.iri_grammar.proofs.SplitUnique.{splits-utf8}
-use Rattle.std.specs.Str.{IsUtf8, IsCharBoundary}
-use Rattle.iri_grammar.specs.Parts.{Parts, Fits, Splits, path_rules, recompose, scheme_text, authority_text}
-use Rattle.iri_grammar.specs.Split.{split_of}
-use Rattle.iri_grammar.proofs.SplitLaws.{recompose_split}
-use Rattle.iri_percent.proofs.ClassLaws.{ended, over-from_text}
-use Rattle.iri_percent.specs.Triplets.{pct}
-use Rattle.iri_percent.proofs.WholeLaws.{path_percent}
-use Rattle.iri_normal.specs.Modes.{is_by_scheme, is_normalizing}
-use Rattle.iri_normal.specs.NormalForm.{form, part_in, path_in}
-use Rattle.iri_normal.specs.Prefix.{IsPrefix, prefix_in}
-use Rattle.iri_normal.specs.Target.{target}
-use Rattle.iri_normal.specs.declared.mode.Mode.{Mode}
-use Rattle.iri_normal.specs.declared.mode.Mode.TheVariants.{Plain, Normal, Preserving, ByScheme}
+use Rattle.iri_normal.specs.Modes.{is_by_scheme}
 
 -- a target with neither scheme nor authority of its own has the base's prefix
 pub prefix-kept : (s : Tests) (b r : Parts) (o : Option (List ℕ)) → r.scheme ≡ None → r.authority ≡ None → IsPrefix s b o

@@ -1,24 +1,13 @@
 -- What rules that drop a port change: a normal form loses the port, and its empty path becomes a slash.
-use Rattle.std.proofs.Common.{◌≡◌, ℕ, Bool, true, false, cond, ◌||◌, List, [], ◌∷◌, Option, Some, None, refl, sym, ◌∙◌, ap}
+use Rattle.iri_normal.proofs.Common.{◌≡◌, ℕ, Bool, true, false, cond, ◌||◌, List, [], ◌∷◌, Option, Some, None, refl, sym, ◌∙◌, ap}
+use Rattle.iri_normal.proofs.Common.{to_ascii_lowercase, bytes_eq, Tests, IsSpec, if_there, authority_parts, is_authority}
+use Rattle.iri_normal.proofs.Common.{recompose_authority, AuthorityParts, Parts, Fits, path_rules, is_empty, starts_with_slash, as_it_is}
+use Rattle.iri_normal.proofs.Common.{pct, is_dropped, normal_authority, normal_authority_in, normal_port_in, default_port, dropped_port}
+use Rattle.iri_normal.proofs.Common.{CanonMode, Default, Scheme, authority_in, normal_nil, lower-case, dots, lowered, where_there, mode_of}
+use Rattle.iri_normal.proofs.Common.{becomes_slash, form, normal_form, normal_form_in, normal_parts, normal_path, slash_or}
 use Rattle.std.specs.Prelude.{codes}
-use Rattle.std.specs.Char.{to_ascii_lowercase}
-use Rattle.std.specs.Str.{bytes_eq, str_eq_ignore_ascii_case, str_to_ascii_lowercase}
-use Rattle.iri_grammar.specs.Classes.{Tests, IsSpec}
-use Rattle.iri_grammar.specs.Components.{if_there}
-use Rattle.iri_grammar.specs.Authority.{authority_parts, is_authority, recompose_authority, AuthorityParts}
-use Rattle.iri_grammar.specs.Parts.{Parts, Fits, path_rules, is_empty, starts_with_slash}
-use Rattle.iri_percent.specs.Triplets.{as_it_is, pct}
-use Rattle.iri_percent.specs.NormalHost.{is_dropped, normal_authority, normal_authority_in, normal_authority_parts, normal_port, normal_port_in}
-use Rattle.iri_percent.specs.SchemeRules.{default_port, dropped_port}
-use Rattle.iri_percent.specs.declared.canon_mode.CanonMode.{CanonMode}
-use Rattle.iri_percent.specs.declared.canon_mode.CanonMode.TheVariants.{Default, Scheme}
-use Rattle.iri_percent.proofs.Authorities.{authority_in}
-use Rattle.iri_percent.proofs.NormalLaws.{normal_nil}
-use Rattle.iri_percent.proofs.Stability.{lower-case}
-use Rattle.iri_normal.specs.DotRemoval.{dots}
-use Rattle.iri_normal.specs.LowerCase.{lowered, where_there}
-use Rattle.iri_normal.specs.Modes.{mode_of}
-use Rattle.iri_normal.specs.NormalForm.{becomes_slash, form, normal_form, normal_form_in, normal_parts, normal_path, slash_or}
+use Rattle.std.specs.Str.{str_eq_ignore_ascii_case, str_to_ascii_lowercase}
+use Rattle.iri_percent.specs.NormalHost.{normal_authority_parts, normal_port}
 use Rattle.iri_normal.proofs.AuthorityForm.{normal-parts}
 use Rattle.iri_normal.proofs.PathLaws.{dots-nothing, dots-slash, pct-slash}
 

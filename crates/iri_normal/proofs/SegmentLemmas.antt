@@ -1,11 +1,7 @@
 -- Paths cut where a segment ends.
-use Rattle.std.proofs.Common.{◌≡◌, ℕ, true, false, ◌||◌, List, [], ◌∷◌, ◌++◌, refl, sym, ◌∙◌, ap, arith, append_assoc}
-use Rattle.std.proofs.lemmas.List.{append-nil}
-use Rattle.std.proofs.Math.Bool.{or-false, or_assoc}
-use Rattle.iri_grammar.specs.Parts.{is_empty}
-use Rattle.iri_grammar.specs.Pieces.{pieces}
-use Rattle.iri_normal.specs.Target.{ends_at_slash}
-use Rattle.iri_normal.specs.Dots.{is_dot_segment, any_dot_segment, has_dot_segment}
+use Rattle.iri_normal.proofs.Common.{◌≡◌, ℕ, true, false, ◌||◌, List, [], ◌∷◌, ◌++◌, refl, sym, ◌∙◌, ap, arith, append_assoc, append-nil}
+use Rattle.iri_normal.proofs.Common.{or-false, is_empty, pieces, ends_at_slash, is_dot_segment, any_dot_segment, has_dot_segment}
+use Rattle.std.proofs.Math.Bool.{or_assoc}
 use Rattle.iri_normal.proofs.EndedLemmas.{end_slash}
 use Rattle.iri_normal.proofs.PieceLaws.{nothing-is_no_dot, pieces-append}
 

@@ -1,13 +1,9 @@
 -- The last slash of a path.
-use Rattle.std.proofs.Common.{◌≡◌, ℕ, zero, suc, ◌+◌, ◌<◌, true, false, cond, not, ◌&&◌, List, [], ◌∷◌, Some, None}
-use Rattle.std.proofs.Common.{length, take, drop, ◌++◌, refl, sym, ◌∙◌, ap, arith, add-one}
-use Rattle.std.specs.Prelude.{◌==◌, slice_index}
-use Rattle.std.proofs.lemmas.Bool.{eqb-true, false_from_ne_true}
-use Rattle.std.proofs.lemmas.List.{drop_at, length-take-le}
-use Rattle.memchr.specs.Find.{is_byte, IsLastByte}
-use Rattle.iri_grammar.specs.Cut.{lacks, before}
-use Rattle.iri_grammar.specs.Parts.{is_empty, starts_with_slash, starts_with_slashes}
-use Rattle.iri_normal.specs.Target.{to_last_slash, last_segment, ends_at_slash}
+use Rattle.iri_normal.proofs.Common.{◌==◌, slice_index, eqb-true, drop_at, length-take-le, is_byte, IsLastByte, lacks, is_empty}
+use Rattle.iri_normal.proofs.Common.{starts_with_slash, starts_with_slashes, to_last_slash, last_segment, ends_at_slash}
+use Rattle.std.proofs.Common.{◌≡◌, ℕ, zero, suc, ◌+◌, ◌<◌, true, false, cond, not, ◌&&◌, List, [], ◌∷◌, Some, None, length, take, drop}
+use Rattle.std.proofs.Common.{◌++◌, refl, sym, ◌∙◌, ap, arith, add-one}
+use Rattle.std.proofs.lemmas.Bool.{false_from_ne_true}
 
 -- none, or the last at k
 pub slash_is : (bs : List ℕ) (k : ℕ) → IsLastByte (is_byte 47) bs (Some k) → (k < length bs) × (slice_index bs k ≡ 47)

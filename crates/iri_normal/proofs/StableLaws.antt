@@ -1,13 +1,7 @@
 -- Dot removal leaves no dot segment, and a path without one as it is.
+use Rattle.iri_normal.proofs.Common.{or_parts, lacks, by_test, both, starts_with_slash, pieces, onto, is_dot_segment, any_dot_segment}
+use Rattle.iri_normal.proofs.Common.{has_dot_segment, is_two_dots, closed, remove_after, remove_dots, path_text, dots, guard}
 use Rattle.std.proofs.Common.{◌≡◌, ℕ, Bool, true, false, cond, not, ◌&&◌, List, [], ◌∷◌, ◌++◌, refl, sym, ◌∙◌, ap, append_assoc, append-nil}
-use Rattle.std.proofs.lemmas.Bool.{or_parts}
-use Rattle.iri_grammar.specs.Cut.{lacks}
-use Rattle.iri_grammar.proofs.CutLaws.{by_test, both}
-use Rattle.iri_grammar.specs.Parts.{starts_with_slash}
-use Rattle.iri_grammar.specs.Pieces.{pieces, onto}
-use Rattle.iri_normal.specs.Dots.{is_dot_segment, any_dot_segment, has_dot_segment}
-use Rattle.iri_normal.specs.DotRemoval.{is_two_dots, closed, remove_after, remove_dots, path_text, dots}
-use Rattle.iri_normal.specs.Guard.{guard}
 use Rattle.iri_normal.proofs.PieceLaws.{all_lack, pieces-some, pieces-append, pieces-whole, pieces-lack, nothing-is_no_dot}
 use Rattle.iri_normal.proofs.OutputLaws.{is_output, left, output-push, output-left, output-closed}
 

@@ -1,14 +1,10 @@
 -- The steps of dot removal have one result, which the function over segments gives.
-use Rattle.std.proofs.Common.{◌≡◌, ◌↔◌, ℕ, zero, suc, ◌+◌, ◌≤◌, true, false, cond, List, [], ◌∷◌, ◌++◌, Option, Some, None, length, refl}
-use Rattle.std.proofs.Common.{sym, ◌∙◌, ap, subst, append-nil, arith, length-append}
-use Rattle.std.specs.Prelude.{◌==◌}
-use Rattle.iri_grammar.specs.Cut.{before, from, after}
-use Rattle.iri_grammar.proofs.CutLaws.{by_test, joined}
-use Rattle.iri_grammar.specs.Pieces.{pieces, onto}
-use Rattle.iri_grammar.specs.inside.PiecesLaws.{more_pieces}
-use Rattle.iri_grammar.proofs.PiecesLaws.{pieces_cut}
-use Rattle.iri_normal.specs.Dots.{is_dot_segment}
-use Rattle.iri_normal.specs.DotRemoval.{is_two_dots, without_last, first_segment, Step, LeadsTo, IsWithoutDots, dots}
+use Rattle.iri_normal.proofs.Common.{◌≡◌, ℕ, zero, suc, ◌+◌, ◌≤◌, true, false, cond, List, [], ◌∷◌, ◌++◌, Option, Some, None, length, refl}
+use Rattle.iri_normal.proofs.Common.{sym, ◌∙◌, ap, subst, append-nil, arith, length-append, ◌==◌, before, after, by_test, joined, pieces}
+use Rattle.iri_normal.proofs.Common.{onto, more_pieces, pieces_cut, is_dot_segment, is_two_dots, without_last, dots}
+use Rattle.std.proofs.Common.{◌↔◌}
+use Rattle.iri_grammar.specs.Cut.{from}
+use Rattle.iri_normal.specs.DotRemoval.{first_segment, Step, LeadsTo, IsWithoutDots}
 use Rattle.iri_normal.specs.DotRemoval.Step.{remove_prefix, replace_dot, replace_last_dot, replace_dots, replace_last_dots, remove_all}
 use Rattle.iri_normal.specs.DotRemoval.Step.{move_segment}
 use Rattle.iri_normal.specs.DotRemoval.LeadsTo.{ended, onward}

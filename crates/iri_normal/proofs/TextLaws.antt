@@ -1,16 +1,10 @@
 -- Texts over a class, put together and cut at a delimiter.
-use Rattle.std.proofs.Common.{◌≡◌, ℕ, zero, suc, ◌<◌, Bool, true, cond, ◌&&◌, List, [], ◌∷◌, ◌++◌, length, drop, refl, sym}
-use Rattle.std.proofs.Common.{◌∙◌, ap, subst, arith, length-append, append-nil, false}
-use Rattle.std.specs.Prelude.{◌==◌}
-use Rattle.std.specs.Char.{is_ascii_hexdigit}
-use Rattle.std.specs.Str.{chars, IsUtf8, is_utf8}
-use lib.Utf8.{encode, scalars}
-use Rattle.std.proofs.lemmas.Str.{is_utf8-from_IsUtf8, IsUtf8-append, IsUtf8-take, chars-encodes}
-use Rattle.std.proofs.lemmas.Str.{IsCharBoundary-from_drop, chars-append, encode_ascii}
-use Rattle.std.proofs.Math.Seq.{drop-append_seam, take-append_seam}
-use Rattle.std.proofs.Math.Utf8.{low_scalar}
-use Rattle.iri_grammar.specs.Over.{over_from, over, text_over}
-use Rattle.iri_grammar.proofs.CutLaws.{both}
+use Rattle.iri_normal.proofs.Common.{◌≡◌, ℕ, zero, suc, ◌<◌, Bool, true, cond, ◌&&◌, List, [], ◌∷◌, ◌++◌, refl, sym, ◌∙◌, ap, arith}
+use Rattle.iri_normal.proofs.Common.{append-nil, false, ◌==◌, is_ascii_hexdigit, IsUtf8, encode, encode_ascii, low_scalar, text_over, both}
+use Rattle.std.specs.Str.{chars, is_utf8}
+use lib.Utf8.{scalars}
+use Rattle.std.proofs.lemmas.Str.{is_utf8-from_IsUtf8, IsUtf8-append, chars-encodes, chars-append}
+use Rattle.iri_grammar.specs.Over.{over_from, over}
 use Rattle.iri_grammar.proofs.AuthorityTexts.{one_byte-utf8, text_over-utf8}
 use Rattle.iri_grammar.proofs.Delimiters.{text_after_delimiter, text_before_delimiter}
 

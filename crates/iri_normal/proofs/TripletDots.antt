@@ -1,26 +1,19 @@
 -- Triplet normal form keeps what is a dot segment.
-use Rattle.std.proofs.Common.{◌≡◌, ℕ, ◌+◌, ◌*◌, ◌<◌, true, false, cond, not, ◌&&◌, ◌||◌, List, [], ◌∷◌, ◌++◌, Option, Some, None}
-use Rattle.std.proofs.Common.{map, refl, sym, ◌∙◌, ap, subst, arith, append-nil, eqb-true}
-use Rattle.std.specs.Prelude.{◌==◌}
-use Rattle.std.specs.Char.{is_ascii_hexdigit, digit_value, to_ascii_uppercase, encode_utf8}
-use Rattle.std.proofs.lemmas.Bool.Decides.{nat_tests}
-use Rattle.std.proofs.lemmas.Bool.{not-true}
+use Rattle.iri_normal.proofs.Common.{eqb-true, ◌==◌, is_ascii_hexdigit, to_ascii_uppercase, encode_utf8, nat_tests, not-true, encode, Tests}
+use Rattle.iri_normal.proofs.Common.{IsSpec, unreserved, is_ascii_unreserved, lacks, by_test, both, lacks-other, is_empty, octet}
+use Rattle.iri_normal.proofs.Common.{whole_triplets, as_it_is, pct, Spells, none, more, normal_nil, normal_plain, normal_lone, normal_char}
+use Rattle.iri_normal.proofs.Common.{Reading, done, plain, char, lone, whole_plain, read, upper_hex, upper_octet, where_there, after_dot}
+use Rattle.iri_normal.proofs.Common.{is_dot_segment, is_all, is_one_dot, is_one_dot_after, is_two_dots}
+use Rattle.std.proofs.Common.{◌≡◌, ℕ, ◌+◌, ◌*◌, ◌<◌, true, false, cond, not, ◌&&◌, ◌||◌, List, [], ◌∷◌, ◌++◌, Option, Some, None, map, refl}
+use Rattle.std.proofs.Common.{sym, ◌∙◌, ap, subst, arith, append-nil}
+use Rattle.std.specs.Char.{digit_value}
 use Rattle.std.proofs.lemmas.List.{map-id}
-use lib.Utf8.{scalar, encode}
-use Rattle.iri_grammar.specs.Classes.{Tests, IsSpec, unreserved, is_ascii_unreserved}
-use Rattle.iri_grammar.specs.Cut.{lacks}
-use Rattle.iri_grammar.proofs.CutLaws.{by_test, both, lacks-other}
+use lib.Utf8.{scalar}
 use Rattle.iri_grammar.proofs.CutBytes.{lacks-encodes}
-use Rattle.iri_grammar.specs.Parts.{is_empty}
-use Rattle.iri_percent.specs.Units.{octet, octets, first_char, whole_triplets}
-use Rattle.iri_percent.specs.Triplets.{as_it_is, pct}
-use Rattle.iri_percent.proofs.UnitLaws.{Spells, none, more, encode_bytes, octets_triplet, char_first}
-use Rattle.iri_percent.proofs.NormalLaws.{normal_nil, normal_plain, normal_lone, normal_char}
-use Rattle.iri_percent.proofs.Reading.{Reading, done, plain, char, lone, whole_plain, whole_triplet, percent_follows, read}
-use Rattle.iri_percent.proofs.Stability.{upper_hex, upper_octet, unreserved_percent}
-use Rattle.iri_normal.specs.LowerCase.{where_there}
-use Rattle.iri_normal.specs.Dots.{after_dot, is_dot_segment}
-use Rattle.iri_normal.specs.DotRemoval.{is_all, is_one_dot, is_one_dot_after, is_two_dots}
+use Rattle.iri_percent.specs.Units.{octets, first_char}
+use Rattle.iri_percent.proofs.UnitLaws.{encode_bytes, octets_triplet, char_first}
+use Rattle.iri_percent.proofs.Reading.{whole_triplet, percent_follows}
+use Rattle.iri_percent.proofs.Stability.{unreserved_percent}
 use Rattle.iri_normal.proofs.PieceLaws.{dot_kinds}
 use Rattle.iri_percent.proofs.MapForms.{value_small as small}
 use Rattle.iri_normal.proofs.DotLemmas.{one_dot as after_dot-point}

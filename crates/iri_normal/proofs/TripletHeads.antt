@@ -1,18 +1,9 @@
 -- The triplet normal form of a path begins with as many slashes as the path.
+use Rattle.iri_normal.proofs.Common.{◌==◌, to_ascii_uppercase, encode_utf8, not-true, Tests, IsSpec, unreserved, lacks, both, by_test}
+use Rattle.iri_normal.proofs.Common.{starts_with_slash, starts_with_slashes, normal_nil, normal_plain, normal_lone, normal_char, Reading}
+use Rattle.iri_normal.proofs.Common.{done, plain, char, lone, read, whole_plain, as_it_is, pct, Spells, none, more, octet, whole_triplets}
 use Rattle.std.proofs.Common.{◌≡◌, ℕ, ◌<◌, Bool, true, false, cond, not, ◌&&◌, List, [], ◌∷◌, ◌++◌, length, map, refl, sym, ◌∙◌, ap, arith}
-use Rattle.std.specs.Prelude.{◌==◌}
-use Rattle.std.specs.Char.{to_ascii_uppercase, encode_utf8}
 use Rattle.std.proofs.lemmas.Str.{len_utf8_bounds, length-encode}
-use Rattle.std.proofs.lemmas.Bool.{not-true}
-use Rattle.iri_grammar.specs.Classes.{Tests, IsSpec, unreserved}
-use Rattle.iri_grammar.specs.Cut.{lacks}
-use Rattle.iri_grammar.proofs.CutLaws.{both, by_test}
-use Rattle.iri_grammar.specs.Parts.{starts_with_slash, starts_with_slashes}
-use Rattle.iri_percent.proofs.NormalLaws.{normal_nil, normal_plain, normal_lone, normal_char}
-use Rattle.iri_percent.proofs.Reading.{Reading, done, plain, char, lone, read, whole_plain}
-use Rattle.iri_percent.specs.Triplets.{as_it_is, pct}
-use Rattle.iri_percent.proofs.UnitLaws.{Spells, none, more}
-use Rattle.iri_percent.specs.Units.{octet, whole_triplets}
 use Rattle.iri_normal.proofs.TripletPaths.{encoded-lacks, slash-delimits}
 use Rattle.iri_normal.proofs.SlashLemmas.{no_slashes}
 

@@ -1,25 +1,12 @@
 -- Dot removal commutes with triplet normal form.
-use Rattle.std.proofs.Common.{◌≡◌, ℕ, ◌<◌, Bool, true, false, cond, not, List, [], ◌∷◌, ◌++◌, map, refl, sym, ◌∙◌, ap, subst, arith}
-use Rattle.std.proofs.Common.{append-nil}
-use Rattle.std.specs.Prelude.{◌==◌}
-use Rattle.std.specs.Char.{is_ascii_hexdigit, to_ascii_uppercase, encode_utf8}
-use Rattle.std.specs.List.{list_all}
-use Rattle.iri_grammar.specs.Classes.{Tests, IsSpec, unreserved, is_ascii_unreserved}
-use Rattle.iri_grammar.specs.Cut.{lacks, before, after}
-use Rattle.iri_grammar.proofs.CutLaws.{by_test, both, lacks-append, lacks-other, test_apart}
+use Rattle.iri_normal.proofs.Common.{◌≡◌, ℕ, ◌<◌, Bool, true, false, cond, not, List, [], ◌∷◌, ◌++◌, map, refl, sym, ◌∙◌, ap, subst, arith}
+use Rattle.iri_normal.proofs.Common.{append-nil, ◌==◌, is_ascii_hexdigit, to_ascii_uppercase, encode_utf8, list_all, Tests, IsSpec}
+use Rattle.iri_normal.proofs.Common.{unreserved, is_ascii_unreserved, lacks, before, after, by_test, both, lacks-append, lacks-other}
+use Rattle.iri_normal.proofs.Common.{test_apart, pieces, onto, more_pieces, pieces_cut, whole_triplets, two_digits, as_it_is, pct, Spells}
+use Rattle.iri_normal.proofs.Common.{none, more, pct_delimiter, slash, normal_nil, normal_plain, normal_lone, normal_char, Reading, done}
+use Rattle.iri_normal.proofs.Common.{plain, char, lone, read, upper_hex, dots}
 use Rattle.iri_grammar.proofs.CutBytes.{lacks-encodes}
-use Rattle.iri_grammar.specs.Pieces.{pieces, onto}
-use Rattle.iri_grammar.specs.inside.PiecesLaws.{more_pieces}
-use Rattle.iri_grammar.proofs.PiecesLaws.{pieces_cut}
-use Rattle.iri_percent.specs.Units.{whole_triplets, two_digits}
-use Rattle.iri_percent.specs.Triplets.{as_it_is, pct}
-use Rattle.iri_percent.proofs.UnitLaws.{Spells, none, more}
 use Rattle.iri_percent.specs.DelimiterLaws.{IsOutsideTriplets}
-use Rattle.iri_percent.proofs.DelimiterLaws.{pct_delimiter, slash}
-use Rattle.iri_percent.proofs.NormalLaws.{normal_nil, normal_plain, normal_lone, normal_char}
-use Rattle.iri_percent.proofs.Reading.{Reading, done, plain, char, lone, read}
-use Rattle.iri_percent.proofs.Stability.{upper_hex}
-use Rattle.iri_normal.specs.DotRemoval.{dots}
 use Rattle.iri_normal.proofs.PieceLaws.{all_lack, pieces-whole, pieces-slash, pieces-lack}
 use Rattle.iri_normal.proofs.OutputLaws.{KeepsSegments, dots-map}
 use Rattle.iri_normal.proofs.StableLaws.{unsplit, unsplit-pieces}

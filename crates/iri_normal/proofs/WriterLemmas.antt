@@ -1,10 +1,6 @@
 -- The text of a path's segments, put together from the pieces that are written.
-use Rattle.std.proofs.Common.{◌≡◌, ℕ, Bool, true, false, ◌||◌, List, [], ◌∷◌, ◌++◌, length, refl, sym}
-use Rattle.std.proofs.Common.{arith}
-use Rattle.iri_grammar.specs.Classes.{Tests}
-use Rattle.iri_grammar.specs.Parts.{is_empty}
-use Rattle.iri_normal.specs.inside.PathForm.{in_form}
-use Rattle.iri_normal.specs.Target.{ends_at_slash}
+use Rattle.iri_normal.proofs.Common.{◌≡◌, ℕ, Bool, true, false, ◌||◌, List, [], ◌∷◌, ◌++◌, length, refl, sym, arith, Tests, is_empty}
+use Rattle.iri_normal.proofs.Common.{in_form, ends_at_slash}
 use Rattle.iri_normal.proofs.NormalLemmas.{pct_two, pct_nil, pct_parts}
 
 -- ---- forms

@@ -1,17 +1,9 @@
 -- Dot removal with a buffer.
-use Rattle.std.proofs.Common.{◌≡◌, ℕ, Bool, true, false, cond, ◌||◌, List, [], ◌∷◌, ◌++◌, Option, Some, None, refl, sym, ◌∙◌, ap, subst}
-use Rattle.std.proofs.Common.{append_assoc}
-use Rattle.std.proofs.lemmas.List.{append-nil}
-use Rattle.std.proofs.lemmas.Bool.{or_parts}
-use Rattle.iri_grammar.specs.Cut.{before, after}
-use Rattle.iri_grammar.specs.Parts.{is_empty}
-use Rattle.iri_grammar.specs.Pieces.{pieces, joined}
-use Rattle.iri_grammar.specs.inside.PiecesLaws.{more_pieces}
+use Rattle.iri_normal.proofs.Common.{◌≡◌, ℕ, Bool, true, false, cond, ◌||◌, List, [], ◌∷◌, ◌++◌, Option, Some, None, refl, sym, ◌∙◌, ap}
+use Rattle.iri_normal.proofs.Common.{subst, append_assoc, append-nil, or_parts, before, after, is_empty, pieces, more_pieces, pieces_cut}
+use Rattle.iri_normal.proofs.Common.{is_two_dots, without_last, dots, is_dot_segment, any_dot_segment, has_dot_segment, ends_at_slash}
+use Rattle.iri_grammar.specs.Pieces.{joined}
 use Rattle.iri_grammar.proofs.Ipv6Laws.{joined_pieces}
-use Rattle.iri_grammar.proofs.PiecesLaws.{pieces_cut}
-use Rattle.iri_normal.specs.DotRemoval.{is_two_dots, without_last, dots}
-use Rattle.iri_normal.specs.Dots.{is_dot_segment, any_dot_segment, has_dot_segment}
-use Rattle.iri_normal.specs.Target.{ends_at_slash}
 use Rattle.iri_normal.proofs.EndedLemmas.{both-end, slash-ends}
 use Rattle.iri_normal.proofs.SegmentLemmas.{alone, ended}
 use Rattle.iri_normal.proofs.OutputLaws.{text_after, text_from, dots-text}

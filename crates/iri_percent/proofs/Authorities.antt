@@ -1,12 +1,9 @@
 -- The normal form of an authority by its components.
-use Rattle.std.proofs.Common.{◌≡◌, ℕ, Bool, true, List, ◌∷◌, ◌++◌, [], Option, Some, None, Bor, refl, ap, sym}
-use Rattle.iri_grammar.specs.Classes.{Tests}
-use Rattle.iri_grammar.specs.Authority.{AuthorityParts, authority_parts, recompose_authority}
-use Rattle.iri_grammar.specs.Components.{if_there}
-use Rattle.iri_grammar.specs.Cut.{delimited}
+use Rattle.iri_percent.proofs.Common.{◌≡◌, ℕ, Bool, true, List, ◌∷◌, ◌++◌, [], Option, Some, None, refl, ap, sym, Tests, AuthorityParts}
+use Rattle.iri_percent.proofs.Common.{authority_parts, recompose_authority, if_there, delimited, whole_triplets, normal_authority}
+use Rattle.std.proofs.Common.{Bor}
 use Rattle.iri_grammar.specs.OptionalSlices.{now_of}
-use Rattle.iri_percent.specs.Units.{whole_triplets}
-use Rattle.iri_percent.specs.NormalHost.{normal_authority, authority_without, normal_authority_in, normal_authority_parts_in}
+use Rattle.iri_percent.specs.NormalHost.{authority_without, normal_authority_in, normal_authority_parts_in}
 
 pub authority_in : (s : Tests) (d : Option (List ℕ)) (t : List ℕ) (p : AuthorityParts) → p ≡ authority_parts t
     → recompose_authority (normal_authority_parts_in s d p) ≡ normal_authority_in s d t

@@ -1,15 +1,9 @@
 -- Characters in another case, and characters that are decoded.
-use Rattle.std.proofs.Common.{◌≡◌, ℕ, suc, ◌<◌, ◌≤◌, true, false, cond, List, [], ◌∷◌, Some, None, length, get_or, refl, sym, ◌∙◌, ap}
-use Rattle.std.proofs.Common.{subst, arith, append-nil, ltb-true, ltb-false}
-use Rattle.std.specs.Prelude.{map}
-use Rattle.std.specs.Char.{encode_utf8}
-use lib.Dec.{ltb}
-use lib.Utf8.{scalar, low_scalar}
-use Rattle.std.proofs.lemmas.Str.{encode_ascii, inside_one}
-use Rattle.iri_grammar.specs.Classes.{Tests, unreserved}
-use Rattle.iri_percent.specs.Units.{first_char}
+use Rattle.iri_percent.proofs.Common.{◌≡◌, ℕ, suc, ◌<◌, ◌≤◌, true, false, cond, List, [], ◌∷◌, Some, None, length, get_or, refl, sym, ◌∙◌}
+use Rattle.iri_percent.proofs.Common.{ap, subst, arith, append-nil, ltb-true, ltb-false, map, encode_utf8, ltb, scalar, low_scalar}
+use Rattle.iri_percent.proofs.Common.{encode_ascii, Tests, unreserved, first_char, decoded, unreserved_only}
+use Rattle.std.proofs.lemmas.Str.{inside_one}
 use Rattle.iri_percent.proofs.UnitLaws.{BeginsChar, first_char_is}
-use Rattle.iri_percent.specs.NormalLaws.{decoded, unreserved_only}
 use Rattle.iri_percent.proofs.Stability.{IsCase}
 
 map_high : (f : ℕ → ℕ) (xs : List ℕ) → ((x : ℕ) → 128 ≤ x → f x ≡ x) → ((k : ℕ) → k < length xs → 128 ≤ get_or xs k 0) → map f xs ≡ xs

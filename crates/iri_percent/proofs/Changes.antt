@@ -1,31 +1,22 @@
 -- Changes of a text, and the runs between them.
-use Rattle.std.proofs.Common.{◌≡◌, ℕ, zero, suc, ◌+◌, ◌-◌, ◌*◌, ◌<◌, ◌≤◌, Bool, true, false, not, ◌&&◌, List, [], ◌∷◌, ◌++◌, Option, Some, None}
-use Rattle.std.proofs.Common.{length, take, drop, get_or, refl, sym, ◌∙◌, ap, subst, arith, append_assoc, length-append, length-drop}
-use Rattle.std.proofs.Common.{cond, drop-drop, ltb-true, ltb-false}
-use Rattle.std.specs.Prelude.{◌==◌, MatchOption}
-use Rattle.std.specs.Char.{is_ascii_hexdigit, is_ascii_uppercase, to_ascii_uppercase, to_ascii_lowercase, encode_utf8}
-use Rattle.std.specs.Char.{len_utf8}
-use lib.Utf8.{scalar}
-use Rattle.std.proofs.lemmas.Str.{IsUtf8-encode, IsUtf8-from_ascii, encode_ascii, length-encode, len_utf8_bounds, lead_after_ascii}
-use Rattle.std.specs.Str.{IsUtf8}
-use lib.Dec.{ltb}
-use Rattle.std.proofs.lemmas.List.{drop_at, get_or_append_left}
-use Rattle.std.proofs.lemmas.Bool.Decides.{nat_tests}
-use Rattle.std.proofs.Common.{get_or-drop, slice_range}
-use Rattle.std.proofs.lemmas.Str.Ascii.{IsAscii-cons, IsAscii-nil}
+use Rattle.iri_percent.proofs.Common.{◌==◌, is_ascii_hexdigit, is_ascii_uppercase, to_ascii_uppercase, to_ascii_lowercase, encode_utf8}
+use Rattle.iri_percent.proofs.Common.{len_utf8, scalar, encode_ascii, length-encode, len_utf8_bounds, IsUtf8, ltb, drop_at, nat_tests}
+use Rattle.iri_percent.proofs.Common.{IsAscii-cons, IsAscii-nil, Tests, IsSpec, unreserved, is_ascii_unreserved, both, octet, octets}
+use Rattle.iri_percent.proofs.Common.{whole_triplets, normal, decoded, case_of, stays, NoCandidate, Becomes, Gathered, Writes}
+use Rattle.std.proofs.Common.{◌≡◌, ℕ, zero, suc, ◌+◌, ◌-◌, ◌*◌, ◌<◌, ◌≤◌, Bool, true, false, not, ◌&&◌, List, [], ◌∷◌, ◌++◌, Option, Some}
+use Rattle.std.proofs.Common.{None, length, take, drop, get_or, refl, sym, ◌∙◌, ap, subst, arith, append_assoc, length-append, length-drop}
+use Rattle.std.proofs.Common.{cond, drop-drop, ltb-true, ltb-false, get_or-drop, slice_range}
+use Rattle.std.specs.Prelude.{MatchOption}
+use Rattle.std.proofs.lemmas.Str.{IsUtf8-encode, IsUtf8-from_ascii, lead_after_ascii}
+use Rattle.std.proofs.lemmas.List.{get_or_append_left}
 use Rattle.iri_grammar.proofs.Units.{hex_is_ascii}
-use Rattle.iri_grammar.specs.Classes.{Tests, IsSpec, unreserved, is_ascii_unreserved}
-use Rattle.iri_grammar.proofs.CutLaws.{both}
-use Rattle.iri_percent.specs.Units.{octet, octets, whole_triplets}
 use Rattle.iri_percent.proofs.Characters.{ascii_decoded, low_decoded, past_ascii, unreserved_low}
-use Rattle.iri_percent.specs.Triplets.{normal}
 use Rattle.iri_percent.proofs.UnitLaws.{octets_triplet, Spells, none, more, spelled, Spelled, length-spelled}
-use Rattle.iri_percent.specs.NormalLaws.{decoded}
 use Rattle.iri_percent.proofs.NormalLaws.{normal_nil, normal_plain, normal_decoded, normal_kept}
 use Rattle.iri_percent.proofs.Reading.{whole_plain, whole_triplet, whole_after, Follows, percent_follows}
 use Rattle.iri_percent.proofs.CaseLaws.{encode_case, is_decoded}
 use Rattle.iri_percent.proofs.Stability.{IsCase, as_it_is-case, lower-case}
-use Rattle.iri_percent.specs.inside.Pieces.{case_of, octet_text, stays, NoCandidate, CandidateAt, FirstCandidate, Becomes, Gathered, Writes}
+use Rattle.iri_percent.specs.inside.Pieces.{octet_text, CandidateAt, FirstCandidate}
 
 -- ---- runs
 stays_percent : (lower : Bool) (x : ℕ) → stays lower x ≡ true → (x == 37) ≡ false

@@ -1,23 +1,15 @@
 -- The units of a triplet normal form, character by character.
-use Rattle.std.proofs.Common.{◌≡◌, ℕ, true, false, cond, List, [], ◌∷◌, ◌++◌, None, refl, sym, ◌∙◌, ap, subst}
-use Rattle.std.specs.Prelude.{◌==◌, map}
-use Rattle.std.specs.Char.{is_ascii_hexdigit, to_ascii_uppercase}
-use Rattle.std.specs.Str.{chars, IsUtf8}
-use lib.Utf8.{encode, encodes, scalar}
-use Rattle.std.proofs.lemmas.Str.{encodes-chars, scalars-chars}
-use Rattle.std.proofs.lemmas.List.{map-id}
-use Rattle.iri_grammar.specs.Classes.{Tests, IsSpec, unreserved}
-use Rattle.iri_grammar.proofs.CutLaws.{both}
-use Rattle.iri_percent.specs.Units.{Plain, Char, Lone, octets, first_char, units, two_digits, whole_triplets}
-use Rattle.iri_percent.specs.CharUnits.{char_units, char_units_from}
-use Rattle.iri_percent.specs.Triplets.{pct, as_it_is, unit_in_form}
-use Rattle.iri_percent.specs.ByteForm.{normal_units}
+use Rattle.iri_percent.proofs.Common.{◌≡◌, ℕ, true, false, cond, List, [], ◌∷◌, ◌++◌, None, refl, sym, ◌∙◌, ap, subst, ◌==◌, map}
+use Rattle.iri_percent.proofs.Common.{is_ascii_hexdigit, to_ascii_uppercase, chars, IsUtf8, encode, encodes, scalar, encodes-chars}
+use Rattle.iri_percent.proofs.Common.{scalars-chars, map-id, Tests, IsSpec, unreserved, both, Plain, Char, Lone, octets, first_char, units}
+use Rattle.iri_percent.proofs.Common.{two_digits, whole_triplets, char_units, char_units_from, pct, as_it_is, normal_units}
+use Rattle.iri_percent.specs.Triplets.{unit_in_form}
 use Rattle.iri_percent.proofs.UnitLaws.{Spells, encodes_triplet, units_lone}
 use Rattle.iri_percent.proofs.NormalLaws.{normal_nil, normal_plains, normal_lone, normal_char}
 use Rattle.iri_percent.proofs.Reading.{whole_triplet, whole_after}
 use Rattle.iri_percent.proofs.Stability.{as_it_is-case, upper_spells, unreserved_percent, encode_percent, whole_plains, units-normal}
-use Rattle.iri_percent.proofs.CharUnits.{CharReading, done, plain, char, lone, stray, read, percent_unit, char_units_char}
-use Rattle.iri_percent.proofs.CharUnits.{char_units_plain, encodes_spelled, encodes_percent, octets_encoded}
+use Rattle.iri_percent.proofs.CharUnits.{CharReading, done, plain, char, lone, stray, read, percent_unit, char_units_char, char_units_plain}
+use Rattle.iri_percent.proofs.CharUnits.{encodes_spelled, encodes_percent, octets_encoded}
 
 abbrev IsFormed : Tests → List ℕ → Type 0
 IsFormed s t = char_units (pct s t) ≡ map (unit_in_form s) (char_units t)

@@ -1,18 +1,11 @@
 -- The units of a text, character by character and byte by byte.
-use Rattle.std.proofs.Common.{◌≡◌, ℕ, zero, suc, ◌-◌, true, false, cond, ◌&&◌, List, [], ◌∷◌, ◌++◌, Option, Some, None, length, drop, refl}
-use Rattle.std.proofs.Common.{sym, ◌∙◌, ap, subst, arith, append_assoc, append-nil, eqb-true}
-use Rattle.std.specs.Prelude.{◌==◌, map}
-use Rattle.std.specs.List.{flat_map, list_all}
-use Rattle.std.specs.Char.{is_ascii_hexdigit, to_ascii_uppercase, encode_utf8}
-use Rattle.std.proofs.lemmas.List.{drop_at}
-use Rattle.std.proofs.lemmas.Bool.Decides.{nat_tests}
-use Rattle.iri_grammar.specs.Classes.{Tests, unreserved}
-use Rattle.iri_grammar.proofs.CutLaws.{both}
-use Rattle.iri_percent.specs.Units.{TextUnit, Plain, Char, Lone, Stray, IllFormed, octets, first_char, triplet_unit, first_unit, unit_text}
-use Rattle.iri_percent.specs.Units.{units_from, units}
-use Rattle.iri_percent.specs.CharUnits.{by_character, char_unit_text, char_units_from, char_units, plains, byte_units}
-use Rattle.iri_percent.specs.Triplets.{unit_form, normal}
-use Rattle.iri_percent.specs.ByteForm.{written, all_written}
+use Rattle.iri_percent.proofs.Common.{◌≡◌, ℕ, zero, suc, ◌-◌, true, false, cond, ◌&&◌, List, [], ◌∷◌, ◌++◌, Option, Some, None, length}
+use Rattle.iri_percent.proofs.Common.{drop, refl, sym, ◌∙◌, ap, subst, arith, append_assoc, append-nil, eqb-true, ◌==◌, map, flat_map}
+use Rattle.iri_percent.proofs.Common.{list_all, is_ascii_hexdigit, to_ascii_uppercase, encode_utf8, drop_at, nat_tests, Tests, unreserved}
+use Rattle.iri_percent.proofs.Common.{both, TextUnit, Plain, Char, Lone, Stray, IllFormed, octets, first_char, triplet_unit, first_unit}
+use Rattle.iri_percent.proofs.Common.{unit_text, units_from, units, by_character, char_unit_text, char_units_from, char_units, plains}
+use Rattle.iri_percent.proofs.Common.{byte_units, normal, written, all_written}
+use Rattle.iri_percent.specs.Triplets.{unit_form}
 use Rattle.iri_percent.proofs.UnitLaws.{BeginsChar, first_char_is, is_continuation, encode_bytes, units_from_drop, byte_other, units_plain}
 
 -- a unit that is the same in both readings

@@ -1,17 +1,10 @@
 -- The units of a text, character by character and byte by byte.
-use Rattle.std.proofs.Common.{◌≡◌, ℕ, zero, suc, ◌-◌, ◌≤◌, true, false, cond, ◌&&◌, List, [], ◌∷◌, ◌++◌, Some, None, length, drop, refl}
-use Rattle.std.proofs.Common.{sym, ◌∙◌, ap, subst, arith, length-append, eqb-true, ltb-true, ltb-false}
-use Rattle.std.specs.Prelude.{◌==◌, nat_lt}
-use Rattle.std.specs.List.{flat_map, list_all}
-use Rattle.std.specs.Char.{is_ascii_hexdigit}
-use Rattle.std.specs.Str.{chars, IsUtf8}
-use lib.Utf8.{encode, encodes, scalar, scalars}
-use Rattle.std.proofs.lemmas.List.{drop_at}
-use Rattle.std.proofs.lemmas.Str.{encode_ascii, encodes-chars, scalars-chars}
-use Rattle.std.proofs.lemmas.Bool.Decides.{nat_tests}
-use Rattle.iri_grammar.proofs.CutLaws.{both}
-use Rattle.iri_percent.specs.Units.{TextUnit, Plain, Char, Lone, Stray, IllFormed, octet, octets, first_char, triplet_unit, first_unit}
-use Rattle.iri_percent.specs.Units.{unit_text, units_from, units, two_digits}
+use Rattle.iri_percent.proofs.Common.{◌≡◌, ℕ, zero, suc, ◌-◌, ◌≤◌, true, false, cond, ◌&&◌, List, [], ◌∷◌, ◌++◌, Some, None, length, drop}
+use Rattle.iri_percent.proofs.Common.{refl, sym, ◌∙◌, ap, subst, arith, length-append, eqb-true, ltb-true, ltb-false, ◌==◌, nat_lt}
+use Rattle.iri_percent.proofs.Common.{flat_map, list_all, is_ascii_hexdigit, chars, IsUtf8, encode, encodes, scalar, scalars, drop_at}
+use Rattle.iri_percent.proofs.Common.{encode_ascii, encodes-chars, scalars-chars, nat_tests, both, TextUnit, Plain, Char, Lone, Stray}
+use Rattle.iri_percent.proofs.Common.{IllFormed, octet, octets, first_char, triplet_unit, first_unit, unit_text, units_from, units}
+use Rattle.iri_percent.proofs.Common.{two_digits, by_character, char_unit_text, char_units_from, char_units, plains, byte_units}
 use Rattle.iri_percent.proofs.UnitLaws.{Spells, none, more, octets_other, octets_triplet, octets_spelled, first_char_is, char_first}
 use Rattle.iri_percent.proofs.UnitLaws.{encode_bytes, encodes_triplet, byte_other, units_plain, units_lone, units_char}
 use Rattle.iri_percent.proofs.CharLaws.{percent_same, units-by_chars}
@@ -19,7 +12,7 @@ use Rattle.iri_percent.proofs.NormalLaws.{PrefixTriplet, prefix_triplet}
 use Rattle.iri_percent.proofs.MapTexts.{is_high, encode-high}
 use Rattle.iri_percent.specs.UnitTexts.{units_text}
 use Rattle.iri_percent.proofs.UnitTexts.{units-text}
-use Rattle.iri_percent.specs.CharUnits.{by_character, first_char_unit, char_unit_text, char_units_from, char_units, plains, byte_units}
+use Rattle.iri_percent.specs.CharUnits.{first_char_unit}
 use Rattle.iri_grammar.proofs.Units.{past_hex as high_no_hex}
 
 -- ---- digits after a `%`

@@ -1,20 +1,13 @@
 -- The character with whose UTF-8 some octets begin, told from the octets one by one.
-use Rattle.std.proofs.Common.{◌≡◌, ℕ, ◌+◌, ◌-◌, ◌<◌, ◌≤◌, Bool, true, false, cond, ◌||◌, List, [], ◌∷◌, ◌++◌, Option, Some, None}
-use Rattle.std.proofs.Common.{zero, suc, length, take, drop, take-append-drop, refl, sym, ◌∙◌, ap, arith, ltb-true, ltb-false}
-use Rattle.std.specs.Prelude.{◌/◌, ◌*◌, ◌%◌}
-use Rattle.std.specs.Str.{chars}
-use lib.Dec.{ltb}
-use lib.Utf8.{encode, next, scalar, low_scalar}
-use Rattle.std.proofs.lemmas.Str.{encode_ascii, length-encode, len_utf8_bounds}
-use Rattle.std.proofs.lemmas.Bool.Decides.{nat_tests}
-use Rattle.std.proofs.lemmas.Bool.{lt-ltb, le-ltb}
+use Rattle.iri_percent.proofs.Common.{◌≡◌, ℕ, ◌+◌, ◌-◌, ◌<◌, ◌≤◌, Bool, true, false, cond, ◌||◌, List, [], ◌∷◌, ◌++◌, Option, Some, None}
+use Rattle.iri_percent.proofs.Common.{zero, suc, length, take, drop, take-append-drop, refl, sym, ◌∙◌, ap, arith, ltb-true, ltb-false, ◌/◌}
+use Rattle.iri_percent.proofs.Common.{◌*◌, ◌%◌, chars, ltb, encode, next, scalar, low_scalar, encode_ascii, length-encode, len_utf8_bounds}
+use Rattle.iri_percent.proofs.Common.{nat_tests, lt-ltb, le-ltb, Tests, IsSpec, unreserved, is_ascii_unreserved, first_char, decoded}
+use Rattle.iri_percent.proofs.Common.{unreserved_only, char_from}
 use Rattle.iri_grammar.specs.inside.Runs.{begins_with_more}
-use Rattle.iri_grammar.specs.Classes.{Tests, IsSpec, unreserved, is_ascii_unreserved}
 use Rattle.iri_grammar.proofs.WideChars.{spelled_in_three, spelled_in_two}
-use Rattle.iri_percent.specs.Units.{first_char}
-use Rattle.iri_percent.proofs.UnitLaws.{BeginsChar, first_char_is, char_first, none_before, continuation_none, is_continuation, next_continues}
-use Rattle.iri_percent.specs.NormalLaws.{decoded, unreserved_only}
-use Rattle.iri_percent.specs.inside.Octets.{char_from}
+use Rattle.iri_percent.proofs.UnitLaws.{BeginsChar, first_char_is, char_first, none_before, continuation_none, is_continuation}
+use Rattle.iri_percent.proofs.UnitLaws.{next_continues}
 
 pub empty_none : (os : List ℕ) → os ≡ [] → first_char os ≡ None
 unfolding first_char chars

@@ -1,24 +1,16 @@
 -- Triplet normal form keeps the class of a text.
-use Rattle.std.proofs.Common.{◌≡◌, ℕ, zero, suc, ◌<◌, ◌≤◌, Bool, true, false, ◌&&◌, ◌||◌, List, [], ◌∷◌, ◌++◌, Option, Some, None, length}
-use Rattle.std.proofs.Common.{refl, sym, ◌∙◌, ap, subst, arith, length-append}
-use Rattle.std.specs.Prelude.{◌==◌, map, codes}
+use Rattle.iri_percent.proofs.Common.{◌≡◌, ℕ, zero, suc, ◌<◌, ◌≤◌, Bool, true, false, ◌&&◌, ◌||◌, List, [], ◌∷◌, ◌++◌, Option, Some, None}
+use Rattle.iri_percent.proofs.Common.{length, refl, sym, ◌∙◌, ap, subst, arith, length-append, ◌==◌, map, chars, is_utf8, encode, encodes}
+use Rattle.iri_percent.proofs.Common.{scalar, scalars, encodes-chars, scalars-chars, IsUtf8-from_is_utf8, nat_tests, Tests, IsSpec}
+use Rattle.iri_percent.proofs.Common.{unreserved, reg_name_char, userinfo_char, pchar, path_char, query_char, fragment_char}
+use Rattle.iri_percent.proofs.Common.{is_ascii_unreserved, is_ascii_reg_name, is_ascii_userinfo, is_ascii_pchar, is_ascii_path}
+use Rattle.iri_percent.proofs.Common.{is_ascii_query, is_sub_delim, is_userinfo, is_path, is_path_segment, is_query, is_fragment, both}
+use Rattle.iri_percent.proofs.Common.{by_test, is_reg_name, over, text_over, IsOver, octets, normal, as_it_is, pct, decoded}
+use Rattle.std.specs.Prelude.{codes}
 use Rattle.std.specs.Char.{is_ascii_hexdigit, is_ascii_uppercase, char_set_contains, to_ascii_uppercase, to_ascii_lowercase}
-use Rattle.std.specs.Str.{chars, is_utf8}
-use lib.Utf8.{encode, encodes, scalar, scalars}
-use Rattle.std.proofs.lemmas.Str.{encodes-chars, scalars-chars, chars-encodes, IsUtf8-from_is_utf8, is_utf8-from_IsUtf8}
-use Rattle.std.proofs.lemmas.Bool.Decides.{nat_tests}
-use Rattle.iri_grammar.specs.Classes.{Tests, IsSpec, unreserved, reg_name_char, userinfo_char, pchar, path_char, query_char, fragment_char}
-use Rattle.iri_grammar.specs.Classes.{is_ascii_unreserved, is_ascii_reg_name, is_ascii_userinfo, is_ascii_pchar, is_ascii_path}
-use Rattle.iri_grammar.specs.Classes.{is_ascii_query, is_sub_delim}
-use Rattle.iri_grammar.specs.Components.{is_userinfo, is_path, is_path_segment, is_query, is_fragment}
-use Rattle.iri_grammar.proofs.CutLaws.{both, by_test}
-use Rattle.iri_grammar.specs.Host.{is_reg_name}
-use Rattle.iri_grammar.specs.Over.{over, text_over, IsOver}
+use Rattle.std.proofs.lemmas.Str.{chars-encodes, is_utf8-from_IsUtf8}
 use Rattle.iri_grammar.proofs.OverLaws.{units-from_over, over-from_units}
-use Rattle.iri_percent.specs.Units.{octets}
-use Rattle.iri_percent.specs.Triplets.{normal, as_it_is, pct}
 use Rattle.iri_percent.proofs.UnitLaws.{Spells, none, more, Spelled, spelled, encode_bytes, encodes_triplet}
-use Rattle.iri_percent.specs.NormalLaws.{decoded}
 use Rattle.iri_percent.proofs.NormalLaws.{normal_nil, normal_plains, normal_decoded, normal_kept}
 use Rattle.iri_percent.proofs.Stability.{IsCase, as_it_is-case, lower-case, upper_hex, encode_percent}
 use Rattle.iri_percent.proofs.CaseLaws.{encode_case, case_scalar, is_decoded}

@@ -1,14 +1,10 @@
 -- Decoding at the start of a text, and the fragments put together.
+use Rattle.iri_percent.proofs.Common.{◌==◌, flat_map, is_ascii_hexdigit, before, lacks, by_test, is_triplet, octet, octets, two_digits}
+use Rattle.iri_percent.proofs.Common.{decoding, has_triplet, Octet, Percent, fragments, fragment_bytes}
 use Rattle.std.proofs.Common.{◌≡◌, ◌≢◌, ℕ, suc, ◌<◌, ◌≤◌, true, false, cond, not, ◌&&◌, ◌||◌, List, [], ◌∷◌, ◌++◌, length, drop, get_or}
 use Rattle.std.proofs.Common.{min, refl, length-drop, get_or-drop, sym, ◌∙◌, ap, subst, arith, eqb-true}
-use Rattle.std.specs.Prelude.{◌==◌}
-use Rattle.std.specs.List.{flat_map}
-use Rattle.std.specs.Char.{is_ascii_hexdigit}
-use Rattle.iri_grammar.specs.Cut.{before, from, lacks, CutAt, NoCut}
-use Rattle.iri_grammar.proofs.CutLaws.{by_test}
-use Rattle.iri_percent.specs.Units.{is_triplet, octet, octets, two_digits}
-use Rattle.iri_percent.specs.Decoding.{decoding, has_triplet, Fragment, Run, Octet, Percent, before_fragments, byte_before, fragments}
-use Rattle.iri_percent.specs.Decoding.{fragment_bytes}
+use Rattle.iri_grammar.specs.Cut.{from, CutAt, NoCut}
+use Rattle.iri_percent.specs.Decoding.{Fragment, Run, before_fragments, byte_before}
 
 -- ---- decoding from the left
 pub decoding-triplet : (a b : ℕ) (xs : List ℕ) → is_ascii_hexdigit a ≡ true → is_ascii_hexdigit b ≡ true

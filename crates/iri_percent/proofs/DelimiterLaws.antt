@@ -1,16 +1,10 @@
 -- A text with a delimiter: units and triplet normal form on both sides of it.
-use Rattle.std.proofs.Common.{◌≡◌, ℕ, zero, suc, ◌+◌, ◌*◌, ◌-◌, ◌≤◌, true, false, cond, ◌&&◌, List, [], ◌∷◌, ◌++◌, Option, Some}
-use Rattle.std.proofs.Common.{None, length, refl, sym, ◌∙◌, ap, arith, length-append}
-use Rattle.std.specs.Prelude.{◌==◌}
-use Rattle.std.specs.Char.{is_ascii_hexdigit, len_utf8, encode_utf8}
-use Rattle.std.proofs.lemmas.Str.{length-encode}
+use Rattle.iri_percent.proofs.Common.{◌≡◌, ℕ, zero, suc, ◌+◌, ◌*◌, ◌-◌, ◌≤◌, true, false, cond, ◌&&◌, List, [], ◌∷◌, ◌++◌, Option, Some}
+use Rattle.iri_percent.proofs.Common.{None, length, refl, sym, ◌∙◌, ap, arith, length-append, ◌==◌, is_ascii_hexdigit, len_utf8}
+use Rattle.iri_percent.proofs.Common.{encode_utf8, length-encode, Tests, Plain, Char, Stray, is_triplet, octet, octets, first_char}
+use Rattle.iri_percent.proofs.Common.{triplet_unit, byte_unit, first_unit, unit_text, units_from, units, normal, as_it_is, pct, all_written}
 use Rattle.std.proofs.lemmas.List.{take-append-le, length-take}
 use Rattle.std.proofs.Math.Bool.{and-false}
-use Rattle.iri_grammar.specs.Classes.{Tests}
-use Rattle.iri_percent.specs.Units.{Plain, Char, Stray, is_triplet, octet, octets, first_char, triplet_unit, byte_unit, first_unit}
-use Rattle.iri_percent.specs.Units.{unit_text, units_from, units}
-use Rattle.iri_percent.specs.Triplets.{normal, as_it_is, pct}
-use Rattle.iri_percent.specs.ByteForm.{all_written}
 use Rattle.iri_percent.proofs.CharLaws.{all_written-append, normal-by_bytes}
 use Rattle.iri_percent.proofs.UnitLaws.{first_char_is, units_plain}
 use Rattle.iri_percent.specs.DelimiterLaws.{IsOutsideTriplets}

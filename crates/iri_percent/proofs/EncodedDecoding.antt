@@ -1,25 +1,17 @@
 -- Decoding undoes encoding.
-use Rattle.std.proofs.Common.{◌≡◌, ℕ, ◌<◌, Bool, true, false, cond, ◌&&◌, List, [], ◌∷◌, ◌++◌, refl, ◌∙◌, ap, arith, ltb-true}
-use Rattle.std.specs.Prelude.{◌==◌, ◌/◌, ◌%◌, nat_lt, not}
-use Rattle.std.specs.List.{flat_map, list_all}
-use Rattle.std.specs.Str.{chars, IsUtf8}
-use lib.Utf8.{encode, encodes, scalar, scalars}
-use Rattle.std.proofs.lemmas.Str.{encode_ascii, encodes-chars, scalars-chars}
-use Rattle.std.proofs.lemmas.Bool.Decides.{nat_tests}
-use Rattle.iri_grammar.specs.Classes.{Tests, IsSpec}
+use Rattle.iri_percent.proofs.Common.{◌≡◌, ℕ, ◌<◌, Bool, true, false, cond, ◌&&◌, List, [], ◌∷◌, ◌++◌, refl, ◌∙◌, ap, arith, ltb-true, ◌==◌}
+use Rattle.iri_percent.proofs.Common.{◌/◌, ◌%◌, nat_lt, not, flat_map, list_all, chars, IsUtf8, encode, encodes, scalar, scalars}
+use Rattle.iri_percent.proofs.Common.{encode_ascii, encodes-chars, scalars-chars, nat_tests, Tests, IsSpec, both, capital_hex, triplets}
+use Rattle.iri_percent.proofs.Common.{keeps, encoded, encoded_char, decoding}
 use Rattle.iri_grammar.proofs.ClassLaws.{class_has_no_percent}
-use Rattle.iri_grammar.specs.declared.class.Class.TheVariants as C
-use Rattle.iri_grammar.proofs.CutLaws.{both}
-use Rattle.iri_percent.specs.Mapping.{capital_hex, triplets}
 use Rattle.iri_percent.proofs.MapTexts.{is_high, encode-high, high_small, octet_of, capital_is_hex, first_digit, second_digit}
 use Rattle.iri_percent.proofs.Stability.{encode_percent}
 use Rattle.iri_percent.proofs.ClassLaws.{class_percent}
-use Rattle.iri_percent.specs.Encoding.{keeps, encoded, encoded_char}
-use Rattle.iri_percent.specs.Decoding.{decoding}
 use Rattle.iri_percent.specs.declared.context.Context.{Context}
 use Rattle.iri_percent.specs.declared.context.Context.TheVariants.{RegName, UserOrPassword, PathSegment, Path, Query, Fragment, Unreserved}
 use Rattle.iri_percent.specs.declared.context.Context.TheVariants.{Any}
 use Rattle.iri_percent.proofs.DecodingLemmas.{decoding-triplet, decoding-plains}
+use Rattle.iri_grammar.specs.declared.class.Class.TheVariants as C
 
 -- `%` is never kept
 pub keeps_no_percent : (s : Tests) → IsSpec s → (k : Context) → keeps s k 37 ≡ false

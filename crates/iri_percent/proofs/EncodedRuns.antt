@@ -1,25 +1,14 @@
 -- The runs of a text that is encoded.
-use Rattle.std.proofs.Common.{◌≡◌, ℕ, suc, ◌-◌, ◌<◌, ◌≤◌, Bool, true, false, cond, ◌&&◌, List, [], ◌∷◌, ◌++◌, length, take, drop, refl}
-use Rattle.std.proofs.Common.{sym, ◌∙◌, ap, subst, arith, append_assoc, length-append, ltb-true}
-use Rattle.std.specs.Prelude.{not, ◌==◌, nat_lt}
-use Rattle.std.specs.List.{flat_map}
-use Rattle.std.specs.Char.{encode_utf8}
-use Rattle.std.specs.Str.{chars, IsUtf8, IsCharBoundary}
-use Rattle.std.proofs.lemmas.Str.{encode_ascii, IsCharBoundary-from_drop}
-use Rattle.std.proofs.lemmas.List.{take_at, drop_at}
-use Rattle.std.proofs.lemmas.Bool.Decides.{nat_tests}
-use Rattle.std.proofs.lemmas.Bool.{not-true}
-use Rattle.iri_grammar.specs.Classes.{Tests, IsSpec, userinfo_char, reg_name_char, is_ascii_userinfo, is_ascii_reg_name}
-use Rattle.iri_grammar.specs.Classes.{is_ascii_unreserved, is_sub_delim}
-use Rattle.iri_grammar.specs.ClassTests.{class_test, ascii_test}
+use Rattle.iri_percent.proofs.Common.{◌≡◌, ℕ, suc, ◌-◌, ◌<◌, ◌≤◌, Bool, true, false, cond, ◌&&◌, List, [], ◌∷◌, ◌++◌, length, take, drop}
+use Rattle.iri_percent.proofs.Common.{refl, sym, ◌∙◌, ap, subst, arith, append_assoc, length-append, ltb-true, not, ◌==◌, nat_lt, flat_map}
+use Rattle.iri_percent.proofs.Common.{encode_utf8, chars, IsUtf8, IsCharBoundary, encode_ascii, IsCharBoundary-from_drop, take_at, drop_at}
+use Rattle.iri_percent.proofs.Common.{nat_tests, not-true, Tests, IsSpec, userinfo_char, reg_name_char, is_ascii_userinfo}
+use Rattle.iri_percent.proofs.Common.{is_ascii_reg_name, is_ascii_unreserved, is_sub_delim, class_test, ascii_test, both, run_of, triplet}
+use Rattle.iri_percent.proofs.Common.{triplets, encoded, encoded_char, is_other, run_text, IsPastRun}
 use Rattle.iri_grammar.proofs.ClassLaws.{class_at_ascii}
-use Rattle.iri_grammar.proofs.CutLaws.{both}
-use Rattle.iri_grammar.specs.Runs.{run_of}
 use Rattle.iri_grammar.specs.declared.class.Class.{Class}
 use Rattle.iri_text.proofs.CharSteps.{first_char, no_chars}
-use Rattle.iri_percent.specs.Mapping.{triplet, triplets}
-use Rattle.iri_percent.specs.Encoding.{encoded, encoded_char}
-use Rattle.iri_percent.specs.inside.Runs.{is_other, run_text, IsRun, IsPastRun}
+use Rattle.iri_percent.specs.inside.Runs.{IsRun}
 
 -- a userinfo has the colon beside the characters of a reg-name
 pub user_is_reg_name : (s : Tests) → IsSpec s → (c : ℕ) → reg_name_char s c ≡ (userinfo_char s c && not (c == 58))

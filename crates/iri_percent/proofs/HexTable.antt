@@ -1,8 +1,7 @@
 -- The table of hex digits agrees with what they stand for at each of the 256 bytes, by computing.
-use Rattle.std.proofs.Common.{◌≡◌, ℕ, ◌<◌, ◌≤◌, Bool, true, false, not, get_or, refl, sym, ◌∙◌, subst, arith, eqb-true}
-use Rattle.std.specs.Prelude.{nat_lt, nat_eq, ◌%◌, ◌||◌}
-use Rattle.std.specs.Char.{is_ascii_hexdigit, digit_value, to_ascii_uppercase}
-use Rattle.std.proofs.lemmas.Bool.{agree_below, agree_below_at, lt-ltb, le-ltb}
+use Rattle.iri_percent.proofs.Common.{◌≡◌, ℕ, ◌<◌, ◌≤◌, Bool, true, false, not, get_or, refl, sym, ◌∙◌, subst, arith, eqb-true, nat_lt, ◌%◌}
+use Rattle.iri_percent.proofs.Common.{◌||◌, is_ascii_hexdigit, digit_value, to_ascii_uppercase, agree_below, agree_below_at, lt-ltb, le-ltb}
+use Rattle.std.specs.Prelude.{nat_eq}
 use Rattle.std.proofs.lemmas.Nat.{mod_below}
 use Rattle.iri_percent.specs.declared.octets.TheConstants.{VALUES, CAPITALS}
 

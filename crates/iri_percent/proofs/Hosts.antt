@@ -1,18 +1,10 @@
 -- Hosts, byte by byte.
-use Rattle.std.proofs.Common.{◌≡◌, ℕ, zero, suc, ◌-◌, ◌<◌, Bool, true, false, cond, not, ◌&&◌, List, [], ◌∷◌, length, take, drop, get_or}
-use Rattle.std.proofs.Common.{◌≤◌, refl, sym, ◌∙◌, ap, subst, arith}
+use Rattle.iri_percent.proofs.Common.{◌≡◌, ℕ, zero, suc, ◌-◌, ◌<◌, Bool, true, false, cond, not, ◌&&◌, List, [], ◌∷◌, length, take, drop}
+use Rattle.iri_percent.proofs.Common.{get_or, ◌≤◌, refl, sym, ◌∙◌, ap, subst, arith, ◌==◌, nat_lt, list_all, is_ascii_uppercase}
+use Rattle.iri_percent.proofs.Common.{to_ascii_lowercase, take_rest, not-true, Tests, both, two_digits, whole_triplets, normal}
+use Rattle.iri_percent.proofs.Common.{is_ascii_host, is_plain_byte, normal_host, case_of, stays, NoCandidate}
 use mathlib.Core.Bool.{and_assoc}
-use Rattle.std.specs.Prelude.{◌==◌, nat_lt}
-use Rattle.std.specs.List.{list_all}
-use Rattle.std.specs.Char.{is_ascii_uppercase, to_ascii_lowercase}
-use Rattle.std.proofs.lemmas.List.{take_rest}
-use Rattle.std.proofs.lemmas.Bool.{not-true}
-use Rattle.iri_grammar.specs.Classes.{Tests}
-use Rattle.iri_grammar.proofs.CutLaws.{both}
-use Rattle.iri_percent.specs.Units.{two_digits, whole_triplets}
-use Rattle.iri_percent.specs.Triplets.{normal}
-use Rattle.iri_percent.specs.NormalHost.{octet_below_128, is_ascii_host, is_plain_byte, normal_host}
-use Rattle.iri_percent.specs.inside.Pieces.{case_of, stays, NoCandidate}
+use Rattle.iri_percent.specs.NormalHost.{octet_below_128}
 use Rattle.iri_percent.proofs.Changes.{run_all}
 
 pub percent_digits : (x : ℕ) (xs : List ℕ) → x ≡ 37 → whole_triplets (x ∷ xs) ≡ true → two_digits xs ≡ true

@@ -1,3 +1,4 @@
+mod Common
 pub mod Characters
 pub mod Changes
 pub mod Hosts

@@ -1,10 +1,7 @@
 -- Delimiters and slashes of a mapped text.
-use Rattle.std.proofs.Common.{◌≡◌, ℕ, ◌<◌, true, false, cond, not, ◌&&◌, List, [], ◌∷◌, ◌++◌, refl, sym, ◌∙◌, ap, arith}
-use Rattle.std.specs.Prelude.{◌==◌, ◌/◌, ◌%◌, nat_lt}
-use Rattle.std.proofs.lemmas.Bool.Decides.{nat_tests}
-use Rattle.iri_grammar.specs.Cut.{before, lacks}
+use Rattle.iri_percent.proofs.Common.{◌≡◌, ℕ, ◌<◌, true, false, cond, not, ◌&&◌, List, [], ◌∷◌, ◌++◌, refl, sym, ◌∙◌, ap, arith, ◌==◌, ◌/◌}
+use Rattle.iri_percent.proofs.Common.{◌%◌, nat_lt, nat_tests, before, lacks, capital_hex, triplet, mapped}
 use Rattle.iri_grammar.specs.Parts.{is_empty, starts_with_slash, starts_with_slashes}
-use Rattle.iri_percent.specs.Mapping.{capital_hex, triplet, mapped}
 use Rattle.iri_percent.proofs.MapTexts.{mapped-low, mapped-high}
 
 -- an ASCII byte that stands in no triplet

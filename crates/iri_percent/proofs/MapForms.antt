@@ -1,33 +1,23 @@
 -- The mapping and triplet normal form, and what the mapping does.
-use Rattle.std.proofs.Common.{◌≡◌, ℕ, zero, suc, ◌+◌, ◌*◌, ◌<◌, ◌≤◌, Bool, true, false, cond, List, [], ◌∷◌, ◌++◌, Option, Some}
-use Rattle.std.proofs.Common.{None, length, map, refl, sym, ◌∙◌, ap, subst, arith, length-append, ltb-true, ltb-false}
-use Rattle.std.specs.Prelude.{◌==◌, ◌/◌, ◌%◌, nat_lt}
-use Rattle.std.specs.List.{list_all}
-use Rattle.std.specs.Char.{is_ascii_hexdigit, digit_value, to_ascii_uppercase}
-use lib.Utf8.{encode, encodes, scalar, scalars}
-use Rattle.std.specs.Str.{chars, IsAscii, IsUtf8}
-use Rattle.std.proofs.lemmas.Str.{encode_ascii, encodes-chars, scalars-chars, IsAscii-append}
-use Rattle.std.proofs.lemmas.Bool.Decides.{nat_tests}
-use Rattle.std.proofs.lemmas.Bool.{lt-ltb}
+use Rattle.iri_percent.proofs.Common.{◌≡◌, ℕ, zero, suc, ◌+◌, ◌*◌, ◌<◌, ◌≤◌, Bool, true, false, cond, List, [], ◌∷◌, ◌++◌, Option, Some}
+use Rattle.iri_percent.proofs.Common.{None, length, map, refl, sym, ◌∙◌, ap, subst, arith, length-append, ltb-true, ltb-false, ◌==◌, ◌/◌}
+use Rattle.iri_percent.proofs.Common.{◌%◌, nat_lt, list_all, is_ascii_hexdigit, digit_value, to_ascii_uppercase, encode, encodes, scalar}
+use Rattle.iri_percent.proofs.Common.{scalars, chars, IsAscii, IsUtf8, encode_ascii, encodes-chars, scalars-chars, nat_tests, lt-ltb}
+use Rattle.iri_percent.proofs.Common.{IsAscii-cons, IsAscii-nil, Tests, IsSpec, uri_tests, unreserved, is_ascii_unreserved, both, text_over}
+use Rattle.iri_percent.proofs.Common.{octet, octets, first_char, normal, decoded, unreserved_only, capital_hex, triplet, mapped, triplets}
+use Rattle.std.proofs.lemmas.Str.{IsAscii-append}
 use Rattle.std.proofs.Math.Bool.{or-false}
-use Rattle.std.proofs.lemmas.Str.Ascii.{IsAscii-cons, IsAscii-nil}
-use Rattle.iri_grammar.specs.Classes.{Tests, IsSpec, uri_tests, unreserved, is_ascii_unreserved}
-use Rattle.iri_grammar.proofs.CutLaws.{both}
-use Rattle.iri_grammar.specs.Over.{text_over}
-use Rattle.iri_percent.specs.Units.{octet, octets, first_char}
-use Rattle.iri_percent.specs.Triplets.{normal}
 use Rattle.iri_percent.proofs.ClassLaws.{IsText, ended, letter, escape, text-from_over, after_spelled}
 use Rattle.iri_percent.proofs.UnitLaws.{Spells, none, more, spelled, octets_triplet, char_first, encode_bytes}
-use Rattle.iri_percent.specs.NormalLaws.{decoded, unreserved_only}
 use Rattle.iri_percent.proofs.NormalLaws.{normal_nil, normal_plain, normal_plains, normal_char, normal_decoded, normal_kept}
 use Rattle.iri_percent.proofs.CaseLaws.{encode_case, is_decoded}
 use Rattle.iri_percent.proofs.Stability.{IsCase, encode_percent, upper_hex}
-pub use Rattle.iri_percent.proofs.Characters.{unreserved_low as unreserved_ascii}
 use Rattle.iri_percent.proofs.Characters.{unreserved_low}
 use Rattle.iri_percent.proofs.Spelled.{hex_below}
-use Rattle.iri_percent.specs.Mapping.{capital_hex, triplet, mapped, triplets, mapped_char, mapped_chars}
+use Rattle.iri_percent.specs.Mapping.{mapped_char, mapped_chars}
 use Rattle.iri_percent.proofs.MapTexts.{mapped-low, mapped-high, mapped-append, mapped-triplet, mapped-spelled, mapped-spells, is_high}
 use Rattle.iri_percent.proofs.MapTexts.{high_past, high_small, first_digit, second_digit, encode-high, uri-spec}
+pub use Rattle.iri_percent.proofs.Characters.{unreserved_low as unreserved_ascii}
 
 -- ---- triplets in capital
 capital_of : (a : ℕ) → is_ascii_hexdigit a ≡ true → capital_hex (digit_value a) ≡ to_ascii_uppercase a

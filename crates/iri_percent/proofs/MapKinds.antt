@@ -1,22 +1,17 @@
 -- What is in a production is, mapped, in the same production of URIs.
-use Rattle.std.proofs.Common.{◌≡◌, ℕ, Bool, true, false, not, ◌||◌, List, [], ◌∷◌, ◌++◌, Option, Some, None, refl, sym, ◌∙◌, ap, subst}
-use Rattle.std.proofs.Common.{arith}
-use Rattle.std.specs.Prelude.{nat_lt, IsSome, IsNone, option_map}
-use Rattle.std.specs.Char.{is_ascii_digit}
-use Rattle.std.specs.List.{list_all}
-use Rattle.std.proofs.lemmas.Bool.Decides.{nat_tests}
+use Rattle.iri_percent.proofs.Common.{◌≡◌, ℕ, Bool, true, false, not, ◌||◌, List, [], ◌∷◌, ◌++◌, Option, Some, None, refl, sym, ◌∙◌, ap}
+use Rattle.iri_percent.proofs.Common.{subst, arith, nat_lt, option_map, is_ascii_digit, list_all, nat_tests, AuthorityParts, FitsAuthority}
+use Rattle.iri_percent.proofs.Common.{authority_parts, recompose_authority, userinfo_text, Tests, IsSpec, uri_tests, userinfo_char}
+use Rattle.iri_percent.proofs.Common.{reg_name_char, path_char, query_char, fragment_char, is_ascii_userinfo, is_ascii_reg_name}
+use Rattle.iri_percent.proofs.Common.{is_ascii_unreserved, is_ascii_path, is_ascii_query, is_sub_delim, if_there, is_port, is_userinfo}
+use Rattle.iri_percent.proofs.Common.{is_path, is_query, is_fragment, before, delimited, both, is_host, is_reg_name, mapped}
+use Rattle.std.specs.Prelude.{IsSome, IsNone}
 use Rattle.std.proofs.Math.Bool.{or-true}
-use Rattle.iri_grammar.specs.Authority.{AuthorityParts, FitsAuthority, authority_parts, recompose_authority, is_authority, userinfo_text}
+use Rattle.iri_grammar.specs.Authority.{is_authority}
 use Rattle.iri_grammar.proofs.AuthorityLaws.{authority_law, reading_is, passes, authority_recomposed}
-use Rattle.iri_grammar.specs.Classes.{Tests, IsSpec, uri_tests, userinfo_char, reg_name_char, path_char, query_char, fragment_char}
-use Rattle.iri_grammar.specs.Classes.{is_ascii_userinfo, is_ascii_reg_name, is_ascii_unreserved, is_ascii_path, is_ascii_query}
-use Rattle.iri_grammar.specs.Classes.{is_sub_delim}
-use Rattle.iri_grammar.specs.Components.{if_there, is_scheme, is_scheme_char, is_port, is_userinfo, is_path, is_query, is_fragment}
-use Rattle.iri_grammar.specs.Cut.{before, delimited}
-use Rattle.iri_grammar.proofs.CutLaws.{both}
+use Rattle.iri_grammar.specs.Components.{is_scheme, is_scheme_char}
 use Rattle.iri_grammar.specs.Fault.{query_fault, fragment_fault}
 use Rattle.iri_grammar.proofs.FaultLaws.{passed, no_fault, reference-law, iri-law, absolute-law, relative-law}
-use Rattle.iri_grammar.specs.Host.{is_host, is_reg_name}
 use Rattle.iri_grammar.specs.IpLiteral.{is_ip_literal}
 use Rattle.iri_grammar.proofs.LiteralChars.{is_literal_char, ip_literal-chars}
 use Rattle.iri_grammar.specs.Parts.{Parts, Fits, Splits, IsReference, IsIri, IsAbsolute, IsRelative, path_rules, recompose, scheme_text}
@@ -26,8 +21,9 @@ use Rattle.iri_grammar.proofs.SplitLaws.{scheme-chars}
 use Rattle.iri_grammar.proofs.SplitUnique.{split_is}
 use Rattle.iri_grammar.specs.WholeFault.{reference_fault, iri_fault, absolute_fault, relative_fault}
 use Rattle.iri_grammar.specs.declared.error.ErrorKind.TheVariants.{InvalidQuery, InvalidFragment}
-use Rattle.iri_percent.specs.Mapping.{mapped, mapped_parts}
-use Rattle.iri_percent.proofs.MapDelimiters.{slash-apart, colon-apart, mapped-lacks, mapped-before, mapped-empty, mapped-slash, mapped-slashes}
+use Rattle.iri_percent.specs.Mapping.{mapped_parts}
+use Rattle.iri_percent.proofs.MapDelimiters.{slash-apart, colon-apart, mapped-lacks, mapped-before, mapped-empty, mapped-slash}
+use Rattle.iri_percent.proofs.MapDelimiters.{mapped-slashes}
 use Rattle.iri_percent.proofs.MapTexts.{mapped-low, mapped-append, mapped-over, uri-spec}
 use Rattle.iri_percent.proofs.WholeLaws.{reg_name_percent, userinfo_percent, path_percent, query_percent, fragment_percent}
 

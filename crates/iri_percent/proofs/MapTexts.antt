@@ -1,21 +1,11 @@
 -- The mapping of texts over a class.
-use Rattle.std.proofs.Common.{◌≡◌, ℕ, ◌+◌, ◌*◌, ◌<◌, ◌≤◌, Bool, true, false, cond, List, [], ◌∷◌, ◌++◌, refl, sym, ◌∙◌, ap, subst, arith}
-use Rattle.std.proofs.Common.{append_assoc, ltb-true}
-use Rattle.std.specs.Prelude.{◌/◌, ◌%◌, nat_lt}
+use Rattle.iri_percent.proofs.Common.{◌≡◌, ℕ, ◌+◌, ◌*◌, ◌<◌, ◌≤◌, Bool, true, false, cond, List, [], ◌∷◌, ◌++◌, refl, sym, ◌∙◌, ap, subst}
+use Rattle.iri_percent.proofs.Common.{arith, append_assoc, ltb-true, ◌/◌, ◌%◌, nat_lt, list_all, is_ascii_hexdigit, digit_value, ltb}
+use Rattle.iri_percent.proofs.Common.{encode, next, scalar, encode_ascii, nat_tests, IsSpec, uri_tests, both, text_over, octet, capital_hex}
+use Rattle.iri_percent.proofs.Common.{triplet, mapped}
 use Rattle.std.specs.Int.{is_in_range}
-use Rattle.std.specs.List.{list_all}
-use Rattle.std.specs.Char.{is_ascii_hexdigit, digit_value}
-use lib.Dec.{ltb}
-use lib.Utf8.{encode, next, scalar}
-use Rattle.std.proofs.lemmas.Str.{encode_ascii}
-use Rattle.std.proofs.lemmas.Bool.Decides.{nat_tests}
-use Rattle.iri_grammar.specs.Classes.{IsSpec, uri_tests}
-use Rattle.iri_grammar.proofs.CutLaws.{both}
-use Rattle.iri_grammar.specs.Over.{text_over}
-use Rattle.iri_percent.specs.Units.{octet}
 use Rattle.iri_percent.proofs.ClassLaws.{IsText, ended, letter, escape, text-from_over, over-from_text}
 use Rattle.iri_percent.proofs.UnitLaws.{Spells, none, more}
-use Rattle.iri_percent.specs.Mapping.{capital_hex, triplet, mapped}
 
 -- ---- bytes
 pub mapped-low : (x : ℕ) (xs : List ℕ) → nat_lt x 128 ≡ true → mapped (x ∷ xs) ≡ x ∷ mapped xs

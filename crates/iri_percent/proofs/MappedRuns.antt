@@ -1,13 +1,7 @@
 -- The mapping of a text, run by run.
-use Rattle.std.proofs.Common.{◌≡◌, ℕ, suc, ◌<◌, true, false, cond, not, List, [], ◌∷◌, ◌++◌, length, take, drop, refl, sym, ◌∙◌, ap}
-use Rattle.std.proofs.Common.{subst, arith, append_assoc, length-drop, ltb-true}
-use Rattle.std.specs.Prelude.{nat_lt}
-use Rattle.std.specs.Str.{IsAscii}
-use Rattle.std.proofs.lemmas.Bool.{lt-ltb}
-use Rattle.std.proofs.lemmas.Str.Ascii.{IsAscii-cons, IsAscii-nil}
-use Rattle.iri_grammar.specs.Runs.{run_of}
-use Rattle.iri_percent.specs.Mapping.{triplet, mapped, triplets}
-use Rattle.iri_percent.specs.inside.MapRuns.{goes_on}
+use Rattle.iri_percent.proofs.Common.{nat_lt, IsAscii, lt-ltb, IsAscii-cons, IsAscii-nil, run_of, triplet, mapped, triplets, goes_on}
+use Rattle.std.proofs.Common.{◌≡◌, ℕ, suc, ◌<◌, true, false, cond, not, List, [], ◌∷◌, ◌++◌, length, take, drop, refl, sym, ◌∙◌, ap, subst}
+use Rattle.std.proofs.Common.{arith, append_assoc, length-drop, ltb-true}
 use Rattle.iri_percent.proofs.MapTexts.{mapped-low, mapped-high}
 
 pub low-run : (t : List ℕ) → mapped t ≡ take (run_of (goes_on false) t) t ++ mapped (drop (run_of (goes_on false) t) t)

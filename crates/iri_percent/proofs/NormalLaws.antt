@@ -1,19 +1,11 @@
 -- Triplet normal form, unit by unit.
-use Rattle.std.proofs.Common.{◌≡◌, ℕ, true, false, cond, ◌&&◌, List, [], ◌∷◌, ◌++◌, Some, None, refl, sym, ◌∙◌, ap, subst}
-use Rattle.std.specs.Prelude.{◌==◌, map, not}
-use Rattle.std.specs.List.{list_all}
-use Rattle.std.specs.Char.{is_ascii_hexdigit, to_ascii_uppercase, encode_utf8}
-use lib.Utf8.{scalar}
-use Rattle.iri_grammar.specs.Classes.{Tests, unreserved}
-use Rattle.iri_grammar.specs.Cut.{lacks}
-use Rattle.iri_grammar.proofs.CutLaws.{both}
-use Rattle.iri_percent.specs.Units.{TextUnit, Plain, Char, Lone, octet, octets, first_char, units}
-use Rattle.iri_percent.specs.Triplets.{normal}
-use Rattle.iri_percent.specs.ByteForm.{written, all_written}
+use Rattle.iri_percent.proofs.Common.{◌≡◌, ℕ, true, false, cond, ◌&&◌, List, [], ◌∷◌, ◌++◌, Some, None, refl, sym, ◌∙◌, ap, subst, ◌==◌}
+use Rattle.iri_percent.proofs.Common.{map, not, list_all, is_ascii_hexdigit, to_ascii_uppercase, encode_utf8, scalar, Tests, unreserved}
+use Rattle.iri_percent.proofs.Common.{lacks, both, TextUnit, Plain, Char, Lone, octet, octets, first_char, units, normal, written}
+use Rattle.iri_percent.proofs.Common.{all_written, decoded, unreserved_only}
 use Rattle.iri_percent.proofs.CharLaws.{normal-by_bytes}
 use Rattle.iri_percent.proofs.UnitLaws.{Spells, none, more, spelled, octets_triplet, BeginsChar, first_char_is, is_continuation}
 use Rattle.iri_percent.proofs.UnitLaws.{encode_bytes, continuation_none, units_plain, units_lone, units_char}
-use Rattle.iri_percent.specs.NormalLaws.{decoded, unreserved_only}
 
 pub normal_nil : (s : Tests) (f : ℕ → ℕ) → normal s f [] ≡ []
 unfolding normal Rattle.iri_percent.specs.CharUnits.char_units_from

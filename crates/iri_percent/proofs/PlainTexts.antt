@@ -1,29 +1,21 @@
 -- Texts that are in normal form as they stand, or in lower case.
-use Rattle.std.proofs.Common.{◌≡◌, ℕ, zero, suc, true, false, not, ◌&&◌, List, [], ◌∷◌, ◌++◌, Option, Some, None, refl, sym}
-use Rattle.std.proofs.Common.{◌∙◌, ap, arith, map, append-nil, length, subst}
-use Rattle.std.specs.Prelude.{◌==◌, is_some, option_map}
-use Rattle.std.specs.List.{list_all}
-use Rattle.std.specs.Str.{IsAscii}
-use Rattle.std.specs.Char.{is_ascii_digit, to_ascii_lowercase}
-use Rattle.std.proofs.lemmas.Bool.Decides.{nat_tests}
-use Rattle.std.proofs.lemmas.List.{map-append, map-id}
-use Rattle.std.proofs.lemmas.Bool.{lt-ltb}
-use Rattle.iri_grammar.specs.Classes.{Tests}
-use Rattle.iri_grammar.specs.ClassTests.{ascii_test}
-use Rattle.iri_grammar.specs.Components.{if_there, is_port}
-use Rattle.iri_grammar.specs.Authority.{AuthorityParts, after_userinfo, authority_parts, recompose_authority, userinfo_text}
-use Rattle.iri_grammar.specs.Cut.{lacks, delimited}
+use Rattle.iri_percent.proofs.Common.{◌≡◌, ℕ, zero, suc, true, false, not, ◌&&◌, List, [], ◌∷◌, ◌++◌, Option, Some, None, refl, sym, ◌∙◌}
+use Rattle.iri_percent.proofs.Common.{ap, arith, map, append-nil, length, subst, ◌==◌, option_map, list_all, IsAscii, is_ascii_digit}
+use Rattle.iri_percent.proofs.Common.{to_ascii_lowercase, nat_tests, map-id, lt-ltb, Tests, ascii_test, if_there, is_port, AuthorityParts}
+use Rattle.iri_percent.proofs.Common.{authority_parts, recompose_authority, userinfo_text, lacks, delimited, all-lacks, both, is_ascii_host}
+use Rattle.iri_percent.proofs.Common.{normal_authority, normal_host, as_it_is, normal, pct, NoCandidate, case_of}
+use Rattle.std.specs.Prelude.{is_some}
+use Rattle.std.proofs.lemmas.List.{map-append}
+use Rattle.iri_grammar.specs.Authority.{after_userinfo}
 use Rattle.iri_grammar.specs.Seen.{is_kept_port, is_plain_authority, is_small}
 use Rattle.iri_grammar.specs.declared.class.Class.TheVariants.{RegName}
 use Rattle.iri_grammar.proofs.AuthorityLaws.{authority_recomposed}
 use Rattle.iri_grammar.proofs.AuthorityTexts.{all_below, digit-below, port-digits}
 use Rattle.iri_grammar.proofs.ClassLaws.{ascii_test_below, no_percent}
-use Rattle.iri_grammar.proofs.CutLaws.{all-lacks, both, lacks-append, test_apart}
+use Rattle.iri_grammar.proofs.CutLaws.{lacks-append, test_apart}
 use Rattle.iri_grammar.proofs.PlainAuthorities.{port_small}
 use Rattle.iri_percent.specs.DelimiterLaws.{IsOutsideTriplets}
-use Rattle.iri_percent.specs.NormalHost.{is_ascii_host, normal_authority, normal_authority_parts, normal_host, normal_port, normal_userinfo}
-use Rattle.iri_percent.specs.Triplets.{as_it_is, normal, pct}
-use Rattle.iri_percent.specs.inside.Pieces.{NoCandidate, case_of}
+use Rattle.iri_percent.specs.NormalHost.{normal_authority_parts, normal_port, normal_userinfo}
 use Rattle.iri_percent.proofs.Changes.{run_all}
 use Rattle.iri_percent.proofs.Hosts.{host_case}
 use Rattle.iri_percent.proofs.DelimiterLaws.{pct_delimiter}

@@ -1,11 +1,7 @@
 -- A text without stray `%` is a row of characters as they stand, characters in triplets, and lone triplets.
-use Rattle.std.proofs.Common.{◌≡◌, ℕ, zero, suc, ◌≤◌, true, false, List, [], ◌∷◌, ◌++◌, Some, None, length, refl, sym, ◌∙◌, ap, subst}
-use Rattle.std.proofs.Common.{arith, length-append, eqb-true}
-use Rattle.std.specs.Prelude.{◌==◌}
-use Rattle.std.specs.Char.{is_ascii_hexdigit, encode_utf8}
-use lib.Utf8.{scalar}
-use Rattle.iri_grammar.proofs.CutLaws.{both}
-use Rattle.iri_percent.specs.Units.{octets, first_char, two_digits, whole_triplets}
+use Rattle.iri_percent.proofs.Common.{◌≡◌, ℕ, zero, suc, ◌≤◌, true, false, List, [], ◌∷◌, ◌++◌, Some, None, length, refl, sym, ◌∙◌, ap}
+use Rattle.iri_percent.proofs.Common.{subst, arith, length-append, eqb-true, ◌==◌, is_ascii_hexdigit, encode_utf8, scalar, both, octets}
+use Rattle.iri_percent.proofs.Common.{first_char, two_digits, whole_triplets}
 use Rattle.iri_percent.proofs.UnitLaws.{Spells, none, more, hex_apart, first_char_is}
 use Rattle.iri_percent.proofs.NormalLaws.{PrefixTriplet, prefix_triplet}
 

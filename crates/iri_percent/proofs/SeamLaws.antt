@@ -1,15 +1,8 @@
 -- Triplet normal form of a text put together at a place where a triplet or another byte begins.
-use Rattle.std.proofs.Common.{◌≡◌, ℕ, ◌⊎◌, inl, inr, Bool, true, false, not, ◌&&◌, List, [], ◌∷◌, ◌++◌, Some, None, refl, sym, ◌∙◌, ap}
-use Rattle.std.proofs.Common.{append_assoc}
-use Rattle.std.specs.Prelude.{◌==◌}
-use Rattle.std.specs.List.{list_all}
-use Rattle.std.specs.Char.{is_ascii_hexdigit, encode_utf8, to_ascii_uppercase}
-use Rattle.std.specs.Prelude.{cond, map}
-use Rattle.std.proofs.lemmas.Bool.{not-true}
-use Rattle.iri_grammar.specs.Classes.{Tests, unreserved}
-use Rattle.iri_grammar.proofs.CutLaws.{both}
-use Rattle.iri_percent.specs.Units.{octet, octets, is_triplet, first_char, two_digits, whole_triplets}
-use Rattle.iri_percent.specs.Triplets.{normal}
+use Rattle.iri_percent.proofs.Common.{◌≡◌, ℕ, Bool, true, false, not, ◌&&◌, List, [], ◌∷◌, ◌++◌, Some, None, refl, sym, ◌∙◌, ap}
+use Rattle.iri_percent.proofs.Common.{append_assoc, ◌==◌, list_all, is_ascii_hexdigit, encode_utf8, to_ascii_uppercase, cond, map, not-true}
+use Rattle.iri_percent.proofs.Common.{Tests, unreserved, both, octet, octets, is_triplet, first_char, two_digits, whole_triplets, normal}
+use Rattle.std.proofs.Common.{◌⊎◌, inl, inr}
 use Rattle.iri_percent.proofs.UnitLaws.{octets_other, octets_triplet, first_char_is, char_first, is_continuation, encode_bytes}
 use Rattle.iri_percent.proofs.NormalLaws.{normal_nil, normal_plain, normal_lone, normal_char}
 use Rattle.iri_percent.proofs.Reading.{Reading, done, plain, char, lone, whole_plain, whole_triplet, whole_after, read}

@@ -1,13 +1,10 @@
 -- Octets spelled as triplets.
-use Rattle.std.proofs.Common.{◌≡◌, ℕ, zero, suc, ◌+◌, ◌<◌, List, [], ◌∷◌, ◌++◌, length, take, drop, get_or, set, sym, ◌∙◌, ap, arith}
-use Rattle.std.proofs.Common.{append_assoc, length-set, take-append-drop}
-use Rattle.std.specs.Prelude.{◌/◌, ◌%◌}
-use Rattle.std.specs.Str.{IsAscii, IsUtf8}
+use Rattle.iri_percent.proofs.Common.{◌≡◌, ℕ, zero, suc, ◌+◌, ◌<◌, List, [], ◌∷◌, ◌++◌, length, take, drop, get_or, sym, ◌∙◌, ap, arith}
+use Rattle.iri_percent.proofs.Common.{append_assoc, take-append-drop, ◌/◌, ◌%◌, IsAscii, IsUtf8, nat_tests, capital_hex, triplets}
+use Rattle.std.proofs.Common.{set, length-set}
 use Rattle.std.proofs.Math.Seq.{take-suc}
 use Rattle.std.proofs.lemmas.Str.{IsUtf8-from_ascii}
 use Rattle.std.proofs.lemmas.List.{take_more_set}
-use Rattle.std.proofs.lemmas.Bool.Decides.{nat_tests}
-use Rattle.iri_percent.specs.Mapping.{capital_hex, triplets}
 use Rattle.iri_percent.proofs.EncodedRuns.{triplets-append}
 
 three_set : (buf : List ℕ) (n a b d : ℕ) → n + 2 < length buf

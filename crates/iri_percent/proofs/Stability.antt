@@ -1,26 +1,19 @@
 -- Triplet normal form is stable, and makes no new character in triplets.
-use Rattle.std.proofs.Common.{◌≡◌, ℕ, ◌<◌, ◌≤◌, true, false, cond, ◌&&◌, List, [], ◌∷◌, ◌++◌, None, refl, sym, ◌∙◌, ap, subst, arith}
-use Rattle.std.proofs.Common.{append_assoc}
-use Rattle.std.specs.Prelude.{◌==◌, map, not}
-use Rattle.std.specs.Char.{is_ascii_hexdigit, digit_value, to_ascii_uppercase, to_ascii_lowercase, encode_utf8}
-use Rattle.std.proofs.lemmas.Bool.Decides.{nat_tests}
-use Rattle.std.proofs.lemmas.List.{append-nil}
-pub use Rattle.std.proofs.lemmas.Str.Ascii.{uppercase-uppercase as upper_twice}
+use Rattle.iri_percent.proofs.Common.{◌≡◌, ℕ, ◌<◌, ◌≤◌, true, false, cond, ◌&&◌, List, [], ◌∷◌, ◌++◌, None, refl, sym, ◌∙◌, ap, subst}
+use Rattle.iri_percent.proofs.Common.{arith, append_assoc, ◌==◌, map, not, is_ascii_hexdigit, digit_value, to_ascii_uppercase}
+use Rattle.iri_percent.proofs.Common.{to_ascii_lowercase, encode_utf8, nat_tests, append-nil, Tests, IsSpec, unreserved}
+use Rattle.iri_percent.proofs.Common.{is_ascii_unreserved, lacks, TextUnit, Plain, Char, Lone, Stray, IllFormed, octet, octets, first_char}
+use Rattle.iri_percent.proofs.Common.{units, units_from, whole_triplets, plains, normal, as_it_is, pct, written, all_written, normal_units}
 use Rattle.std.proofs.lemmas.Str.Ascii.{lowercase-lowercase, lowercase_ascii, uppercase-uppercase}
-use Rattle.iri_grammar.specs.Classes.{Tests, IsSpec, unreserved, is_ascii_unreserved}
-use Rattle.iri_grammar.specs.Cut.{lacks}
 use Rattle.iri_grammar.proofs.CutLaws.{by_test, lacks-other}
 use Rattle.iri_grammar.proofs.CutBytes.{lacks-encodes}
-use Rattle.iri_percent.specs.Units.{TextUnit, Plain, Char, Lone, Stray, IllFormed, octet, octets, first_char, units, units_from}
-use Rattle.iri_percent.specs.Units.{whole_triplets}
-use Rattle.iri_percent.specs.CharUnits.{plains}
-use Rattle.iri_percent.specs.Triplets.{normal, as_it_is, pct}
-use Rattle.iri_percent.specs.ByteForm.{written, all_written, normal_unit, normal_units}
+use Rattle.iri_percent.specs.ByteForm.{normal_unit}
 use Rattle.iri_percent.proofs.CharLaws.{all_written-append, written_plains, normal-by_bytes}
 use Rattle.iri_percent.proofs.UnitLaws.{Spells, none, more, octets_other, octets_triplet, octets_spelled, encode_bytes, none_before}
 use Rattle.iri_percent.proofs.UnitLaws.{units_plain, units_lone, units_char}
 use Rattle.iri_percent.proofs.NormalLaws.{normal_nil, normal_plain, normal_lone, normal_char}
 use Rattle.iri_percent.proofs.Reading.{Reading, done, plain, char, lone, whole_plain, whole_triplet, whole_after, read}
+pub use Rattle.std.proofs.lemmas.Str.Ascii.{uppercase-uppercase as upper_twice}
 
 -- what may be done to characters outside triplets: it makes no `%`, and once is enough
 pub record IsCase (f : ℕ → ℕ) : Type 0 where

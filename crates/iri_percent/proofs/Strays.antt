@@ -1,16 +1,11 @@
 -- A text has whole triplets exactly where no unit of it is a stray `%`.
-use Rattle.std.proofs.Common.{◌≡◌, ◌≢◌, ◌↔◌, ℕ, zero, suc, ◌≤◌, Bool, true, false, true≢false, List, [], ◌∷◌, ◌++◌, Some, None, length}
-use Rattle.std.proofs.Common.{refl, sym, ◌∙◌, ap, subst, arith, length-append, eqb-true}
-use Rattle.std.specs.Prelude.{◌==◌, not}
-use Rattle.std.specs.List.{All, list_all, flat_map}
-use Rattle.std.specs.Char.{is_ascii_hexdigit, encode_utf8}
+use Rattle.iri_percent.proofs.Common.{◌≡◌, ℕ, zero, suc, ◌≤◌, Bool, true, false, List, [], ◌∷◌, ◌++◌, Some, None, length, refl, sym, ◌∙◌}
+use Rattle.iri_percent.proofs.Common.{ap, subst, arith, length-append, eqb-true, ◌==◌, not, list_all, flat_map, is_ascii_hexdigit}
+use Rattle.iri_percent.proofs.Common.{encode_utf8, scalar, not-true, TextUnit, Plain, Char, Lone, Stray, IllFormed, octets, first_char}
+use Rattle.iri_percent.proofs.Common.{two_digits, units, units_from, whole_triplets, both, char_units, plains, byte_units}
+use Rattle.std.proofs.Common.{◌≢◌, ◌↔◌, true≢false}
+use Rattle.std.specs.List.{All}
 use Rattle.std.proofs.lemmas.List.Elements.{All-cons}
-use lib.Utf8.{scalar}
-use Rattle.std.proofs.lemmas.Bool.{not-true}
-use Rattle.iri_percent.specs.Units.{TextUnit, Plain, Char, Lone, Stray, IllFormed, octets, first_char, two_digits, units, units_from}
-use Rattle.iri_percent.specs.Units.{whole_triplets}
-use Rattle.iri_grammar.proofs.CutLaws.{both}
-use Rattle.iri_percent.specs.CharUnits.{char_units, plains, byte_units}
 use Rattle.iri_percent.proofs.CharLaws.{units-by_chars}
 use Rattle.iri_percent.proofs.CharUnits.{units_stray}
 use Rattle.iri_percent.proofs.UnitLaws.{units_plain, units_lone, units_char, first_char_is}

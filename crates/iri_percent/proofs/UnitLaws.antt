@@ -1,21 +1,14 @@
 -- How a text is read: octets, characters and units at its start.
-use Rattle.std.proofs.Common.{◌≡◌, ℕ, zero, suc, ◌+◌, ◌*◌, ◌-◌, ◌≤◌, Bool, true, false, cond, ◌&&◌, List, [], ◌∷◌, ◌++◌, Some, None}
-use Rattle.std.proofs.Common.{length, take, drop, refl, sym, ◌∙◌, ap, subst, arith, append_assoc, append-nil, eq-eqb, eqb-true}
-use Rattle.std.specs.Prelude.{◌==◌, ◌/◌}
+use Rattle.iri_percent.proofs.Common.{◌==◌, ◌/◌, list_all, is_ascii_hexdigit, len_utf8, chars, ltb, encode, encodes, next, scalar, scalars}
+use Rattle.iri_percent.proofs.Common.{encode_ascii, length-encode, take_at, drop_at, nat_tests, both, Plain, Char, Lone, Stray, is_triplet}
+use Rattle.iri_percent.proofs.Common.{octet, octets, first_char, triplet_unit, first_unit, unit_text, units_from, units}
+use Rattle.std.proofs.Common.{◌≡◌, ℕ, zero, suc, ◌+◌, ◌*◌, ◌-◌, ◌≤◌, Bool, true, false, cond, ◌&&◌, List, [], ◌∷◌, ◌++◌, Some, None, length}
+use Rattle.std.proofs.Common.{take, drop, refl, sym, ◌∙◌, ap, subst, arith, append_assoc, append-nil, eq-eqb, eqb-true}
 use Rattle.std.specs.Int.{is_in_range}
-use Rattle.std.specs.List.{list_all}
-use Rattle.std.specs.Char.{is_ascii_hexdigit, len_utf8}
-use Rattle.std.specs.Str.{chars}
-use lib.Dec.{ltb}
-use lib.Utf8.{encode, encodes, next, scalar, scalars}
-use Rattle.std.proofs.lemmas.Str.{encode_ascii, chars-append, chars-encodes, IsUtf8-encode, length-encode}
-use Rattle.std.proofs.lemmas.List.{take_at, drop_at}
-use Rattle.std.proofs.lemmas.Bool.Decides.{nat_tests}
+use Rattle.std.proofs.lemmas.Str.{chars-append, chars-encodes, IsUtf8-encode}
 use Rattle.std.proofs.lemmas.Bool.{and_from}
 use Rattle.iri_grammar.proofs.Units.{hex_is_ascii}
-use Rattle.iri_grammar.proofs.CutLaws.{both}
-use Rattle.iri_percent.specs.Units.{Plain, Char, Lone, Stray, is_triplet, octet, octets, starts_with, well_formed, first_char}
-use Rattle.iri_percent.specs.Units.{triplet_unit, first_unit, unit_text, units_from, units}
+use Rattle.iri_percent.specs.Units.{starts_with, well_formed}
 
 -- ---- octets
 pub hex_apart : (x : ℕ) → is_ascii_hexdigit x ≡ true → (x == 37) ≡ false

@@ -1,13 +1,8 @@
 -- The units of a text, put together, are the text.
-use Rattle.std.proofs.Common.{◌≡◌, ℕ, zero, suc, ◌*◌, ◌-◌, ◌<◌, ◌≤◌, true, false, cond, ◌&&◌, List, [], ◌∷◌, ◌++◌, Option, Some, None}
-use Rattle.std.proofs.Common.{length, take, drop, refl, sym, ◌∙◌, ap, subst, arith, take-append-drop, eqb-true}
-use Rattle.std.specs.Prelude.{◌==◌}
-use Rattle.std.specs.Char.{is_ascii_hexdigit, len_utf8}
-use Rattle.std.proofs.lemmas.Str.{len_utf8_bounds}
-use Rattle.std.proofs.lemmas.List.{drop_at}
-use Rattle.iri_grammar.proofs.CutLaws.{both}
-use Rattle.iri_percent.specs.Units.{TextUnit, Plain, Stray, is_triplet, octets, first_char, triplet_unit, byte_unit, first_unit, unit_text}
-use Rattle.iri_percent.specs.Units.{units_from, units}
+use Rattle.iri_percent.proofs.Common.{◌≡◌, ℕ, zero, suc, ◌*◌, ◌-◌, ◌<◌, ◌≤◌, true, false, cond, ◌&&◌, List, [], ◌∷◌, ◌++◌, Option, Some}
+use Rattle.iri_percent.proofs.Common.{None, length, take, drop, refl, sym, ◌∙◌, ap, subst, arith, take-append-drop, eqb-true, ◌==◌}
+use Rattle.iri_percent.proofs.Common.{is_ascii_hexdigit, len_utf8, len_utf8_bounds, drop_at, both, TextUnit, Plain, Stray, is_triplet}
+use Rattle.iri_percent.proofs.Common.{octets, first_char, triplet_unit, byte_unit, first_unit, unit_text, units_from, units}
 use Rattle.iri_percent.proofs.DelimiterLaws.{unit_within}
 use Rattle.iri_percent.specs.UnitTexts.{units_text}
 

@@ -1,22 +1,15 @@
 -- Each part of a reference has whole triplets.
-use Rattle.std.proofs.Common.{◌≡◌, ℕ, Bool, true, false, cond, not, ◌&&◌, ◌||◌, List, [], ◌∷◌, ◌++◌, refl, sym, ◌∙◌, ap, arith}
-use Rattle.std.specs.Prelude.{◌==◌}
-use Rattle.std.specs.Str.{chars, is_utf8}
-use lib.Utf8.{encode, encodes}
-use Rattle.std.proofs.lemmas.Str.{encodes-chars, IsUtf8-from_is_utf8}
+use Rattle.iri_percent.proofs.Common.{◌≡◌, ℕ, Bool, true, false, cond, not, ◌&&◌, ◌||◌, List, [], ◌∷◌, ◌++◌, refl, sym, ◌∙◌, ap, arith}
+use Rattle.iri_percent.proofs.Common.{◌==◌, chars, is_utf8, encode, encodes, encodes-chars, IsUtf8-from_is_utf8, Tests, IsSpec}
+use Rattle.iri_percent.proofs.Common.{reg_name_char, userinfo_char, pchar, path_char, query_char, fragment_char, is_ascii_reg_name}
+use Rattle.iri_percent.proofs.Common.{is_ascii_userinfo, is_ascii_pchar, is_ascii_path, is_ascii_query, is_ascii_unreserved, is_sub_delim}
+use Rattle.iri_percent.proofs.Common.{is_userinfo, is_path, is_path_segment, is_query, is_fragment, lacks, both, by_test, all-lacks}
+use Rattle.iri_percent.proofs.Common.{is_host, is_reg_name, over, text_over, IsOver, two_digits, whole_triplets}
 use Rattle.iri_percent.proofs.UnitLaws.{encodes_triplet}
-use Rattle.iri_grammar.specs.Classes.{Tests, IsSpec, reg_name_char, userinfo_char, pchar, path_char, query_char, fragment_char}
-use Rattle.iri_grammar.specs.Classes.{is_ascii_reg_name, is_ascii_userinfo, is_ascii_pchar, is_ascii_path, is_ascii_query}
-use Rattle.iri_grammar.specs.Classes.{is_ascii_unreserved, is_sub_delim}
-use Rattle.iri_grammar.specs.Components.{is_userinfo, is_path, is_path_segment, is_query, is_fragment}
-use Rattle.iri_grammar.specs.Cut.{lacks}
-use Rattle.iri_grammar.proofs.CutLaws.{both, by_test, all-lacks}
-use Rattle.iri_grammar.specs.Host.{is_host, is_reg_name}
 use Rattle.iri_grammar.specs.IpLiteral.{is_ip_literal}
 use Rattle.iri_grammar.proofs.LiteralChars.{is_literal_char, ip_literal-chars}
-use Rattle.iri_grammar.specs.Over.{over, text_over, IsOver, done, plain, triplet}
+use Rattle.iri_grammar.specs.Over.{done, plain, triplet}
 use Rattle.iri_grammar.proofs.OverLaws.{units-from_over}
-use Rattle.iri_percent.specs.Units.{two_digits, whole_triplets}
 use Rattle.iri_percent.proofs.Reading.{whole_plain, whole_triplet}
 use Rattle.iri_percent.proofs.Stability.{encode_percent, whole_plains}
 

@@ -1,10 +1,9 @@
 -- One command more.
-use Rattle.std.proofs.Common.{◌≡◌, ℕ, List, [], ◌∷◌, ◌++◌, Bool, true, false, not, ◌&&◌, cond, fold, bytes_eq, refl, sym, ◌∙◌, ap}
-use Rattle.std.proofs.Common.{append_assoc}
+use Rattle.iri_register.proofs.Common.{◌≡◌, ℕ, List, [], ◌∷◌, ◌++◌, true, false, bytes_eq, refl, sym, ◌∙◌, ap, added, removed}
+use Rattle.std.proofs.Common.{Bool, not, ◌&&◌, cond, fold, append_assoc}
 use Rattle.std.proofs.lemmas.List.{append-nil}
 use Rattle.std.proofs.Math.Bool.{and-true}
 use mathlib.Core.Bool.{and_assoc}
-use Rattle.iri_register.specs.Entries.{added, removed}
 use Rattle.iri_register.specs.Commands.{Command, Add, Remove, Line, stays, live, entries_of_lines, entries_of_commands, obeyed}
 use Rattle.iri_register.proofs.GroupLemmas.{without_lines, entries_grouped, grouped_after, grouped_without}
 

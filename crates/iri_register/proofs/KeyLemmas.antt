@@ -1,19 +1,16 @@
 -- The key of an entry that was taken out goes, and another one comes into its slot.
-use Rattle.std.proofs.Common.{bytes_eq, ◌≡◌, ℕ, zero, suc, ◌+◌, ◌-◌, ◌<◌, List, [], ◌∷◌, ◌++◌, length, map, filter, true, not, take}
-use Rattle.std.proofs.Common.{Bool, false, cond, Some, None, is_some, option_map, position, String, string_bytes, string_eq, nat_lt}
-use Rattle.std.proofs.Common.{Global, refl, sym, ◌∙◌, ap, arith, slice_set, ⊎_elim, lt-ltb}
-use Rattle.std.specs.Global.{Vec}
-use Rattle.std.specs.Prelude.{slice_index_or, OnOk, Result, Ok, Err}
+use Rattle.iri_register.proofs.Common.{bytes_eq, ◌≡◌, ℕ, zero, suc, ◌+◌, ◌-◌, ◌<◌, List, [], ◌∷◌, ◌++◌, length, map, filter, true, false}
+use Rattle.iri_register.proofs.Common.{Some, None, is_some, option_map, position, String, string_bytes, Global, refl, sym, ◌∙◌, ap, arith}
+use Rattle.iri_register.proofs.Common.{Vec, Ok, keys_of, lookup, IsDistinct, AllByRecursion, Entry, place, entry_of, entries_of, is_live}
+use Rattle.iri_register.proofs.Common.{is_text, IsAt, flag_at, IsKept}
+use Rattle.std.proofs.Common.{not, take, Bool, cond, string_eq, nat_lt, slice_set, ⊎_elim, lt-ltb}
+use Rattle.std.specs.Prelude.{slice_index_or, OnOk, Result, Err}
 use Rattle.std.proofs.lemmas.Bool.{cases_lt}
-use Rattle.std.specs.Map.{keys_of, lookup}
-use Rattle.std.specs.List.{IsDistinct, AllByRecursion, position_or_len, swap_remove}
+use Rattle.std.specs.List.{position_or_len, swap_remove}
 use Rattle.indexmap.specs.IndexMap.{insert_entry, swap_remove_entry}
-use Rattle.iri_register.specs.Entries.{Entry, place}
-use Rattle.iri_register.specs.Listed.{entry_of, entries_of, is_live}
-use Rattle.iri_register.specs.inside.Places.{is_text, IsAt}
-use Rattle.iri_register.specs.inside.Slots.{flag_at, IsKept}
 use Rattle.iri_register.proofs.MapLemmas.{less_none, none_is_some}
-use Rattle.iri_register.proofs.SlotLemmas.{at_within, apart_text, flag_false, flag_small, place_live, live_within, length_listed, insert_last}
+use Rattle.iri_register.proofs.SlotLemmas.{at_within, apart_text, flag_false, flag_small, place_live, live_within, length_listed}
+use Rattle.iri_register.proofs.SlotLemmas.{insert_last}
 
 -- a target that has no entry stands in a slot that was given up
 pub dead_at : (t : List ℕ) (es : List (String Global × Vec ℕ)) (i : ℕ) → IsAt t es i → place (entries_of es) t ≡ None → flag_at es i ≡ 0

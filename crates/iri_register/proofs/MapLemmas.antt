@@ -1,11 +1,8 @@
 -- What the map's words say of the entries that it holds.
-use Rattle.std.proofs.Common.{◌≡◌, ℕ, zero, suc, ◌+◌, ◌<◌, List, [], ◌∷◌, length, get_or, true}
-use Rattle.std.proofs.Common.{false, Option, Some, None, option_map, position, String}
-use Rattle.std.proofs.Common.{Global, refl, sym, arith}
-use Rattle.std.specs.Global.{Vec}
-use Rattle.std.specs.Map.{keys_of}
+use Rattle.iri_register.proofs.Common.{◌≡◌, ℕ, zero, suc, ◌+◌, ◌<◌, List, [], ◌∷◌, length, get_or, true, false, Some, None, option_map}
+use Rattle.iri_register.proofs.Common.{position, String, Global, refl, sym, arith, Vec, keys_of, is_text, IsAt}
+use Rattle.std.proofs.Common.{Option}
 use Rattle.std.proofs.lemmas.List.Quantifiers.{position-Some}
-use Rattle.iri_register.specs.inside.Places.{is_text, IsAt}
 
 at_from : (t : List ℕ) (es : List (String Global × Vec ℕ)) (i : ℕ) (d : String Global) → i < length (keys_of es)
     → is_text t (get_or (keys_of es) i d) ≡ true

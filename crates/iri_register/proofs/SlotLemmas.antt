@@ -1,19 +1,15 @@
 -- What the slots say of the entries that were not taken out.
-use Rattle.std.proofs.Common.{bytes_eq, ◌≡◌, ◌≢◌, ℕ, zero, suc, ◌+◌, ◌-◌, ◌<◌, ◌≤◌, List, [], ◌∷◌, ◌++◌, length, map, filter, get_or, slice_get, true}
-use Rattle.std.proofs.Common.{Bool, false, cond, true≢false, Some, None, is_some, option_map, String, string_bytes, string_eq}
-use Rattle.std.proofs.Common.{Global, refl, sym, ◌∙◌, ap, subst, arith}
-use Rattle.std.specs.Global.{Vec}
+use Rattle.iri_register.proofs.Common.{Vec, keys_of, lookup, IsDistinct, AllByRecursion, Entry, entry_at, place, added, removed, line_count}
+use Rattle.iri_register.proofs.Common.{entry_of, entries_of, has_lines, is_live, total, IsTree, is_text, IsAt, flag_at, IsKept}
+use Rattle.std.proofs.Common.{bytes_eq, ◌≡◌, ◌≢◌, ℕ, zero, suc, ◌+◌, ◌-◌, ◌<◌, ◌≤◌, List, [], ◌∷◌, ◌++◌, length, map, filter, get_or}
+use Rattle.std.proofs.Common.{slice_get, true, Bool, false, cond, true≢false, Some, None, is_some, option_map, String, string_bytes}
+use Rattle.std.proofs.Common.{string_eq, Global, refl, sym, ◌∙◌, ap, subst, arith, take, not}
 use Rattle.std.specs.Bool.{◌==◌}
 use Rattle.std.proofs.lemmas.Bool.{eqb-true, false_from_ne_true}
-use Rattle.std.proofs.Common.{take, not}
-use Rattle.std.specs.Map.{keys_of, values_of, lookup}
-use Rattle.std.specs.List.{IsDistinct, AllByRecursion}
+use Rattle.std.specs.Map.{values_of}
 use Rattle.indexmap.specs.IndexMap.{set_value_at, insert_entry}
-use Rattle.iri_register.specs.Entries.{Entry, with_line, entry_at, place, added, removed, line_count}
-use Rattle.iri_register.specs.Listed.{entry_of, entries_of, has_lines, is_live}
-use Rattle.iri_register.specs.inside.Counted.{total, IsTree}
-use Rattle.iri_register.specs.inside.Places.{is_text, IsAt}
-use Rattle.iri_register.specs.inside.Slots.{flag, flag_at, counted, IsKept}
+use Rattle.iri_register.specs.Entries.{with_line}
+use Rattle.iri_register.specs.inside.Slots.{flag, counted}
 use Rattle.iri_register.proofs.GroupLemmas.{is_same}
 use Rattle.iri_register.proofs.TreeLemmas.{level_total, by_same}
 use Rattle.iri_register.proofs.MapLemmas.{less_none, none_is_some, some_same}

@@ -1,36 +1,24 @@
 -- Changes of an authority keep it an authority, and its normal form.
-use Rattle.std.proofs.Common.{◌≡◌, ℕ, ◌-◌, ◌<◌, Bool, true, false, cond, not, ◌||◌, List, [], ◌∷◌, ◌++◌, Option, Some, None, refl, sym}
-use Rattle.std.proofs.Common.{◌∙◌, ap, arith, subst}
-use Rattle.std.specs.Prelude.{◌==◌, nat_lt, take}
-use Rattle.std.specs.Char.{is_ascii_hexdigit, is_ascii_uppercase, to_ascii_lowercase}
-use Rattle.std.proofs.lemmas.Bool.Decides.{nat_tests}
+use Rattle.iri_resolve.proofs.Common.{◌≡◌, ℕ, ◌-◌, true, false, cond, ◌||◌, List, [], ◌∷◌, ◌++◌, Option, Some, None, refl, sym, ◌∙◌, ap}
+use Rattle.iri_resolve.proofs.Common.{arith, subst, nat_lt, take, is_ascii_uppercase, to_ascii_lowercase, nat_tests, AuthorityParts}
+use Rattle.iri_resolve.proofs.Common.{FitsAuthority, authority_parts, recompose_authority, is_authority, reading_is, passes, if_there}
+use Rattle.iri_resolve.proofs.Common.{is_userinfo, is_host, whole_triplets, normal, as_it_is, pct, is_ascii_host, normal_host}
+use Rattle.iri_resolve.proofs.Common.{normal_authority_parts, normal_authority, normal_plain, read, octets_other, userinfo-whole}
+use Rattle.iri_resolve.proofs.Common.{host-whole, userinfo_percent, reads, with_small_host_letter, placed, in_part, host_start, in_host}
+use Rattle.iri_resolve.proofs.Common.{in_userinfo_or_host, without_empty_port, with_small_letter_in_host, leads, normal-seam, in_userinfo}
 use Rattle.std.proofs.Math.Bool.{or-true}
 use Rattle.std.proofs.lemmas.Bool.{not-false}
-use Rattle.iri_grammar.specs.Authority.{AuthorityParts, FitsAuthority, authority_parts, recompose_authority, is_authority}
-use Rattle.iri_grammar.proofs.AuthorityLaws.{reading_is, passes}
 use Rattle.iri_grammar.specs.Classes.{Tests, IsSpec, unreserved, userinfo_char, reg_name_char, is_ascii_unreserved}
-use Rattle.iri_grammar.specs.Components.{if_there, is_userinfo}
-use Rattle.iri_grammar.specs.Host.{is_host, is_reg_name}
+use Rattle.iri_grammar.specs.Host.{is_reg_name}
 use Rattle.iri_grammar.specs.IpLiteral.{is_ip_literal}
-use Rattle.iri_percent.specs.Units.{whole_triplets}
-use Rattle.iri_percent.specs.Triplets.{normal, as_it_is, pct}
-use Rattle.iri_percent.specs.NormalHost.{is_ascii_host, normal_host, normal_authority_parts, normal_authority}
-use Rattle.iri_percent.proofs.NormalLaws.{normal_plain}
-use Rattle.iri_percent.proofs.Reading.{read}
 use Rattle.iri_percent.proofs.Stability.{lower-case}
-use Rattle.iri_percent.proofs.UnitLaws.{octets_other}
-use Rattle.iri_percent.proofs.WholeLaws.{literal-lacks, userinfo-whole, host-whole, userinfo_percent, reg_name_percent}
-use Rattle.iri_percent.proofs.MapKinds.{authority-reads as reads}
+use Rattle.iri_percent.proofs.WholeLaws.{literal-lacks, reg_name_percent}
 use Rattle.iri_normal.proofs.HostLaws.{ascii-read}
 use Rattle.iri_normal.proofs.LiteralLaws.{literal-lower}
 use Rattle.iri_normal.specs.LowerCase.{lowered}
-use Rattle.iri_resolve.specs.Changes.{with_small_host_letter}
-use Rattle.iri_resolve.specs.Steps.{placed, in_part, host_start, in_host, in_userinfo_or_host, without_empty_port}
-use Rattle.iri_resolve.specs.Steps.{with_small_letter_in_host}
-use Rattle.iri_percent.proofs.SeamLaws.{leads, normal-seam}
 use Rattle.iri_resolve.proofs.ByteLaws.{ByteChange, small_host_letter, IsAsGood, byte_change-over, capital_low}
 use Rattle.iri_resolve.proofs.ChangeKeeps.{TripletChange}
-use Rattle.iri_percent.proofs.ClassLaws.{in_reg_name, in_userinfo, upper_unreserved}
+use Rattle.iri_percent.proofs.ClassLaws.{in_reg_name, upper_unreserved}
 
 -- ---- what changes of an authority keep
 pub record AuthorityChange (s : Tests) (a b : List ℕ) : Type 0 where

@@ -1,19 +1,15 @@
 -- Changes of one byte: what stays, and the class of the text.
-use Rattle.std.proofs.Common.{◌≡◌, ℕ, zero, suc, ◌<◌, Bool, true, false, cond, ◌&&◌, List, [], ◌∷◌, ◌++◌, Some, None, refl, sym, ◌∙◌, ap}
-use Rattle.std.proofs.Common.{arith, append-nil, length}
-use Rattle.std.specs.Prelude.{◌==◌, nat_lt, take, drop, slice_index, slice_set}
-use Rattle.std.specs.Char.{is_ascii_hexdigit, is_ascii_uppercase, to_ascii_lowercase, to_ascii_uppercase}
-use Rattle.std.specs.Str.{chars}
+use Rattle.iri_resolve.proofs.Common.{◌≡◌, ℕ, zero, suc, ◌<◌, Bool, true, false, cond, ◌&&◌, List, [], ◌∷◌, ◌++◌, Some, None, refl, sym}
+use Rattle.iri_resolve.proofs.Common.{◌∙◌, ap, arith, length, ◌==◌, nat_lt, take, drop, slice_index, slice_set, is_ascii_hexdigit}
+use Rattle.iri_resolve.proofs.Common.{is_ascii_uppercase, to_ascii_lowercase, to_ascii_uppercase, chars, nat_tests, both, text_over}
+use Rattle.iri_resolve.proofs.Common.{is_in_triplet, is_small_digit, with_small_letter, with_small_host_letter, with_capital_digit}
 use Rattle.std.proofs.lemmas.Str.{IsUtf8-append, chars-append}
-use Rattle.std.proofs.lemmas.Bool.Decides.{nat_tests}
 use Rattle.std.proofs.lemmas.Option.{cond_some}
-use Rattle.iri_grammar.proofs.AuthorityTexts.{text_over-utf8, delimited-utf8, one_byte-utf8}
-use Rattle.iri_grammar.proofs.CutLaws.{both}
-use Rattle.iri_grammar.specs.Over.{over_from, over, text_over}
+use Rattle.iri_grammar.proofs.AuthorityTexts.{text_over-utf8, delimited-utf8}
+use Rattle.iri_grammar.specs.Over.{over_from, over}
 use Rattle.iri_grammar.proofs.Units.{hex_is_ascii}
 use Rattle.iri_grammar.proofs.Delimiters.{text_after_delimiter, text_before_delimiter}
 use Rattle.iri_normal.proofs.TextLaws.{is_utf8-of, over-of, chars-ascii}
-use Rattle.iri_resolve.specs.Changes.{is_in_triplet, is_small_digit, with_small_letter, with_small_host_letter, with_capital_digit}
 
 -- ---- one byte
 -- u is t with the byte at i, which passes the test, changed by f

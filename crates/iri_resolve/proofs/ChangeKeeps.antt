@@ -1,24 +1,15 @@
 -- What a change of triplets keeps.
-use Rattle.std.proofs.Common.{◌≡◌, ℕ, zero, suc, ◌<◌, length, Bool, true, false, not, ◌&&◌, ◌||◌, List, [], ◌∷◌, ◌++◌, Option, Some, None, refl, sym, ◌∙◌, ap}
-use Rattle.std.proofs.Common.{arith, append-nil, length-append}
-use Rattle.std.specs.Prelude.{◌==◌, take}
-use Rattle.std.specs.Char.{encode_utf8}
-use Rattle.std.proofs.lemmas.Bool.Decides.{nat_tests}
-use Rattle.std.proofs.lemmas.Bool.{not-true}
+use Rattle.iri_resolve.proofs.Common.{◌≡◌, ℕ, ◌<◌, length, Bool, true, false, not, ◌&&◌, ◌||◌, List, [], ◌∷◌, ◌++◌, Option, Some, None}
+use Rattle.iri_resolve.proofs.Common.{refl, sym, ◌∙◌, ap, arith, length-append, ◌==◌, take, encode_utf8, nat_tests, not-true, Tests, IsSpec}
+use Rattle.iri_resolve.proofs.Common.{unreserved, both, text_over, path_rules, is_empty, starts_with_slash, starts_with_slashes}
+use Rattle.iri_resolve.proofs.Common.{whole_triplets, normal, encode_bytes, lacks-whole, is_small_digit, with_capital_digit, with_decoded}
+use Rattle.std.proofs.Common.{append-nil}
 use Rattle.std.proofs.lemmas.List.{length-take}
-use Rattle.iri_grammar.specs.Classes.{Tests, IsSpec, unreserved}
 use Rattle.iri_grammar.specs.Cut.{lacks}
 use Rattle.iri_grammar.proofs.CutBytes.{lacks-encodes}
-use Rattle.iri_grammar.proofs.CutLaws.{both, lacks-other, test_apart}
-use Rattle.iri_grammar.specs.Over.{text_over}
-use Rattle.iri_grammar.specs.Parts.{path_rules, is_empty, starts_with_slash, starts_with_slashes}
-use Rattle.iri_percent.specs.Units.{whole_triplets}
-use Rattle.iri_percent.specs.Triplets.{normal}
-use Rattle.iri_percent.proofs.UnitLaws.{encode_bytes}
-use Rattle.iri_percent.proofs.WholeLaws.{lacks-whole}
+use Rattle.iri_grammar.proofs.CutLaws.{lacks-other, test_apart}
 use Rattle.iri_normal.proofs.TripletPaths.{slash-delimits}
 use Rattle.iri_normal.proofs.OutputLaws.{lacks_there}
-use Rattle.iri_resolve.specs.Changes.{is_small_digit, with_capital_digit, with_decoded}
 use Rattle.iri_resolve.proofs.ByteLaws.{capital_digit}
 use Rattle.iri_resolve.proofs.ChangeLaws.{digit-normal, digit-over, decoding, decoded-normal, decoded-over, some_triplets}
 

@@ -1,30 +1,21 @@
 -- Changes of triplets keep the triplet normal form and the class of a text.
-use Rattle.std.proofs.Common.{◌≡◌, ℕ, zero, suc, ◌+◌, ◌*◌, ◌<◌, Bool, true, false, cond, not, ◌&&◌, List, [], ◌∷◌, ◌++◌, Option, Some}
-use Rattle.std.proofs.Common.{None, length, map, refl, sym, ◌∙◌, ap, subst, arith, append-nil, drop-drop, drop_at, take-append-drop}
-use Rattle.std.specs.Prelude.{◌==◌, take, drop}
-use Rattle.std.specs.Char.{is_ascii_hexdigit, to_ascii_uppercase, len_utf8, encode_utf8}
+use Rattle.iri_resolve.proofs.Common.{◌==◌, take, drop, is_ascii_hexdigit, to_ascii_uppercase, len_utf8, encode_utf8, length-encode}
+use Rattle.iri_resolve.proofs.Common.{nat_tests, not-true, Tests, IsSpec, unreserved, both, by_test, text_over, octets, whole_triplets}
+use Rattle.iri_resolve.proofs.Common.{normal, as_it_is, Spells, none, more, spelled, length-spelled, octets_other, encode_bytes, decoded}
+use Rattle.iri_resolve.proofs.Common.{normal_plain, normal_decoded, is_decoded, whole_plain, read, is_small_digit, with_capital_digit}
+use Rattle.iri_resolve.proofs.Common.{with_character, with_decoded, leads, normal-seam, whole-percent}
+use Rattle.std.proofs.Common.{◌≡◌, ℕ, zero, suc, ◌+◌, ◌*◌, Bool, true, false, cond, not, ◌&&◌, List, [], ◌∷◌, ◌++◌, Option, Some, None}
+use Rattle.std.proofs.Common.{length, map, refl, sym, ◌∙◌, ap, subst, arith, append-nil, drop-drop, drop_at, take-append-drop}
 use lib.Utf8.{scalar}
-use Rattle.std.proofs.lemmas.Str.{length-encode}
-use Rattle.std.proofs.lemmas.Bool.Decides.{nat_tests}
-use Rattle.std.proofs.lemmas.Bool.{not-true}
 use Rattle.std.proofs.lemmas.Str.Ascii.{uppercase-uppercase}
-use Rattle.iri_grammar.specs.Classes.{Tests, IsSpec, unreserved, is_ascii_unreserved}
-use Rattle.iri_grammar.proofs.CutLaws.{both, by_test}
-use Rattle.iri_grammar.specs.Over.{text_over}
-use Rattle.iri_percent.specs.Units.{octet, octets, first_char, two_digits, whole_triplets}
-use Rattle.iri_percent.specs.Triplets.{normal, as_it_is}
+use Rattle.iri_grammar.specs.Classes.{is_ascii_unreserved}
+use Rattle.iri_percent.specs.Units.{octet, first_char, two_digits}
 use Rattle.iri_percent.proofs.ClassLaws.{IsText, ended, letter, over-from_text}
-use Rattle.iri_percent.proofs.UnitLaws.{Spells, none, more, spelled, length-spelled, hex_apart, octets_other, octets_triplet}
-use Rattle.iri_percent.proofs.UnitLaws.{octets_spelled, encode_bytes}
-use Rattle.iri_percent.specs.NormalLaws.{decoded}
-use Rattle.iri_percent.proofs.NormalLaws.{normal_plain, normal_plains, normal_lone, normal_char, normal_decoded}
-use Rattle.iri_percent.proofs.CaseLaws.{is_decoded}
-use Rattle.iri_percent.proofs.Reading.{Reading, done, plain, char, lone, whole_plain, read}
-use Rattle.iri_percent.proofs.Stability.{as_it_is-case, upper_hex, upper_octet, encode_percent, unreserved_percent}
-use Rattle.iri_percent.proofs.Stability.{decoded_octets}
+use Rattle.iri_percent.proofs.UnitLaws.{hex_apart, octets_triplet, octets_spelled}
+use Rattle.iri_percent.proofs.NormalLaws.{normal_plains, normal_lone, normal_char}
+use Rattle.iri_percent.proofs.Reading.{Reading, done, plain, char, lone}
+use Rattle.iri_percent.proofs.Stability.{as_it_is-case, upper_hex, upper_octet, encode_percent, unreserved_percent, decoded_octets}
 use Rattle.iri_grammar.proofs.UnitRuns.{text_over-append}
-use Rattle.iri_resolve.specs.Changes.{is_small_digit, with_capital_digit, with_character, with_decoded}
-use Rattle.iri_percent.proofs.SeamLaws.{leads, normal-seam, whole-percent}
 use Rattle.iri_resolve.proofs.ByteLaws.{capital_digit, IsAsGood, byte_change-over, text_over-after, digit_low}
 use Rattle.iri_normal.proofs.TripletDots.{map_same}
 use Rattle.iri_normal.proofs.TextLaws.{text_over-sides}

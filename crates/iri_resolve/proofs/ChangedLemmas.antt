@@ -1,39 +1,27 @@
 -- A step changes something, and a decoded place is a character.
-use Rattle.std.proofs.Common.{◌≡◌, ◌≢◌, ℕ, ◌-◌, Bool, true, false, cond, List, [], ◌∷◌, ◌++◌, Option, Some, None, length, refl, sym, ◌∙◌}
-use Rattle.std.proofs.Common.{ap, arith, append_assoc, length-append, length-take-le}
-use Rattle.std.specs.Prelude.{◌&&◌, is_some, nat_lt, take}
-use Rattle.std.specs.Char.{is_ascii_uppercase, to_ascii_lowercase, to_ascii_uppercase, encode_utf8}
-use Rattle.std.specs.Str.{bytes_eq}
-use Rattle.std.proofs.lemmas.Bool.Decides.{nat_tests}
+use Rattle.iri_resolve.proofs.Common.{◌≡◌, ℕ, ◌-◌, Bool, true, false, cond, List, [], ◌∷◌, ◌++◌, Option, Some, None, length, refl, sym, ◌∙◌}
+use Rattle.iri_resolve.proofs.Common.{ap, arith, append_assoc, length-append, ◌&&◌, is_some, nat_lt, take, is_ascii_uppercase}
+use Rattle.iri_resolve.proofs.Common.{to_ascii_lowercase, to_ascii_uppercase, encode_utf8, bytes_eq, nat_tests, bytes_eq-Decides}
+use Rattle.iri_resolve.proofs.Common.{AuthorityParts, authority_parts, recompose_authority, userinfo_text, authority_recomposed, Tests}
+use Rattle.iri_resolve.proofs.Common.{Parts, is_empty, whole_plain, read, leads, whole-percent, length-spelled, octets, whole_triplets}
+use Rattle.iri_resolve.proofs.Common.{is_dropped, dropped_port, CanonMode, is_small_digit, with_small_letter, with_small_host_letter}
+use Rattle.iri_resolve.proofs.Common.{with_capital_digit, with_decoded, dots, guard, placed, in_part, host_start, in_host}
+use Rattle.iri_resolve.proofs.Common.{in_userinfo_or_host, without_dropped_port, without_empty_port, with_small_letter_in_host}
+use Rattle.iri_resolve.proofs.Common.{with_dots_removed, with_slash, at_place, step_in, Part, Authority, Path, Query, Fragment, Step}
+use Rattle.iri_resolve.proofs.Common.{SchemeLetter, HostLetter, HexDigit, Decode, EmptyPort, Dots, DefaultPort, SlashPath}
+use Rattle.std.proofs.Common.{◌≢◌, length-take-le}
 use Rattle.std.proofs.lemmas.List.{append_cancel_left, append_cancel_right}
-use Rattle.std.proofs.lemmas.Slice.Eq.{bytes_eq-Decides}
-use Rattle.iri_grammar.specs.Authority.{AuthorityParts, authority_parts, recompose_authority, userinfo_text}
-use Rattle.iri_grammar.proofs.AuthorityLaws.{authority_recomposed}
-use Rattle.iri_grammar.specs.Classes.{Tests}
 use Rattle.iri_grammar.specs.Cut.{delimited}
-use Rattle.iri_grammar.specs.Parts.{Parts, is_empty}
-use Rattle.iri_percent.proofs.Reading.{Reading, done, plain, char, lone, whole_plain, whole_triplet, whole_after, read}
-use Rattle.iri_percent.proofs.SeamLaws.{leads, lone-seam, whole-percent}
-use Rattle.iri_percent.proofs.UnitLaws.{length-spelled, units_plain, units_lone, units_char}
+use Rattle.iri_percent.proofs.Reading.{Reading, done, plain, char, lone, whole_triplet, whole_after}
+use Rattle.iri_percent.proofs.SeamLaws.{lone-seam}
+use Rattle.iri_percent.proofs.UnitLaws.{units_plain, units_lone, units_char}
 use Rattle.iri_percent.proofs.UnitTexts.{units-text}
 use Rattle.iri_percent.proofs.CharUnits.{char_placed}
-use Rattle.iri_percent.specs.Units.{Plain, Char, Lone, octets, units, whole_triplets}
-use Rattle.iri_percent.specs.NormalHost.{is_dropped}
-use Rattle.iri_percent.specs.SchemeRules.{dropped_port}
-use Rattle.iri_percent.specs.declared.canon_mode.CanonMode.{CanonMode}
+use Rattle.iri_percent.specs.Units.{Plain, Char, Lone, units}
 use Rattle.iri_resolve.proofs.ByteLaws.{ByteChange, small_letter, small_host_letter, capital_digit}
 use Rattle.iri_resolve.proofs.ChangeLaws.{decoding, some_triplets, spelled-leads}
-use Rattle.iri_resolve.specs.Changes.{is_small_digit, with_small_letter, with_small_host_letter, with_capital_digit, with_decoded}
 use Rattle.iri_resolve.specs.DecodedPlace.{IsCharacterAt}
-use Rattle.iri_normal.specs.DotRemoval.{dots}
-use Rattle.iri_normal.specs.Guard.{guard}
 use Rattle.iri_resolve.proofs.ChangeKeeps.{decode-inside}
-use Rattle.iri_resolve.specs.Steps.{placed, in_part, host_start, in_host, in_userinfo_or_host, without_dropped_port, without_empty_port}
-use Rattle.iri_resolve.specs.Steps.{with_small_letter_in_host, with_dots_removed, with_slash, at_place, step_in}
-use Rattle.iri_resolve.specs.declared.step.Part.{Part}
-use Rattle.iri_resolve.specs.declared.step.Part.TheVariants.{Authority, Path, Query, Fragment}
-use Rattle.iri_resolve.specs.declared.step.Step.{Step}
-use Rattle.iri_resolve.specs.declared.step.Step.TheVariants.{SchemeLetter, HostLetter, HexDigit, Decode, EmptyPort, Dots, DefaultPort, SlashPath}
 use Rattle.iri_resolve.proofs.AuthoritySteps.{placed-gives, part-gives, in_host-is}
 
 -- ---- a text

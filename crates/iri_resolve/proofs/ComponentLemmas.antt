@@ -1,41 +1,30 @@
 -- The steps of a text lead to its normal form, wherever it stands.
-use Rattle.std.proofs.Common.{◌≡◌, ℕ, zero, suc, ◌+◌, ◌-◌, ◌*◌, ◌<◌, ◌≤◌, Bool, true, false, ◌&&◌, List, [], ◌∷◌, ◌++◌, Option, Some, None}
-use Rattle.std.proofs.Common.{length, refl, sym, ◌∙◌, ap, subst, arith, cond, append_assoc, length-append, length-drop}
-use Rattle.iri_text.specs.Shown.{AreSinkLaws, Shows}
+use Rattle.iri_resolve.proofs.Common.{◌≡◌, ℕ, zero, suc, ◌+◌, ◌-◌, ◌*◌, ◌<◌, ◌≤◌, Bool, true, false, ◌&&◌, List, [], ◌∷◌, ◌++◌, Option}
+use Rattle.iri_resolve.proofs.Common.{Some, None, length, refl, sym, ◌∙◌, ap, subst, arith, cond, append_assoc, length-append, Shows, ◌==◌}
+use Rattle.iri_resolve.proofs.Common.{drop, slice_index, is_ascii_hexdigit, is_ascii_uppercase, to_ascii_lowercase, to_ascii_uppercase}
+use Rattle.iri_resolve.proofs.Common.{encode_utf8, len_utf8, nat_tests, length-encode, Tests, IsSpec, Parts, by_test, decoded, normal_nil}
+use Rattle.iri_resolve.proofs.Common.{normal_plain, is_decoded, other_same, whole_plain, lacks-whole, normal, octets, whole_triplets}
+use Rattle.iri_resolve.proofs.Common.{CanonMode, is_small_digit, with_capital_digit, with_decoded, with_small_host_letter}
+use Rattle.iri_resolve.proofs.Common.{with_small_letter, component_steps, letter_steps, step_in, Part, Step, HostLetter, HexDigit, Decode}
+use Rattle.std.proofs.Common.{length-drop, Result, Ok, Err, IsErr}
+use Rattle.iri_text.specs.Shown.{AreSinkLaws}
 use Rattle.iri_text.specs.declared.shown.show.Stop.{Stop}
-use Rattle.std.proofs.Common.{Result, Ok, Err, IsErr}
-use Rattle.std.specs.Prelude.{◌==◌, drop, slice_index}
-use Rattle.std.specs.Char.{is_ascii_hexdigit, is_ascii_uppercase, to_ascii_lowercase, to_ascii_uppercase, encode_utf8, len_utf8}
 use Rattle.std.proofs.Math.Seq.{get_or-append_seam, set-append_seam, take-append_seam}
-use Rattle.std.proofs.lemmas.Bool.Decides.{nat_tests}
-use Rattle.std.proofs.lemmas.Str.{encode_ascii, length-encode}
+use Rattle.std.proofs.lemmas.Str.{encode_ascii}
 use Rattle.std.proofs.lemmas.List.{length-map}
-use Rattle.iri_grammar.specs.Classes.{Tests, IsSpec}
-use Rattle.iri_grammar.specs.Parts.{Parts}
-use Rattle.iri_grammar.proofs.CutLaws.{by_test}
-use Rattle.iri_percent.specs.NormalLaws.{decoded}
-use Rattle.iri_percent.proofs.NormalLaws.{normal_nil, normal_plain, normal_kept}
+use Rattle.iri_percent.proofs.NormalLaws.{normal_kept}
 use Rattle.iri_percent.specs.inside.Pieces.{case_of}
-use Rattle.iri_percent.proofs.CaseLaws.{encode_case, is_decoded}
+use Rattle.iri_percent.proofs.CaseLaws.{encode_case}
 use Rattle.iri_percent.proofs.Changes.{case_is, decodes}
-use Rattle.iri_percent.proofs.ClassLaws.{other_same}
-use Rattle.iri_percent.proofs.Reading.{whole_plain, whole_triplet, percent_follows}
+use Rattle.iri_percent.proofs.Reading.{whole_triplet, percent_follows}
 use Rattle.iri_percent.proofs.Stability.{upper_hex, encode_percent, unreserved_percent}
-use Rattle.iri_percent.proofs.WholeLaws.{lacks-whole, whole-append}
-use Rattle.iri_percent.specs.Triplets.{normal}
-use Rattle.iri_percent.specs.Units.{octets, whole_triplets}
-use Rattle.iri_percent.specs.declared.canon_mode.CanonMode.{CanonMode}
-use Rattle.iri_resolve.specs.Changes.{is_small_digit, with_capital_digit, with_decoded, with_small_host_letter, with_small_letter}
-use Rattle.iri_resolve.specs.NormalSteps.{Prefix, byte_prefix, component_steps, digit_steps, letter_steps, prefix_of, triplet_prefix}
-use Rattle.iri_resolve.specs.Steps.{step_in}
+use Rattle.iri_percent.proofs.WholeLaws.{whole-append}
+use Rattle.iri_resolve.specs.NormalSteps.{Prefix, byte_prefix, digit_steps, prefix_of, triplet_prefix}
 use Rattle.iri_resolve.proofs.ChangeKeeps.{capital-keeps, decoding-keeps}
 use Rattle.iri_resolve.proofs.Going.{Going, all_gone, going_on, gone_wrong}
-use Rattle.iri_resolve.proofs.Leads.{Led, led-nothing, led-step, led-on, not-whole, whole_nil, whole_percent}
-use Rattle.iri_resolve.proofs.Leads.{capital-at, capital_same, decoded-at}
+use Rattle.iri_resolve.proofs.Leads.{Led, led-nothing, led-step, led-on, not-whole, whole_nil, whole_percent, capital-at, capital_same}
+use Rattle.iri_resolve.proofs.Leads.{decoded-at}
 use Rattle.iri_resolve.proofs.Places.{IsPlace}
-use Rattle.iri_resolve.specs.declared.step.Part.{Part}
-use Rattle.iri_resolve.specs.declared.step.Step.{Step}
-use Rattle.iri_resolve.specs.declared.step.Step.TheVariants.{HostLetter, HexDigit, Decode}
 use Rattle.iri_resolve.proofs.ByteLaws.{capital_low}
 
 -- ---- letters

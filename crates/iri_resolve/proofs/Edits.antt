@@ -1,21 +1,14 @@
 -- A text with one byte changed, or triplets that are decoded.
-use Rattle.std.proofs.Common.{◌≡◌, ℕ, zero, suc, ◌+◌, ◌*◌, ◌<◌, Bool, true, false, cond, ◌&&◌, List, [], ◌∷◌, ◌++◌, Option, Some, None}
-use Rattle.std.proofs.Common.{length, refl, sym, ◌-◌, ◌≤◌, ◌∙◌, ap, subst, arith, drop_of_length-le, take-append-drop, length-take-le}
-use Rattle.std.proofs.Common.{length-append, get_or-append-add}
-use Rattle.std.specs.Prelude.{nat_lt, take, drop, slice_index, slice_set}
-use Rattle.std.specs.Char.{is_ascii_uppercase, to_ascii_lowercase, to_ascii_uppercase, encode_utf8, len_utf8}
-use Rattle.std.specs.Str.{chars}
-use Rattle.std.proofs.lemmas.Bool.Decides.{nat_tests}
-use Rattle.iri_grammar.specs.Classes.{Tests}
-use Rattle.iri_percent.specs.Units.{octets, first_char}
-use Rattle.iri_percent.specs.NormalLaws.{decoded}
-use Rattle.iri_percent.proofs.UnitLaws.{Spells, none, more, spelled, length-spelled}
-use Rattle.iri_percent.proofs.CaseLaws.{is_decoded}
-use Rattle.std.specs.Str.{IsUtf8}
-use Rattle.std.proofs.lemmas.Str.{length-encode, lead_after_ascii, IsUtf8-append}
+use Rattle.iri_resolve.proofs.Common.{◌≡◌, ℕ, zero, suc, ◌+◌, ◌*◌, ◌<◌, Bool, true, false, cond, ◌&&◌, List, [], ◌∷◌, ◌++◌, Option, Some}
+use Rattle.iri_resolve.proofs.Common.{None, length, refl, sym, ◌-◌, ◌≤◌, ◌∙◌, ap, subst, arith, length-append, take, drop, slice_index}
+use Rattle.iri_resolve.proofs.Common.{slice_set, is_ascii_uppercase, to_ascii_lowercase, to_ascii_uppercase, encode_utf8, len_utf8, chars}
+use Rattle.iri_resolve.proofs.Common.{Tests, octets, decoded, Spells, none, more, spelled, length-spelled, is_decoded, IsUtf8}
+use Rattle.iri_resolve.proofs.Common.{length-encode, is_in_triplet, is_small_digit, with_small_letter, with_small_host_letter}
+use Rattle.iri_resolve.proofs.Common.{with_capital_digit, with_character, with_decoded}
+use Rattle.std.proofs.Common.{drop_of_length-le, take-append-drop, length-take-le, get_or-append-add}
+use Rattle.iri_percent.specs.Units.{first_char}
+use Rattle.std.proofs.lemmas.Str.{lead_after_ascii, IsUtf8-append}
 use Rattle.iri_resolve.proofs.ChangeLaws.{some_triplets}
-use Rattle.iri_resolve.specs.Changes.{is_in_triplet, is_small_digit, with_small_letter, with_small_host_letter, with_capital_digit}
-use Rattle.iri_resolve.specs.Changes.{with_character, with_decoded}
 use Rattle.iri_resolve.proofs.ByteLaws.{cut_at}
 use Rattle.iri_grammar.proofs.Units.{hex_is_ascii as digit_below}
 use Rattle.iri_grammar.proofs.AuthorityTexts.{delimited-utf8}

@@ -1,27 +1,19 @@
 -- A path in triplet normal form loses dot segments exactly where the path does.
-use Rattle.std.proofs.Common.{◌≡◌, ℕ, Bool, true, false, cond, not, ◌&&◌, ◌||◌, List, [], ◌∷◌, ◌++◌, Some, None, map, refl, sym, ◌∙◌, ap}
-use Rattle.std.proofs.Common.{subst, eqb-true}
-use Rattle.std.specs.Prelude.{◌==◌}
-use Rattle.std.specs.Str.{bytes_eq}
-use Rattle.std.proofs.lemmas.Slice.Eq.{bytes_eq-Decides}
-use Rattle.std.proofs.lemmas.Bool.{not-true, false_from_ne_true}
+use Rattle.iri_resolve.proofs.Common.{◌≡◌, ℕ, Bool, true, false, cond, not, ◌&&◌, ◌||◌, List, [], ◌∷◌, ◌++◌, Some, None, refl, sym, ◌∙◌, ap}
+use Rattle.iri_resolve.proofs.Common.{subst, eqb-true, ◌==◌, bytes_eq, bytes_eq-Decides, not-true, Tests, IsSpec, by_test, both, is_empty}
+use Rattle.iri_resolve.proofs.Common.{starts_with_slash, starts_with_slashes, normal_decoded, normal_nil, normal_plain, as_it_is, pct}
+use Rattle.iri_resolve.proofs.Common.{Spells, none, more, whole_triplets, is_two_dots, dots, guard, loses_dots}
+use Rattle.std.proofs.Common.{map}
+use Rattle.std.proofs.lemmas.Bool.{false_from_ne_true}
 use Rattle.std.proofs.Math.Bool.{not-not}
-use Rattle.iri_grammar.specs.Classes.{Tests, IsSpec}
 use Rattle.iri_grammar.specs.Cut.{before, after}
-use Rattle.iri_grammar.proofs.CutLaws.{by_test, both}
-use Rattle.iri_grammar.specs.Parts.{is_empty, starts_with_slash, starts_with_slashes}
 use Rattle.iri_grammar.specs.Pieces.{pieces, onto}
 use Rattle.iri_grammar.specs.inside.PiecesLaws.{more_pieces}
 use Rattle.iri_grammar.proofs.PiecesLaws.{pieces_cut}
 use Rattle.iri_percent.proofs.DelimiterLaws.{pct_delimiter, slash}
-use Rattle.iri_percent.proofs.NormalLaws.{normal_decoded, normal_nil, normal_plain}
-use Rattle.iri_percent.specs.Triplets.{as_it_is, pct}
-use Rattle.iri_percent.proofs.UnitLaws.{Spells, none, more}
-use Rattle.iri_percent.specs.Units.{whole_triplets}
-use Rattle.iri_normal.specs.DotRemoval.{is_all, is_one_dot, is_two_dots, dots}
+use Rattle.iri_normal.specs.DotRemoval.{is_all, is_one_dot}
 use Rattle.iri_normal.specs.Dots.{any_dot_segment, has_dot_segment, is_dot_segment}
-use Rattle.iri_normal.specs.Guard.{guard}
-use Rattle.iri_resolve.specs.inside.GuardAlone.{is_after_slash, is_guard_alone, loses_dots}
+use Rattle.iri_resolve.specs.inside.GuardAlone.{is_after_slash, is_guard_alone}
 use Rattle.iri_normal.proofs.PieceLaws.{pieces-some, pieces-slash, dot-is_one, dot_segment-lacks, nothing-is_no_dot}
 use Rattle.iri_normal.proofs.StableLaws.{dot_before, no_dots_left, no_dots-same, slashed, unsplit, unsplit-pieces}
 use Rattle.iri_normal.proofs.TripletDots.{dot_segment-pct, empty-pct, encode_point, point_scalar, point_unreserved, two_dots-pct}

@@ -1,17 +1,12 @@
 -- Two targets are led to one exactly where their texts in normal form are the same.
-use Rattle.std.proofs.Common.{◌≡◌, Bool, true, false, List, Some, sym, ◌∙◌, ap}
-use Rattle.std.specs.Str.{bytes_eq}
-use Rattle.std.proofs.lemmas.Slice.Eq.{bytes_eq-Decides}
-use Rattle.iri_grammar.specs.Classes.{Tests, IsSpec}
-use Rattle.iri_grammar.specs.Parts.{Parts, recompose}
-use Rattle.iri_percent.specs.declared.canon_mode.CanonMode.{CanonMode}
+use Rattle.iri_resolve.proofs.Common.{◌≡◌, Bool, true, false, List, Some, sym, ◌∙◌, ap, bytes_eq, bytes_eq-Decides, Tests, IsSpec, Parts}
+use Rattle.iri_resolve.proofs.Common.{recompose, CanonMode, form, replayed_in, Step}
 use Rattle.iri_resolve.proofs.SchemeSteps.{joined_in-exactly, texts_in-exactly}
 use Rattle.iri_normal.proofs.SchemeForm.{form-is}
-use Rattle.iri_normal.specs.NormalForm.{form, normal_form_in}
+use Rattle.iri_normal.specs.NormalForm.{normal_form_in}
 use Rattle.iri_normal.specs.Modes.{mode_of}
-use Rattle.iri_resolve.specs.Steps.{replayed_in, AreApartIn, LeadToOneIn, LeadToNormalIn}
+use Rattle.iri_resolve.specs.Steps.{AreApartIn, LeadToOneIn, LeadToNormalIn}
 use Rattle.iri_resolve.proofs.StepsKept.{Valid}
-use Rattle.iri_resolve.specs.declared.step.Step.{Step}
 
 -- the texts of two normal forms are those of two forms
 told : (s : Tests) (c : CanonMode) (t u : Parts) (b : Bool) → bytes_eq (recompose (form s (mode_of c) false t)) (recompose (form s (mode_of c) false u)) ≡ b

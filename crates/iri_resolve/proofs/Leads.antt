@@ -1,20 +1,10 @@
 -- Steps one after the other, and changes in the middle of a text.
-use Rattle.std.proofs.Common.{◌≡◌, ℕ, ◌+◌, ◌*◌, Bool, true, false, cond, ◌&&◌, List, [], ◌∷◌, ◌++◌, Option, Some}
-use Rattle.std.proofs.Common.{None, length, refl, sym, ◌∙◌, ap, arith}
-use Rattle.std.specs.Prelude.{◌==◌, drop}
-use Rattle.std.specs.Char.{is_ascii_hexdigit, to_ascii_uppercase, len_utf8, encode_utf8}
-use Rattle.std.proofs.Math.Seq.{take-append_seam, drop-append_seam, drop-append-add, get_or-append_seam, set-append_seam}
-use Rattle.std.proofs.lemmas.Bool.Decides.{nat_tests}
-use Rattle.iri_grammar.specs.Classes.{Tests}
-use Rattle.iri_grammar.proofs.CutLaws.{both}
-use Rattle.iri_grammar.specs.Parts.{Parts}
-use Rattle.iri_percent.specs.Units.{octets, two_digits, whole_triplets}
-use Rattle.iri_percent.specs.NormalLaws.{decoded}
+use Rattle.iri_resolve.proofs.Common.{◌≡◌, ℕ, ◌+◌, ◌*◌, Bool, true, false, List, [], ◌∷◌, ◌++◌, Option, Some, None, length, refl, sym, ◌∙◌}
+use Rattle.iri_resolve.proofs.Common.{ap, arith, drop, is_ascii_hexdigit, to_ascii_uppercase, len_utf8, encode_utf8, get_or-append_seam}
+use Rattle.iri_resolve.proofs.Common.{set-append_seam, nat_tests, Tests, Parts, octets, whole_triplets, decoded, CanonMode, is_small_digit}
+use Rattle.iri_resolve.proofs.Common.{with_capital_digit, with_character, with_decoded, step_in, onward, replayed_in, Step}
+use Rattle.std.proofs.Math.Seq.{take-append_seam, drop-append_seam, drop-append-add}
 use Rattle.iri_percent.proofs.SeamLaws.{whole-after}
-use Rattle.iri_percent.specs.declared.canon_mode.CanonMode.{CanonMode}
-use Rattle.iri_resolve.specs.Changes.{is_small_digit, with_capital_digit, with_character, with_decoded}
-use Rattle.iri_resolve.specs.Steps.{step_in, onward, replayed_in}
-use Rattle.iri_resolve.specs.declared.step.Step.{Step}
 
 -- ---- steps one after the other
 pub replayed_in-append : (s : Tests) (c : CanonMode) (t u : Parts) (l m : List Step) → replayed_in s c t l ≡ Some u

@@ -1,3 +1,4 @@
+mod Common
 pub mod Edits
 pub mod Going
 pub mod Replayed

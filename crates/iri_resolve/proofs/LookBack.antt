@@ -1,11 +1,8 @@
 -- Where a byte of a text stands among its triplets, told by the bytes before it.
-use Rattle.std.proofs.Common.{◌≡◌, ℕ, zero, suc, ◌-◌, ◌≤◌, true, false, cond, not, ◌&&◌, ◌||◌, List, [], ◌∷◌, length, refl, ◌∙◌, ap}
-use Rattle.std.proofs.Common.{arith}
-use Rattle.std.specs.Prelude.{◌==◌, take, slice_index}
+use Rattle.iri_resolve.proofs.Common.{◌≡◌, ℕ, zero, suc, ◌-◌, ◌≤◌, true, false, cond, not, ◌&&◌, ◌||◌, List, [], ◌∷◌, length, refl, ◌∙◌, ap}
+use Rattle.iri_resolve.proofs.Common.{arith, ◌==◌, take, slice_index, both, whole_triplets, is_in_triplet}
 use Rattle.std.proofs.lemmas.Bool.{le-leb}
-use Rattle.iri_grammar.proofs.CutLaws.{both}
-use Rattle.iri_percent.specs.Units.{two_digits, whole_triplets}
-use Rattle.iri_resolve.specs.Changes.{is_in_triplet}
+use Rattle.iri_percent.specs.Units.{two_digits}
 use Rattle.iri_resolve.specs.inside.LookBack.{percent_before}
 
 step_back : (n i x : ℕ) (xs : List ℕ) → n ≤ i → (slice_index (x ∷ xs) (suc i - n) == 37) ≡ (slice_index xs (i - n) == 37)

@@ -1,43 +1,27 @@
 -- The steps of each part lead to its normal form.
-use Rattle.std.proofs.Common.{◌≡◌, ℕ, ◌+◌, ◌<◌, ◌≤◌, Bool, true, false, cond, ◌||◌, List, [], ◌∷◌, ◌++◌, Option, Some, None, length, refl}
-use Rattle.std.proofs.Common.{sym, ◌∙◌, ap, subst, arith, append_assoc, append-nil, drop_of_length-le, length-append, drop-cons}
-use Rattle.std.specs.Prelude.{not, is_some, drop, slice_index}
-use Rattle.std.specs.Char.{is_ascii_uppercase, to_ascii_lowercase}
-use Rattle.std.specs.Str.{bytes_eq}
-use Rattle.std.proofs.Math.Seq.{get_or-append_seam, set-append_seam}
+use Rattle.iri_resolve.proofs.Common.{◌≡◌, ℕ, ◌+◌, ◌<◌, ◌≤◌, Bool, true, false, cond, ◌||◌, List, [], ◌∷◌, ◌++◌, Option, Some, None, length}
+use Rattle.iri_resolve.proofs.Common.{refl, sym, ◌∙◌, ap, subst, arith, append_assoc, length-append, not, is_some, drop, slice_index}
+use Rattle.iri_resolve.proofs.Common.{is_ascii_uppercase, to_ascii_lowercase, bytes_eq, get_or-append_seam, set-append_seam}
+use Rattle.iri_resolve.proofs.Common.{bytes_eq-Decides, AuthorityParts, FitsAuthority, authority_parts, is_authority, recompose_authority}
+use Rattle.iri_resolve.proofs.Common.{userinfo_text, authority_recomposed, reading_is, Tests, IsSpec, if_there, is_userinfo, is_path}
+use Rattle.iri_resolve.proofs.Common.{is_query, is_fragment, is_host, Parts, Fits, starts_with_slashes, is_ascii_host, normal_authority}
+use Rattle.iri_resolve.proofs.Common.{normal_authority_parts, normal_host, normal_port, normal_userinfo, normal, pct, CanonMode, reads}
+use Rattle.iri_resolve.proofs.Common.{userinfo-whole, host-whole, path-whole, query-whole, fragment-whole, other_same, dots, guard}
+use Rattle.iri_resolve.proofs.Common.{normal_path, normal_form, form, with_small_letter, component_steps, scheme_steps, host_start, placed}
+use Rattle.iri_resolve.proofs.Common.{replayed_in, step_in, dots_steps, loses_dots, Authority, Path, Query, Fragment, SchemeLetter, Dots}
+use Rattle.std.proofs.Common.{drop_of_length-le, drop-cons}
 use Rattle.std.proofs.Math.Numerals.{add-one}
-use Rattle.std.proofs.lemmas.Slice.Eq.{bytes_eq-Decides}
-use Rattle.iri_grammar.specs.Authority.{AuthorityParts, FitsAuthority, authority_parts, is_authority, recompose_authority, userinfo_text}
-use Rattle.iri_grammar.proofs.AuthorityLaws.{authority_recomposed, reading_is}
-use Rattle.iri_grammar.specs.Classes.{Tests, IsSpec}
-use Rattle.iri_grammar.specs.Components.{if_there, is_userinfo, is_path, is_query, is_fragment}
-use Rattle.iri_grammar.specs.Host.{is_host}
-use Rattle.iri_grammar.specs.Parts.{Parts, Fits, starts_with_slashes}
-use Rattle.iri_percent.specs.NormalHost.{is_ascii_host, normal_authority, normal_authority_parts, normal_host, normal_port, normal_userinfo}
-use Rattle.iri_percent.specs.Triplets.{normal, pct}
-use Rattle.iri_percent.specs.declared.canon_mode.CanonMode.{CanonMode}
-use Rattle.iri_percent.proofs.MapKinds.{authority-reads as reads}
-use Rattle.iri_percent.proofs.WholeLaws.{userinfo-whole, host-whole, path-whole, query-whole, fragment-whole}
-use Rattle.iri_percent.proofs.ClassLaws.{other_same}
-use Rattle.iri_normal.specs.DotRemoval.{dots}
-use Rattle.iri_normal.specs.Guard.{guard}
 use Rattle.iri_normal.specs.LowerCase.{lowered, where_there}
-use Rattle.iri_normal.specs.NormalForm.{normal_path, normal_form, form}
 use Rattle.iri_normal.proofs.AuthorityForm.{userinfo-fits, host-fits}
 use Rattle.iri_normal.proofs.PathLaws.{stands-still}
 use Rattle.iri_normal.proofs.TripletPaths.{dots-pct}
-use Rattle.iri_resolve.specs.Changes.{with_small_letter}
-use Rattle.iri_resolve.specs.NormalSteps.{authority_parts_steps, authority_steps, component_steps, host_steps, path_steps, plain_steps, port_steps}
-use Rattle.iri_resolve.specs.NormalSteps.{scheme_letter_steps, scheme_steps, steps_there, triplet_steps}
-use Rattle.iri_resolve.specs.Steps.{host_start, placed, replayed_in, step_in}
+use Rattle.iri_resolve.specs.NormalSteps.{authority_parts_steps, authority_steps, host_steps, path_steps, plain_steps, port_steps}
+use Rattle.iri_resolve.specs.NormalSteps.{scheme_letter_steps, steps_there, triplet_steps}
 use Rattle.iri_resolve.proofs.ComponentLemmas.{component-led}
-use Rattle.iri_resolve.specs.inside.GuardAlone.{dots_steps, loses_dots}
 use Rattle.iri_resolve.proofs.GuardLemmas.{dots-lost}
 use Rattle.iri_resolve.proofs.Leads.{Led, led-nothing, led-on, led-step, replayed_in-append}
-use Rattle.iri_resolve.proofs.Places.{ascii-place, fragment-place, host-place, is_host_in_ascii, path-place, query-place, userinfo-place, with_authority}
-use Rattle.iri_resolve.specs.declared.step.Part.TheVariants.{Authority, Path, Query, Fragment}
-use Rattle.iri_resolve.specs.declared.step.Step.{Step}
-use Rattle.iri_resolve.specs.declared.step.Step.TheVariants.{SchemeLetter, Dots}
+use Rattle.iri_resolve.proofs.Places.{ascii-place, fragment-place, host-place, is_host_in_ascii, path-place, query-place, userinfo-place}
+use Rattle.iri_resolve.proofs.Places.{with_authority}
 
 abbrev any : List ℕ → Bool
 any t = true

@@ -1,29 +1,13 @@
 -- Where the texts of the components stand, and the steps that change them there.
-use Rattle.std.proofs.Common.{◌≡◌, ℕ, ◌+◌, ◌-◌, ◌<◌, ◌≤◌, Bool, true, false, ◌&&◌, List, [], ◌∷◌, ◌++◌, Option, Some}
-use Rattle.std.proofs.Common.{length, refl, ◌∙◌, ap, arith, length-append}
-use Rattle.std.specs.Prelude.{nat_lt}
-use Rattle.std.specs.Char.{to_ascii_lowercase}
-use Rattle.std.proofs.lemmas.Bool.{lt-ltb, le-ltb}
-use Rattle.iri_grammar.specs.Authority.{AuthorityParts, FitsAuthority, authority_parts, recompose_authority}
-use Rattle.iri_grammar.proofs.AuthorityLaws.{reading_is}
-use Rattle.iri_grammar.specs.Classes.{Tests, IsSpec, unreserved, userinfo_char, path_char, query_char, fragment_char}
-use Rattle.iri_grammar.specs.Components.{is_userinfo, is_path, is_query, is_fragment}
-use Rattle.iri_grammar.proofs.CutLaws.{both}
-use Rattle.iri_grammar.specs.Host.{is_host}
-use Rattle.iri_grammar.specs.Over.{text_over}
-use Rattle.iri_grammar.specs.Parts.{Parts}
-use Rattle.iri_percent.specs.Triplets.{normal}
-use Rattle.iri_percent.specs.NormalHost.{is_ascii_host}
-use Rattle.iri_percent.proofs.ClassLaws.{in_userinfo, in_path, in_query, in_fragment}
-use Rattle.iri_percent.proofs.WholeLaws.{host-whole, userinfo_percent, path_percent, query_percent, fragment_percent}
-use Rattle.iri_percent.specs.declared.canon_mode.CanonMode.{CanonMode}
-use Rattle.iri_resolve.specs.Changes.{with_small_host_letter}
-use Rattle.iri_resolve.specs.Steps.{placed, host_start, at_place, step_in}
+use Rattle.iri_resolve.proofs.Common.{◌≡◌, ℕ, ◌+◌, ◌-◌, ◌<◌, Bool, true, false, ◌&&◌, List, [], ◌∷◌, ◌++◌, Option, Some, length, refl, ◌∙◌}
+use Rattle.iri_resolve.proofs.Common.{ap, arith, length-append, nat_lt, to_ascii_lowercase, lt-ltb, le-ltb, AuthorityParts, FitsAuthority}
+use Rattle.iri_resolve.proofs.Common.{authority_parts, recompose_authority, reading_is, Tests, IsSpec, unreserved, userinfo_char, path_char}
+use Rattle.iri_resolve.proofs.Common.{query_char, fragment_char, is_userinfo, is_path, is_query, is_fragment, both, is_host, text_over}
+use Rattle.iri_resolve.proofs.Common.{Parts, normal, is_ascii_host, in_userinfo, in_path, in_query, in_fragment, host-whole}
+use Rattle.iri_resolve.proofs.Common.{userinfo_percent, path_percent, query_percent, fragment_percent, CanonMode, with_small_host_letter}
+use Rattle.iri_resolve.proofs.Common.{placed, host_start, at_place, step_in, Part, Authority, Path, Query, Fragment, HostLetter}
 use Rattle.iri_resolve.proofs.AuthoritySteps.{host-kept, letter-kept, ascii-same}
 use Rattle.iri_resolve.proofs.ChangeKeeps.{TripletChange}
-use Rattle.iri_resolve.specs.declared.step.Part.{Part}
-use Rattle.iri_resolve.specs.declared.step.Part.TheVariants.{Authority, Path, Query, Fragment}
-use Rattle.iri_resolve.specs.declared.step.Step.TheVariants.{HostLetter}
 
 -- `put` puts a text in its place, which begins at `start` of the part, where changes of that text are steps; `ok` is what its texts keep
 pub record IsPlace (s : Tests) (part : Part) (lower : Bool) (start : ℕ) (ok : List ℕ → Bool) (put : List ℕ → Parts) : Type 0 where

@@ -1,42 +1,23 @@
 -- What a step does to what a replay has reached.
-use Rattle.std.proofs.Common.{◌≡◌, ℕ, ◌-◌, Bool, true, false, cond, List, [], ◌∷◌, Option, Some, None, refl, sym, ◌∙◌, ap}
-use Rattle.std.specs.Prelude.{String, is_some, nat_lt, string_bytes}
-use Rattle.std.specs.Char.{to_ascii_lowercase}
+use Rattle.iri_resolve.proofs.Common.{◌≡◌, ℕ, ◌-◌, Bool, true, false, cond, List, [], ◌∷◌, Option, Some, None, refl, sym, ◌∙◌, ap, is_some}
+use Rattle.iri_resolve.proofs.Common.{nat_lt, string_bytes, to_ascii_lowercase, AuthorityParts, authority_parts, recompose_authority, Tests}
+use Rattle.iri_resolve.proofs.Common.{IsSpec, unreserved, userinfo_char, if_there, is_host, text_over, Parts, reading_is, is_ascii_host}
+use Rattle.iri_resolve.proofs.Common.{dropped_port, dots, guard, normal, CanonMode, in_userinfo, host-whole, userinfo_percent, bytes_of}
+use Rattle.iri_resolve.proofs.Common.{with_small_host_letter, with_small_letter, placed, in_part, in_host, in_userinfo_or_host, host_start}
+use Rattle.iri_resolve.proofs.Common.{step_in, with_small_letter_in_host, at_place, with_dots_removed, with_slash, without_dropped_port}
+use Rattle.iri_resolve.proofs.Common.{without_empty_port, change_of, is_port_dropped, Holds, WentThere, ReadOnThere, Reaches, authority_of}
+use Rattle.iri_resolve.proofs.Common.{is_port_empty, other_than, parts_of, went, Part, Authority, Path, Query, Fragment, Step, SchemeLetter}
+use Rattle.iri_resolve.proofs.Common.{HostLetter, HexDigit, Decode, EmptyPort, Dots, DefaultPort, SlashPath}
+use Rattle.std.specs.Prelude.{String}
 use Rattle.std.specs.declared.alloc.Global.{Global}
-use Rattle.iri_grammar.specs.Authority.{AuthorityParts, authority_parts, recompose_authority}
-use Rattle.iri_grammar.specs.Classes.{Tests, IsSpec, unreserved, userinfo_char}
-use Rattle.iri_grammar.specs.Components.{if_there}
-use Rattle.iri_grammar.specs.Host.{is_host}
-use Rattle.iri_grammar.specs.Over.{text_over}
-use Rattle.iri_grammar.specs.Parts.{Parts}
-use Rattle.iri_grammar.proofs.AuthorityLaws.{reading_is}
-use Rattle.iri_percent.specs.NormalHost.{is_ascii_host}
-use Rattle.iri_percent.specs.SchemeRules.{dropped_port}
-use Rattle.iri_normal.specs.DotRemoval.{dots}
-use Rattle.iri_normal.specs.Guard.{guard}
 use Rattle.iri_normal.specs.NormalForm.{becomes_slash}
-use Rattle.iri_percent.specs.Triplets.{normal}
-use Rattle.iri_percent.specs.declared.canon_mode.CanonMode.{CanonMode}
-use Rattle.iri_percent.proofs.ClassLaws.{in_userinfo}
-use Rattle.iri_percent.proofs.WholeLaws.{host-whole, userinfo_percent}
-use Rattle.iri_normal.specs.Resolver.{bytes_of}
-use Rattle.iri_resolve.specs.Changes.{with_small_host_letter, with_small_letter}
-use Rattle.iri_resolve.specs.Steps.{placed, in_part, in_host, in_userinfo_or_host, host_start, step_in, with_small_letter_in_host}
-use Rattle.iri_resolve.specs.Steps.{at_place, with_dots_removed, with_slash, without_dropped_port, without_empty_port}
-use Rattle.iri_resolve.specs.inside.ChangeOf.{change_of}
-use Rattle.iri_resolve.specs.NormalSteps.{is_port_dropped}
-use Rattle.iri_resolve.specs.inside.Reached.{IsRead, Holds, WentThere, ReadOn, ReadOnThere, Reaches, authority_of, authority_text}
-use Rattle.iri_resolve.specs.inside.Reached.{is_port_empty, other_than, parts_of, went}
+use Rattle.iri_resolve.specs.inside.Reached.{IsRead, ReadOn, authority_text}
 use Rattle.iri_resolve.proofs.AuthoritySteps.{ascii-same, host-kept, letter-kept}
 use Rattle.iri_resolve.proofs.ChangeKeeps.{TripletChange}
 use Rattle.iri_resolve.proofs.SchemeSteps.{step_in-kept}
 use Rattle.iri_resolve.specs.declared.reached.Reached.{Reached}
 use Rattle.iri_resolve.specs.declared.reached.ReachedAuthority.{ReachedAuthority}
 use Rattle.iri_resolve.specs.declared.change.Change.TheVariants.{CapitalDigit, Decoded}
-use Rattle.iri_resolve.specs.declared.step.Part.{Part}
-use Rattle.iri_resolve.specs.declared.step.Part.TheVariants.{Authority, Path, Query, Fragment}
-use Rattle.iri_resolve.specs.declared.step.Step.{Step}
-use Rattle.iri_resolve.specs.declared.step.Step.TheVariants.{SchemeLetter, HostLetter, HexDigit, Decode, EmptyPort, Dots, DefaultPort, SlashPath}
 
 -- ---- a text in its place
 pub placed-went : {X : Type 0} (f : List ℕ → X) (b : Bool) (x : List ℕ) → placed f (went b x) ≡ went b (f x)

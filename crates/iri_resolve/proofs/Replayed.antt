@@ -1,12 +1,8 @@
 -- One step more.
-use Rattle.std.proofs.Common.{◌≡◌, ℕ, zero, suc, ◌+◌, List, [], ◌∷◌, ◌++◌, Some, refl, ◌∙◌, ap, arith}
-use Rattle.std.specs.Prelude.{take, slice_get}
-use Rattle.iri_grammar.specs.Classes.{Tests}
-use Rattle.iri_grammar.specs.Parts.{Parts}
-use Rattle.iri_percent.specs.declared.canon_mode.CanonMode.{CanonMode}
-use Rattle.iri_resolve.specs.Steps.{step_in, onward, replayed_in}
+use Rattle.iri_resolve.proofs.Common.{◌≡◌, ℕ, zero, suc, ◌+◌, List, [], ◌∷◌, ◌++◌, Some, refl, ◌∙◌, ap, arith, take, Tests, Parts}
+use Rattle.iri_resolve.proofs.Common.{CanonMode, step_in, onward, replayed_in, Step}
+use Rattle.std.specs.Prelude.{slice_get}
 use Rattle.iri_resolve.proofs.Leads.{replayed_in-append}
-use Rattle.iri_resolve.specs.declared.step.Step.{Step}
 
 take_next : (l : List Step) (k : ℕ) (x : Step) → slice_get l k ≡ Some x → take (suc k) l ≡ take k l ++ x ∷ []
 take_next [] k x h = cc

@@ -1,30 +1,23 @@
 -- Steps of a mode keep the parts valid, and their normal form, and lead to it.
-use Rattle.std.proofs.Common.{◌≡◌, ◌≢◌, ◌↔◌, ℕ, Bool, true, false, cond, List, [], ◌∷◌, Option, Some, None, refl, sym}
-use Rattle.std.proofs.Common.{◌∙◌, ap, subst}
-use Rattle.std.specs.Prelude.{IsSome, codes}
+use Rattle.iri_resolve.proofs.Common.{IsSome, AuthorityParts, FitsAuthority, authority_parts, is_authority, recompose_authority, Tests}
+use Rattle.iri_resolve.proofs.Common.{IsSpec, path_char, if_there, Parts, Fits, path_rules, recompose, authority_recomposed, reading_is}
+use Rattle.iri_resolve.proofs.Common.{passes, is_dropped, normal_authority, normal_port, dropped_port, CanonMode, reads, with_capital_digit}
+use Rattle.iri_resolve.proofs.Common.{with_decoded, with_small_letter, in_part, onward, placed, replayed_in, step_in, with_dots_removed}
+use Rattle.iri_resolve.proofs.Common.{with_slash, with_small_letter_in_host, without_dropped_port, without_empty_port, is_port_dropped}
+use Rattle.iri_resolve.proofs.Common.{steps_of, Step, SchemeLetter, HostLetter, HexDigit, Decode, EmptyPort, Dots, DefaultPort, SlashPath}
+use Rattle.std.proofs.Common.{◌≡◌, ◌≢◌, ◌↔◌, ℕ, Bool, true, false, cond, List, [], ◌∷◌, Option, Some, None, refl, sym, ◌∙◌, ap, subst}
+use Rattle.std.specs.Prelude.{codes}
 use Rattle.std.specs.Str.{str_eq_ignore_ascii_case}
 use Rattle.std.proofs.lemmas.Option.{cond_some}
-use Rattle.iri_grammar.specs.Authority.{AuthorityParts, FitsAuthority, authority_parts, is_authority, recompose_authority}
-use Rattle.iri_grammar.specs.Classes.{Tests, IsSpec, path_char}
-use Rattle.iri_grammar.specs.Components.{if_there}
-use Rattle.iri_grammar.specs.Parts.{Parts, Fits, path_rules, recompose}
-use Rattle.iri_grammar.proofs.AuthorityLaws.{authority_recomposed, reading_is, passes}
 use Rattle.iri_grammar.proofs.SplitUnique.{one_split}
-use Rattle.iri_percent.specs.NormalHost.{is_dropped, normal_authority, normal_authority_in, normal_authority_parts_in}
-use Rattle.iri_percent.specs.NormalHost.{normal_port, normal_port_in}
-use Rattle.iri_percent.specs.SchemeRules.{default_port, dropped_port, is_either}
-use Rattle.iri_percent.specs.declared.canon_mode.CanonMode.{CanonMode}
+use Rattle.iri_percent.specs.NormalHost.{normal_authority_in, normal_authority_parts_in, normal_port_in}
+use Rattle.iri_percent.specs.SchemeRules.{default_port, is_either}
 use Rattle.iri_percent.specs.declared.canon_mode.CanonMode.TheVariants.{Default, Scheme}
 use Rattle.iri_percent.proofs.Authorities.{authority_in}
-use Rattle.iri_percent.proofs.MapKinds.{authority-reads as reads}
 use Rattle.iri_normal.specs.LowerCase.{where_there}
 use Rattle.iri_normal.specs.NormalForm.{becomes_slash, normal_form, normal_form_in, normal_parts, normal_path, slash_or}
-use Rattle.iri_resolve.specs.Changes.{with_capital_digit, with_decoded, with_small_letter}
-use Rattle.iri_resolve.specs.Steps.{in_part, onward, placed, replayed_in, step_in, with_dots_removed, with_slash, with_small_letter_in_host}
-use Rattle.iri_resolve.specs.Steps.{without_dropped_port, without_empty_port, Joined, JoinedIn}
-use Rattle.iri_resolve.specs.NormalSteps.{default_port_steps, has_port, is_port_dropped, plain_steps, scheme_rule_steps, slash_steps, steps_of}
-use Rattle.iri_resolve.specs.declared.step.Step.{Step}
-use Rattle.iri_resolve.specs.declared.step.Step.TheVariants.{SchemeLetter, HostLetter, HexDigit, Decode, EmptyPort, Dots, DefaultPort, SlashPath}
+use Rattle.iri_resolve.specs.Steps.{Joined, JoinedIn}
+use Rattle.iri_resolve.specs.NormalSteps.{default_port_steps, has_port, plain_steps, scheme_rule_steps, slash_steps}
 use Rattle.iri_normal.proofs.AuthorityForm.{normal-parts}
 use Rattle.iri_resolve.proofs.AuthoritySteps.{letter-changed, port-changed, placed-gives, part-gives}
 use Rattle.iri_resolve.proofs.NormalStepLemmas.{plain-led}
@@ -32,7 +25,8 @@ use Rattle.iri_resolve.proofs.Leads.{replayed_in-append}
 use Rattle.iri_normal.proofs.FormLaws.{normal-slash, normal_in-fits}
 use Rattle.iri_normal.proofs.SchemeForm.{by_mode, dropped-still, form-by_mode, kept_port, normal-is, one-form, slash-normal, without}
 use Rattle.iri_resolve.proofs.ChangeKeeps.{capital-keeps, decoding-keeps}
-use Rattle.iri_resolve.proofs.StepsKept.{Kept, Valid, authority-changed, authority-fits, change-kept, dots-removed, dots-step, path-fits, scheme-step}
+use Rattle.iri_resolve.proofs.StepsKept.{Kept, Valid, authority-changed, authority-fits, change-kept, dots-removed, dots-step, path-fits}
+use Rattle.iri_resolve.proofs.StepsKept.{scheme-step}
 use Rattle.iri_normal.proofs.TargetLaws.{slash_in_path}
 use Rattle.iri_normal.proofs.TextLaws.{slash_over}
 

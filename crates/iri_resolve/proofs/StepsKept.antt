@@ -1,34 +1,18 @@
 -- Each step keeps the parts valid, and their normal form.
-use Rattle.std.proofs.Common.{◌≡◌, ℕ, true, false, cond, ◌||◌, List, [], ◌∷◌, ◌++◌, Option, Some, None, refl, sym, ◌∙◌, ap, subst}
-use Rattle.std.specs.Prelude.{IsSome, is_some, take}
-use Rattle.std.specs.Char.{to_ascii_lowercase}
+use Rattle.iri_resolve.proofs.Common.{◌≡◌, ℕ, true, false, cond, List, [], ◌∷◌, ◌++◌, Option, Some, None, refl, sym, ◌∙◌, ap, IsSome}
+use Rattle.iri_resolve.proofs.Common.{is_some, take, to_ascii_lowercase, bytes_eq, authority_parts, is_authority, Tests, IsSpec, path_char}
+use Rattle.iri_resolve.proofs.Common.{query_char, fragment_char, both, Parts, Fits, path_rules, as_it_is, pct, path-whole, query-whole}
+use Rattle.iri_resolve.proofs.Common.{fragment-whole, path_percent, query_percent, fragment_percent, dots, guard, normal_path, normal_form}
+use Rattle.iri_resolve.proofs.Common.{form, with_small_letter, at_place, in_part, in_userinfo_or_host, placed, with_dots_removed, Part}
+use Rattle.iri_resolve.proofs.Common.{Authority, Path, Query, Fragment, in_fragment, in_path, in_query}
 use Rattle.std.specs.List.{list_all}
-use Rattle.std.specs.Str.{bytes_eq}
-use Rattle.iri_grammar.specs.Authority.{authority_parts, is_authority}
-use Rattle.iri_grammar.specs.Classes.{Tests, IsSpec, path_char, query_char, fragment_char}
 use Rattle.iri_grammar.specs.Components.{if_there, is_scheme, is_scheme_char, is_letter, is_path, is_query, is_fragment}
-use Rattle.iri_grammar.proofs.CutLaws.{both}
-use Rattle.iri_grammar.specs.Parts.{Parts, Fits, path_rules}
-use Rattle.iri_percent.specs.Triplets.{as_it_is, pct}
-use Rattle.iri_percent.proofs.WholeLaws.{path-whole, query-whole, fragment-whole, path_percent, query_percent, fragment_percent}
-use Rattle.iri_normal.specs.DotRemoval.{dots}
-use Rattle.iri_normal.specs.Guard.{guard}
-use Rattle.iri_normal.specs.NormalForm.{normal_path, normal_form, form}
 use Rattle.iri_normal.proofs.StableLaws.{guarded-stable}
 use Rattle.iri_normal.proofs.TripletPaths.{dots-pct}
-use Rattle.iri_resolve.specs.Changes.{with_small_letter}
-use Rattle.iri_resolve.specs.Steps.{at_place, in_part, in_userinfo_or_host, placed, with_dots_removed}
 use Rattle.iri_resolve.proofs.ByteLaws.{small_letter}
 use Rattle.iri_resolve.proofs.ChangeKeeps.{TripletChange, rules-same}
-use Rattle.iri_resolve.proofs.AuthoritySteps.{AuthorityChange, authority-kept, triplets-changed, placed-gives, part-gives}
-use Rattle.iri_resolve.proofs.AuthoritySteps.{lowered-change}
-use Rattle.iri_resolve.specs.declared.step.Part.{Part}
-use Rattle.iri_resolve.specs.declared.step.Part.TheVariants.{Authority, Path, Query, Fragment}
-use Rattle.iri_percent.proofs.ClassLaws.{in_fragment}
-use Rattle.iri_percent.proofs.ClassLaws.{in_path}
-use Rattle.iri_percent.proofs.ClassLaws.{in_query}
-use Rattle.iri_normal.proofs.FormLaws.{lower-letter}
-use Rattle.iri_normal.proofs.FormLaws.{lower-scheme_char}
+use Rattle.iri_resolve.proofs.AuthoritySteps.{AuthorityChange, authority-kept, triplets-changed, placed-gives, part-gives, lowered-change}
+use Rattle.iri_normal.proofs.FormLaws.{lower-letter, lower-scheme_char}
 use Rattle.iri_normal.proofs.PathLaws.{plain-over, plain-rules}
 
 -- u is valid, has a scheme, and has the normal form of t

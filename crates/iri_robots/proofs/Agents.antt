@@ -1,15 +1,12 @@
 -- Agents are ASCII.
-use Rattle.std.proofs.Common.{◌≡◌, ℕ, suc, ◌+◌, ◌<◌, Bool, true, false, cond, ◌∷◌, List, [], Option, Some, None, take, refl}
-use Rattle.std.proofs.Common.{subst, sym, arith}
-use Rattle.std.specs.Prelude.{codes}
+use Rattle.iri_robots.proofs.Common.{◌≡◌, ℕ, suc, ◌+◌, ◌<◌, Bool, true, false, cond, ◌∷◌, List, [], Option, Some, None, take, refl, subst}
+use Rattle.iri_robots.proofs.Common.{sym, arith, codes, is_utf8, bytes_eq, str_eq_ignore_ascii_case, nat_tests, before, after, OtherLine}
+use Rattle.iri_robots.proofs.Common.{is_token_char, line_of, line_of_text, without_byte_order_mark}
 use Rattle.std.specs.List.{prefix_len}
-use Rattle.std.specs.Str.{IsAscii, is_utf8, bytes_eq, str_eq_ignore_ascii_case}
-use Rattle.std.proofs.lemmas.Bool.Decides.{nat_tests}
+use Rattle.std.specs.Str.{IsAscii}
 use Rattle.std.proofs.lemmas.Slice.Eq.{bytes_eq-Decides}
 use Rattle.std.proofs.lemmas.Str.Ascii.{IsAscii-cons, IsAscii-nil}
-use Rattle.iri_grammar.specs.Cut.{before, after}
-use Rattle.iri_robots.specs.FileLines.{FileLine, AgentLine, RuleLine, OtherLine, agent_of, is_token_char, keyed, parted, line_of}
-use Rattle.iri_robots.specs.FileLines.{line_of_text, trimmed, without_byte_order_mark}
+use Rattle.iri_robots.specs.FileLines.{FileLine, AgentLine, RuleLine, agent_of, keyed, parted, trimmed}
 
 one_more : (n : ℕ) → suc n ≡ 1 + n
 one_more n = omega arith

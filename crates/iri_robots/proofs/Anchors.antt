@@ -1,12 +1,9 @@
 -- Matching and fits.
-use Rattle.std.proofs.Common.{◌≡◌, ◌≢◌, ◌↔◌, ℕ, Bool, true, false, cond, List, [], ◌∷◌, ◌++◌, refl, sym, ◌∙◌, ap, subst, append_assoc, inl}
-use Rattle.std.proofs.Common.{inr}
-use Rattle.std.proofs.lemmas.Bool.Decides.{eqb_tells}
-use Rattle.std.specs.Prelude.{◌==◌}
-use Rattle.iri_robots.specs.Patterns.{IsFilling, nothing, escaped_star, escaped_dollar, HasFilledPrefix, is_anchored, without_anchor}
-use Rattle.iri_robots.specs.Patterns.{IsFilledBy, Matches}
-use Rattle.iri_robots.specs.Patterns.{star as fill_star, same as fill_same}
-use Rattle.iri_robots.specs.inside.Fits.{IsEscape, star_escape, dollar_escape, Fits, ended, star, escaped, same}
+use Rattle.iri_robots.proofs.Common.{◌≡◌, ◌≢◌, ◌↔◌, ℕ, Bool, true, false, cond, List, [], ◌∷◌, ◌++◌, refl, sym, ◌∙◌, ap, subst}
+use Rattle.iri_robots.proofs.Common.{append_assoc, inl, inr, eqb_tells, ◌==◌, is_anchored, without_anchor, IsFilledBy, Matches, Fits}
+use Rattle.iri_robots.specs.Patterns.{IsFilling, nothing, escaped_star, escaped_dollar, HasFilledPrefix, star as fill_star}
+use Rattle.iri_robots.specs.Patterns.{same as fill_same}
+use Rattle.iri_robots.specs.inside.Fits.{IsEscape, star_escape, dollar_escape, ended, star, escaped, same}
 
 filled_escape : (l m : ℕ) (q s : List ℕ) → IsEscape l m → IsFilling q s → IsFilling (37 ∷ 50 ∷ l ∷ q) (m ∷ s)
 filled_escape l m q s star_escape f = escaped_star q s f

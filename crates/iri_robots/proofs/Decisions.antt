@@ -1,20 +1,18 @@
 -- What rules say is decided by the function.
-use Rattle.std.proofs.Common.{◌≡◌, ◌≢◌, ◌↔◌, ℕ, ◌≤◌, Bool, true, false, cond, ◌||◌, ◌&&◌, ◌⊎◌, List, [], ◌∷◌, length, Option, Some, None}
-use Rattle.std.proofs.Common.{refl, sym, ◌∙◌, ap, subst, inl, inr, arith, eq-eqb}
-use Rattle.std.specs.Prelude.{◌==◌, codes, filter}
+use Rattle.iri_robots.proofs.Common.{◌≡◌, ◌≢◌, ◌↔◌, ℕ, ◌≤◌, Bool, true, false, cond, ◌||◌, ◌&&◌, ◌⊎◌, List, [], ◌∷◌, length, Option, Some}
+use Rattle.iri_robots.proofs.Common.{None, refl, sym, ◌∙◌, ap, subst, inl, inr, arith, ◌==◌, codes, bytes_eq, eqb_tells, FileRule}
+use Rattle.iri_robots.proofs.Common.{is_anchored, without_anchor, IsFilledBy, Matches, IsAllowed, Fits}
+use Rattle.std.proofs.lemmas.Bool.{eq-eqb, and_parts, or_cases, or_left, or_right}
+use Rattle.std.specs.Prelude.{filter}
 use Rattle.std.specs.List.{list_any}
-use Rattle.std.specs.Str.{bytes_eq}
 use Rattle.std.proofs.Math.Nat.{le-max_left, le-max_right, max-le}
-use Rattle.std.proofs.lemmas.Bool.{and_parts, or_cases, or_left, or_right}
-use Rattle.std.proofs.lemmas.Bool.Decides.{eqb_tells}
 use Rattle.std.proofs.lemmas.Slice.Eq.{bytes_eq-Decides}
-use Rattle.iri_robots.specs.Records.{FileRule}
-use Rattle.iri_robots.specs.Patterns.{is_anchored, without_anchor, IsFilledBy, Matches}
-use Rattle.iri_robots.specs.Allowed.{IsAmong, first, later as among_later, IsLongest, IsAllowed, robots_file, no_rule, by_rule}
+use Rattle.iri_robots.specs.Allowed.{IsAmong, first, later as among_later, IsLongest, robots_file, no_rule, by_rule}
 use Rattle.iri_robots.specs.Decided.{Piece, AnyText, Escape, Character, special_of, piece_of, pieces, some_suffix, begins, fills, is_match}
 use Rattle.iri_robots.specs.Decided.{matching, most_bytes, longest_allow, allow, is_allowed}
-use Rattle.iri_robots.specs.inside.Fits.{IsEscape, star_escape, dollar_escape, Fits, ended, escaped, same, IsSuffix, whole, later, NoEscape}
-use Rattle.iri_robots.proofs.Moves.{fits_end, fits_star, star_fits, FitsEscape, by_special, by_triplet, fits_escape, triplet_fits, same_prefix}
+use Rattle.iri_robots.specs.inside.Fits.{IsEscape, star_escape, dollar_escape, ended, escaped, same, IsSuffix, whole, later, NoEscape}
+use Rattle.iri_robots.proofs.Moves.{fits_end, fits_star, star_fits, FitsEscape, by_special, by_triplet, fits_escape, triplet_fits}
+use Rattle.iri_robots.proofs.Moves.{same_prefix}
 use Rattle.iri_robots.proofs.Anchors.{fits_filling, filling_fits, fits_prefix, prefix_fits}
 
 -- ---- tests of a text

@@ -1,11 +1,8 @@
 -- Escapes, counted byte by byte.
-use Rattle.std.proofs.Common.{◌≡◌, ℕ, ◌+◌, ◌-◌, ◌<◌, ◌||◌, Bool, true, false, cond, List, [], ◌∷◌, ◌++◌, drop, Some, None}
-use Rattle.std.proofs.Common.{refl, sym, ◌∙◌, ap, subst, arith, zero-add}
-use Rattle.std.specs.Prelude.{◌==◌, nat_lt}
-use Rattle.std.proofs.lemmas.Bool.{eqb-true}
-use Rattle.std.proofs.lemmas.Bool.Decides.{nat_tests}
-use Rattle.iri_robots.specs.Compared.{compared}
-use Rattle.iri_robots.specs.Patterns.{begins_escape, escapes}
+use Rattle.iri_robots.proofs.Common.{◌≡◌, ℕ, ◌+◌, ◌-◌, ◌<◌, ◌||◌, Bool, true, false, cond, List, [], ◌∷◌, ◌++◌, drop, Some, None, refl, sym}
+use Rattle.iri_robots.proofs.Common.{◌∙◌, ap, subst, arith, ◌==◌, nat_lt, nat_tests, compared, escapes}
+use Rattle.std.proofs.Common.{zero-add, eqb-true}
+use Rattle.iri_robots.specs.Patterns.{begins_escape}
 use Rattle.iri_robots.specs.inside.EscapeScans.{begun_then, begun_after, ends_escape, Counts}
 use Rattle.iri_robots.specs.declared.escape.Begun.{Begun}
 use Rattle.iri_robots.specs.declared.escape.Begun.TheVariants.{Nothing, Percent, PercentTwo}

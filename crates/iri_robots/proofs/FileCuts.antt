@@ -1,16 +1,12 @@
 -- Files and rules as lines, cut at the first end of a line.
-use Rattle.std.proofs.Common.{◌≡◌, ℕ, suc, true, false, cond, List, [], ◌∷◌, ◌++◌, Option, None, drop, length, take}
-use Rattle.std.proofs.Common.{refl, sym, ◌∙◌, ap, arith, append_assoc, append-nil}
+use Rattle.iri_robots.proofs.Common.{◌≡◌, ℕ, suc, true, false, cond, List, [], ◌∷◌, ◌++◌, Option, None, drop, length, take, refl, sym, ◌∙◌}
+use Rattle.iri_robots.proofs.Common.{ap, arith, append_assoc, append-nil, before, after, run_of, line_of, FileRecord, line_rules, rules_in}
 use Rattle.std.specs.List.{flat_map}
-use Rattle.iri_grammar.specs.Cut.{before, after}
 use Rattle.iri_grammar.specs.Pieces.{onto}
-use Rattle.iri_grammar.specs.Runs.{run_of}
 use Rattle.iri_grammar.specs.inside.PiecesLaws.{more_pieces}
 use Rattle.iri_grammar.proofs.PiecesLaws.{pieces_cut}
-use Rattle.iri_robots.specs.FileLines.{line_of}
 use Rattle.iri_robots.specs.Files.{file_lines, file_records, is_in_line, more_lines}
-use Rattle.iri_robots.specs.Records.{FileRecord, line_records}
-use Rattle.iri_robots.specs.RuleLines.{line_rules, rules_in}
+use Rattle.iri_robots.specs.Records.{line_records}
 
 pub rules_cut : (t line : List ℕ) (o : Option (List ℕ)) → line ≡ before 10 t → after 10 t ≡ o
     → rules_in t ≡ line_rules line ++ flat_map line_rules (more_pieces 10 o)

@@ -1,16 +1,14 @@
 -- The compared form, from the left.
-use Rattle.std.proofs.Common.{◌≡◌, ℕ, ◌<◌, ◌≤◌, true, false, ◌&&◌, List, [], ◌∷◌, ◌++◌, Option, Some, None, length, drop}
-use Rattle.std.proofs.Common.{get_or, map, take, suc, cond, Bor}
-use Rattle.std.proofs.Common.{refl, sym, ◌∙◌, ap, subst, arith, append-nil}
-use Rattle.std.specs.Prelude.{◌==◌, ◌/◌, ◌%◌, nat_lt}
-use Rattle.std.specs.Char.{is_ascii_hexdigit, to_ascii_uppercase, encode_utf8}
-use Rattle.std.proofs.lemmas.Str.{encode_ascii}
+use Rattle.iri_robots.proofs.Common.{◌≡◌, ℕ, ◌<◌, ◌≤◌, true, false, ◌&&◌, List, [], ◌∷◌, ◌++◌, Option, Some, None, length, drop, take, suc}
+use Rattle.iri_robots.proofs.Common.{cond, refl, sym, ◌∙◌, ap, subst, arith, append-nil, ◌==◌, nat_lt, to_ascii_uppercase, encode_ascii}
+use Rattle.iri_robots.proofs.Common.{nat_tests, run_of, compared, query_text, IsPrefix, stays}
+use Rattle.std.proofs.Common.{get_or, map, Bor}
+use Rattle.std.specs.Prelude.{◌/◌, ◌%◌}
+use Rattle.std.specs.Char.{is_ascii_hexdigit, encode_utf8}
 use Rattle.std.proofs.Math.Bool.{and-false, or-false}
 use Rattle.std.proofs.Math.Utf8.{low_scalar}
 use Rattle.std.proofs.lemmas.Bool.{le-ltb, lt-ltb}
-use Rattle.std.proofs.lemmas.Bool.Decides.{nat_tests}
 use Rattle.iri_grammar.specs.Classes.{uri_tests, unreserved, is_ascii_unreserved}
-use Rattle.iri_grammar.specs.Runs.{run_of}
 use Rattle.iri_grammar.proofs.Units.{run_of_le}
 use Rattle.iri_percent.specs.Units.{octet, octets, two_digits}
 use Rattle.iri_percent.specs.Triplets.{normal, as_it_is}
@@ -22,14 +20,11 @@ use Rattle.iri_percent.proofs.CharLaws.{normal-by_bytes}
 use Rattle.iri_percent.proofs.Characters.{unreserved_low}
 use Rattle.iri_percent.proofs.CharUnits.{no_two, units_stray}
 use Rattle.iri_percent.proofs.MapForms.{ascii-decoded, uri-decoded}
-use Rattle.iri_percent.proofs.MapTexts.{mapped-low, mapped-high, mapped-triplet, capital_is_hex, first_digit, second_digit}
-use Rattle.iri_percent.proofs.MapTexts.{octet_of}
+use Rattle.iri_percent.proofs.MapTexts.{mapped-low, mapped-high, mapped-triplet, capital_is_hex, first_digit, second_digit, octet_of}
 use Rattle.iri_percent.proofs.NormalLaws.{normal_nil, normal_plain, normal_decoded, normal_kept}
 use Rattle.iri_percent.proofs.Spelled.{hex_below}
 use Rattle.iri_percent.proofs.UnitLaws.{Spells, none, more, octets_triplet}
-use Rattle.iri_robots.specs.Compared.{compared, query_text}
 use Rattle.iri_robots.proofs.FormLaws.{compared_delimiter}
-use Rattle.iri_robots.specs.inside.Prefixes.{IsPrefix, stays}
 use Rattle.iri_robots.specs.declared.compared.Written.TheVariants.{Run, Char, Triplet}
 
 -- ---- what is decoded: the first octet alone tells it

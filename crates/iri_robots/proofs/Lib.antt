@@ -1,3 +1,4 @@
+mod Common
 pub mod Moves
 pub mod Places
 pub mod Parts

@@ -1,11 +1,10 @@
 -- The parts of a pattern, as the code reads them.
-use Rattle.std.proofs.Common.{◌≡◌, ◌≢◌, ◌↔◌, ℕ, zero, suc, ◌<◌, ◌≤◌, Bool, true, false, List, [], ◌∷◌, length, drop, slice_index, sym}
-use Rattle.std.proofs.Common.{◌∙◌, ap, subst, arith, length-drop, eqb-true}
+use Rattle.std.proofs.Common.{◌≡◌, ◌≢◌, ◌↔◌, ℕ, zero, suc, ◌<◌, ◌≤◌, Bool, true, false, List, [], ◌∷◌, length, drop, slice_index, sym, ◌∙◌}
+use Rattle.std.proofs.Common.{ap, subst, arith, length-drop, eqb-true}
 use Rattle.std.specs.Prelude.{◌==◌}
 use Rattle.std.proofs.lemmas.List.{nil_from_length}
 use Rattle.iri_robots.specs.inside.Fits.{IsEscape, Fits, ended, MovesOn, EscapeOf, NoEscape, FitsNot, Sticks, Takes, StopsAtStar}
-use Rattle.iri_robots.proofs.Moves.{moves_special, moves_triplet, moves_same, stuck_escape, stops, moves_both}
-use Rattle.iri_robots.proofs.Moves.{star_takes, star_more}
+use Rattle.iri_robots.proofs.Moves.{moves_special, moves_triplet, moves_same, stuck_escape, stops, moves_both, star_takes, star_more}
 
 three : (q : List ℕ) (a b l : ℕ) → 3 ≤ length q → slice_index q 0 ≡ a → slice_index q 1 ≡ b → slice_index q 2 ≡ l → q ≡ a ∷ b ∷ l ∷ drop 3 q
 three [] a b l n h k m = absurd (omega arith)

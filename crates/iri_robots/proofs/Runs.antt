@@ -1,14 +1,11 @@
 -- The groups of a file, read from the start.
-use Rattle.std.proofs.Common.{◌≡◌, ℕ, Bool, true, false, cond, ◌||◌, List, [], ◌∷◌, ◌++◌, Option, None, refl, sym, ◌∙◌, ap, subst}
-use Rattle.std.proofs.Common.{append_assoc, append-nil}
+use Rattle.iri_robots.proofs.Common.{◌≡◌, ℕ, Bool, true, false, cond, ◌||◌, List, [], ◌∷◌, ◌++◌, Option, None, refl, sym, ◌∙◌, ap, subst}
+use Rattle.iri_robots.proofs.Common.{append_assoc, append-nil, str_eq_ignore_ascii_case, IsBestOf, FileRule, FileRecord}
 use Rattle.std.proofs.Math.Bool.{or-false}
-use Rattle.std.specs.Str.{str_eq_ignore_ascii_case}
 use Rattle.iri_robots.specs.declared.rule.Best.{Best}
 use Rattle.iri_robots.specs.Allowed.{IsAmong, first, later}
-use Rattle.iri_robots.specs.inside.BestRule.{IsBestOf}
 use Rattle.iri_robots.specs.inside.RulesLeft.{rules_from}
-use Rattle.iri_robots.specs.Records.{FileRule, FileRecord, UserAgent, Judged, Group, leading_rules, with_agent, groups, has_agent}
-use Rattle.iri_robots.specs.Records.{rules_of}
+use Rattle.iri_robots.specs.Records.{UserAgent, Judged, Group, leading_rules, with_agent, groups, has_agent, rules_of}
 
 -- the same of groups, where the first one has the name already
 abbrev pub rules_with : Bool → List ℕ → List Group → List FileRule

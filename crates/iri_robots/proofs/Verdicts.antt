@@ -1,12 +1,9 @@
 -- One rule more.
-use Rattle.std.proofs.Common.{◌≡◌, ◌≢◌, ◌↔◌, ℕ, ◌<◌, ◌≤◌, Bool, true, false, ◌||◌, ◌⊎◌, List, [], ◌∷◌, ◌++◌, Option, Some, None, length}
-use Rattle.std.proofs.Common.{refl, sym, ◌∙◌, subst, inl, inr, arith}
-use Rattle.std.specs.Prelude.{codes}
-use Rattle.iri_robots.specs.Records.{FileRule}
+use Rattle.iri_robots.proofs.Common.{◌≡◌, ◌≢◌, ◌↔◌, ℕ, ◌<◌, ◌≤◌, Bool, true, false, ◌||◌, ◌⊎◌, List, [], ◌∷◌, ◌++◌, Option, Some, None}
+use Rattle.iri_robots.proofs.Common.{length, refl, sym, ◌∙◌, subst, inl, inr, arith, codes, FileRule, Matches, IsAllowed, IsBestOf}
 use Rattle.iri_robots.specs.declared.rule.Best.{Best}
-use Rattle.iri_robots.specs.Patterns.{Matches}
-use Rattle.iri_robots.specs.Allowed.{IsAmong, first, later, NoneMatches, IsLongest, IsAllowed, robots_file, no_rule, by_rule}
-use Rattle.iri_robots.specs.inside.BestRule.{IsBest, IsBestOf}
+use Rattle.iri_robots.specs.Allowed.{IsAmong, first, later, NoneMatches, IsLongest, robots_file, no_rule, by_rule}
+use Rattle.iri_robots.specs.inside.BestRule.{IsBest}
 
 -- ---- one more
 

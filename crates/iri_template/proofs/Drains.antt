@@ -1,25 +1,14 @@
 -- How a loop writes the units that are told of what is held back, and what a sink that keeps triplets has written of a whole text.
-use Rattle.std.proofs.Common.{◌≡◌, ◌≤◌, ℕ, zero, suc, ◌+◌, ◌-◌, Bool, true, false, cond, List, [], ◌∷◌, ◌++◌, Option, Some, None, length}
-use Rattle.std.proofs.Common.{take, drop, refl, sym, ◌∙◌, ap, subst, arith, append_assoc, append-nil, length-append, Result, Ok, Err}
-use Rattle.std.specs.Prelude.{OnOk, OnErr}
-use Rattle.std.specs.Char.{encode_utf8}
-use Rattle.std.specs.Str.{IsUtf8, chars}
-use Rattle.std.proofs.lemmas.Str.{chars-nil}
-use Rattle.iri_text.proofs.CharSteps.{first_char}
-use Rattle.iri_percent.specs.Encoding.{encoded_char, encoded}
-use Rattle.std.specs.List.{flat_map}
-use Rattle.iri_text.specs.Shown.{AreSinkLaws, Shows}
-use Rattle.iri_text.proofs.Compose.{HasShown, shown_none, shown_more, shown_exit, shows_all, shows_then, shows_exit}
-use Rattle.iri_text.specs.declared.shown.show.Stop.{Stop}
-use Rattle.iri_grammar.specs.Classes.{Tests, any_char}
-use Rattle.iri_percent.specs.Units.{TextUnit, Plain, first_unit, units}
-use Rattle.iri_template.specs.Expansion.{kept_unit}
-use Rattle.iri_template.specs.inside.UnitSteps.{is_part, after_unit, told_units, left_over, fewer, step_units, step_pending, written_units}
-use Rattle.iri_template.specs.inside.UnitSteps.{is_used_up, unit_step_text, unit_step}
-use Rattle.iri_template.specs.declared.units.Units.{Units}
-use Rattle.iri_template.specs.inside.UnitViews.{unit_at, unit_as, TellsNone, IsUnit}
+use Rattle.iri_template.proofs.Common.{◌≡◌, ◌≤◌, ℕ, zero, suc, ◌+◌, ◌-◌, Bool, true, false, cond, List, [], ◌∷◌, ◌++◌, Option, Some, None}
+use Rattle.iri_template.proofs.Common.{length, take, drop, refl, sym, ◌∙◌, ap, subst, arith, append_assoc, append-nil, length-append}
+use Rattle.iri_template.proofs.Common.{Result, Ok, Err, OnOk, encode_utf8, IsUtf8, chars, chars-nil, first_char, encoded_char, encoded}
+use Rattle.iri_template.proofs.Common.{flat_map, AreSinkLaws, Shows, HasShown, shown_none, shown_more, shown_exit, shows_all, shows_then}
+use Rattle.iri_template.proofs.Common.{shows_exit, Stop, Tests, any_char, TextUnit, Plain, first_unit, units, kept_unit, is_part}
+use Rattle.iri_template.proofs.Common.{after_unit, told_units, left_over, fewer, step_units, step_pending, written_units, is_used_up}
+use Rattle.iri_template.proofs.Common.{unit_step_text, unit_step, Units, unit_at, unit_as, TellsNone, IsUnit, texts}
+use Rattle.std.specs.Prelude.{OnErr}
 use Rattle.iri_template.proofs.UnitLaws.{after_shorter, all_told, left_short, written-append, units_all}
-use Rattle.iri_text.specs.inside.Through.{after, texts}
+use Rattle.iri_text.specs.inside.Through.{after}
 use Rattle.iri_text.proofs.ThroughLaws.{through_laws}
 use Rattle.iri_text.proofs.ByCharsLaws.{chars_halt}
 use Rattle.iri_template.specs.inside.UnitText.{state_of, UnitPuts, UnitHalts}

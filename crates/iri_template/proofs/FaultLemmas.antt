@@ -1,12 +1,9 @@
 -- Faults that are moved, the first of several, and those of bytes that are UTF-8 and of others.
-use Rattle.std.proofs.Common.{◌≡◌, ℕ, ◌+◌, Bool, true, false, cond, List, [], ◌∷◌, length, Option, Some, None, refl, sym, ◌∙◌, ap, arith}
-use Rattle.iri_template.specs.Fault.{fault, moved, first, varspec_fault, varspecs_fault, text_fault, template_fault}
-use Rattle.iri_template.specs.declared.error.Error.{Error}
-use Rattle.std.specs.Str.{IsUtf8, is_utf8}
-use Rattle.std.specs.Str.Lossy.{utf8_valid_len}
+use Rattle.iri_template.proofs.Common.{◌≡◌, ℕ, ◌+◌, Bool, true, false, cond, List, [], ◌∷◌, length, Option, Some, None, refl, sym, ◌∙◌, ap}
+use Rattle.iri_template.proofs.Common.{arith, fault, moved, first, varspec_fault, varspecs_fault, text_fault, template_fault, Error, IsUtf8}
+use Rattle.iri_template.proofs.Common.{is_utf8, utf8_valid_len, is_utf8-from_IsUtf8, InvalidUtf8}
 use Rattle.std.proofs.lemmas.Bool.{false_from_ne_true}
-use Rattle.std.proofs.lemmas.Str.{is_utf8-from_IsUtf8, IsUtf8-from_is_utf8}
-use Rattle.iri_template.specs.declared.error.ErrorKind.TheVariants.{InvalidUtf8}
+use Rattle.std.proofs.lemmas.Str.{IsUtf8-from_is_utf8}
 
 pub moved_none : (f : Option Error) → moved 0 f ≡ f
 moved_none None = refl

@@ -1,29 +1,18 @@
 -- What is written where every call tells the same values; and which calls decide what is written.
-use Rattle.std.proofs.Common.{◌≡◌, ◌≤◌, ℕ, ◌+◌, ◌*◌, Bool, true, false, cond, ◌||◌, List, [], ◌∷◌, ◌++◌, None, Some, length, refl, sym, ◌∙◌, ap}
-use Rattle.std.proofs.Common.{subst, arith, append_assoc, append-nil, Result, Ok, Err, MatchResult}
-use Rattle.std.specs.Char.{encode_utf8}
-use Rattle.std.specs.List.{flat_map}
+use Rattle.iri_template.proofs.Common.{encode_utf8, flat_map, Tests, any_char, encoded_char, AreSinkLaws, Shows, Stop, row_of, value_texts}
+use Rattle.iri_template.proofs.Common.{fault, first, led, has_texts, Portion, outside, varspec_portions, portions_from, portions}
+use Rattle.iri_template.proofs.Common.{portions_fault, portions_text, ShownValue, Telling, later, always, Modifier, whole, explode, prefix}
+use Rattle.iri_template.proofs.Common.{VarSpec, Piece, literal, triplet, expression, operator_text, varspec_text, piece_text, is_mistyped}
+use Rattle.iri_template.proofs.Common.{varspecs_type_fault, type_fault_from, type_fault, StopsAt, IsRefused, EndsAs, by_purpose, untold}
+use Rattle.iri_template.proofs.Common.{Error, WriteFailed, ExpressionNotClosed, InvalidCharacter, InvalidExpression, InvalidPercentEncoding}
+use Rattle.iri_template.proofs.Common.{InvalidUtf8, UnexpectedValueType, UnsupportedOperator, Memory, Operator, Typecheck, Expand}
+use Rattle.std.proofs.Common.{◌≡◌, ◌≤◌, ℕ, ◌+◌, ◌*◌, Bool, true, false, cond, ◌||◌, List, [], ◌∷◌, ◌++◌, None, Some, length, refl, sym, ◌∙◌}
+use Rattle.std.proofs.Common.{ap, subst, arith, append_assoc, append-nil, Result, Ok, Err, MatchResult}
 use Rattle.iri_grammar.specs.Characters.{percent_sign}
-use Rattle.iri_grammar.specs.Classes.{Tests, any_char}
-use Rattle.iri_percent.specs.Encoding.{encoded_char}
-use Rattle.iri_text.specs.Shown.{AreSinkLaws, Shows}
-use Rattle.iri_text.specs.declared.shown.show.Stop.{Stop}
-use Rattle.iri_template.specs.Expansion.{row_of, value_texts, varspec_texts, expression_text, expansion}
-use Rattle.iri_template.specs.Fault.{fault, first}
-use Rattle.iri_template.specs.Led.{led, has_texts}
-use Rattle.iri_template.specs.Portions.{Portion, outside, varspec_portion, varspec_portions, portions_from, portions, portions_fault, portions_text}
-use Rattle.iri_template.specs.ShownValues.{ShownValue}
-use Rattle.iri_template.specs.Tells.{Telling, later, always}
-use Rattle.iri_template.specs.Template.{Modifier, whole, explode, prefix, VarSpec, Piece, literal, triplet, expression, operator_text, varspec_text, piece_text}
-use Rattle.iri_template.specs.TypeFaults.{is_mistyped, varspecs_type_fault, type_fault_from, type_fault}
-use Rattle.iri_template.specs.Writings.{StopsAt, IsRefused, EndsAs, IsCaused, HasCause}
-use Rattle.iri_template.specs.inside.ByPurpose.{by_purpose, untold}
-use Rattle.iri_template.specs.declared.error.Error.{Error}
+use Rattle.iri_template.specs.Expansion.{varspec_texts, expression_text, expansion}
+use Rattle.iri_template.specs.Portions.{varspec_portion}
+use Rattle.iri_template.specs.Writings.{IsCaused, HasCause}
 use Rattle.iri_template.specs.declared.error.ErrorKind.{ErrorKind}
-use Rattle.iri_template.specs.declared.error.ErrorKind.TheVariants.{WriteFailed, ExpressionNotClosed, InvalidCharacter, InvalidExpression}
-use Rattle.iri_template.specs.declared.error.ErrorKind.TheVariants.{InvalidPercentEncoding, InvalidUtf8, UnexpectedValueType, UnsupportedOperator, Memory}
-use Rattle.iri_template.specs.declared.operator.Operator.{Operator}
-use Rattle.iri_template.specs.declared.visitor.VisitPurpose.TheVariants.{Typecheck, Expand}
 use Rattle.iri_template.proofs.FaultLemmas.{neither}
 use Rattle.iri_template.proofs.PartWalk.{outside_fault, outside_text}
 use Rattle.iri_template.proofs.PortionWalk.{fault_after, text_after}

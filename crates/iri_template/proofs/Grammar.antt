@@ -1,48 +1,35 @@
 -- A text has no fault exactly where pieces spell it, and then they are the pieces that are read.
-use Rattle.std.proofs.Common.{◌≡◌, ◌≢◌, ◌⊎◌, ℕ, zero, suc, ◌+◌, ◌-◌, ◌<◌, ◌≤◌, inl, inr, true, false, cond, Bool, not, ◌&&◌, ◌||◌, List}
-use Rattle.std.proofs.Common.{[], ◌∷◌, ◌++◌, length, map, drop, Option, Some, None, refl, sym, ◌∙◌, ap, subst, arith, append_assoc}
-use Rattle.std.specs.Prelude.{◌==◌}
-use Rattle.std.specs.Char.{encode_utf8, is_ascii_hexdigit, IsScalar}
-use Rattle.std.specs.List.{list_all}
-use Rattle.std.specs.Str.Lossy.{utf8_valid_len}
-use Rattle.std.specs.Str.{chars, IsUtf8, is_utf8}
-use Rattle.std.proofs.lemmas.Bool.{and_parts as both, cases_eq, or_cases, or_left, ne_eqb}
-use Rattle.std.proofs.lemmas.Bool.Decides.{nat_tests}
-use Rattle.std.proofs.lemmas.Str.{IsUtf8-nil, IsUtf8-append, IsUtf8-encode, chars_from_encodes, is_utf8-from_IsUtf8, IsUtf8-from_is_utf8}
+use Rattle.iri_template.proofs.Common.{◌==◌, encode_utf8, is_ascii_hexdigit, list_all, utf8_valid_len, chars, IsUtf8, is_utf8, both, ne_eqb}
+use Rattle.iri_template.proofs.Common.{nat_tests, is_utf8-from_IsUtf8, any_char, is_ascii_any, is_ucschar, is_ucschar_plane, is_iprivate}
+use Rattle.iri_template.proofs.Common.{before, after, lacks, delimited, by_test, joined, over, over_from, pieces, text_after, is_name_char}
+use Rattle.iri_template.proofs.Common.{is_varname, Piece, literal, triplet, expression, VarSpec, literal_char, is_varspec, operator_text}
+use Rattle.iri_template.proofs.Common.{varspec_text, modifier_text, piece_text, template_text, operator_at, operator_of, after_operator}
+use Rattle.iri_template.proofs.Common.{varspec_of, expression_of, body_of, first_of, pieces_of, pieces_from, fault, moved, first}
+use Rattle.iri_template.proofs.Common.{operator_fault, triplet_fault, piece_fault, unless, fault_at, varspecs_fault, fault_from, text_fault}
+use Rattle.iri_template.proofs.Common.{template_fault, Error, ExpressionNotClosed, InvalidPercentEncoding, InvalidUtf8, UnsupportedOperator}
+use Rattle.iri_template.proofs.Common.{Operator, Simple, Reserved, Fragment, Label, PathSegment, PathParameter, FormQuery, FormContinuation}
+use Rattle.std.proofs.Common.{◌≡◌, ◌≢◌, ◌⊎◌, ℕ, zero, suc, ◌+◌, ◌-◌, ◌<◌, ◌≤◌, inl, inr, true, false, cond, Bool, not, ◌&&◌, ◌||◌, List, []}
+use Rattle.std.proofs.Common.{◌∷◌, ◌++◌, length, map, drop, Option, Some, None, refl, sym, ◌∙◌, ap, subst, arith, append_assoc}
+use Rattle.std.specs.Char.{IsScalar}
+use Rattle.std.proofs.lemmas.Bool.{cases_eq, or_cases, or_left}
+use Rattle.std.proofs.lemmas.Str.{IsUtf8-nil, IsUtf8-append, IsUtf8-encode, chars_from_encodes, IsUtf8-from_is_utf8}
 use lib.Utf8.{scalar, scalars, encodes}
-use Rattle.iri_grammar.specs.Classes.{any_char, is_ascii_any, is_ucschar, is_ucschar_plane, is_iprivate}
 use Rattle.iri_grammar.specs.declared.class.Class.TheVariants.{Any}
 use Rattle.iri_grammar.proofs.ClassLaws.{ascii_test_below}
-use Rattle.iri_grammar.specs.Cut.{before, after, lacks, delimited}
-use Rattle.iri_grammar.proofs.CutLaws.{before-delimited, after-delimited, all-lacks, by_test, joined, lacks-append}
+use Rattle.iri_grammar.proofs.CutLaws.{before-delimited, after-delimited, all-lacks, lacks-append}
 use Rattle.iri_grammar.proofs.Ipv6Laws.{one_piece, joined_pieces, pieces_before}
-use Rattle.iri_grammar.specs.Over.{over, over_from}
-use Rattle.iri_grammar.specs.Pieces.{pieces}
-use Rattle.iri_grammar.specs.Pieces as split
 use Rattle.iri_grammar.proofs.PiecesLaws.{pieces_cut}
-use Rattle.iri_grammar.proofs.Delimiters.{text_after}
 use Rattle.iri_grammar.proofs.AuthorityTexts.{delimited-utf8}
 use Rattle.iri_grammar.proofs.LiteralChars.{all-join, all-weaken}
 use Rattle.iri_grammar.proofs.Units.{text_after_ascii, hex_is_ascii}
-use Rattle.iri_template.specs.Names.{is_name_char, is_varname}
-use Rattle.iri_template.specs.Template.{Piece, literal, triplet, expression, VarSpec, literal_char, is_varspec, has_varspecs, is_piece}
-use Rattle.iri_template.specs.Template.{operator_text, varspec_text, modifier_text, body_text, piece_text, template_text, Spells}
-use Rattle.iri_template.specs.Template.{IsTemplate}
-use Rattle.iri_template.specs.Reading.{operator_at, operator_of, after_operator, varspec_of, expression_of, body_of, first_of, pieces_of}
-use Rattle.iri_template.specs.Reading.{pieces_from}
-use Rattle.iri_template.specs.Fault.{fault, moved, first, is_reserved_operator, operator_fault, body_fault, expression_fault}
-use Rattle.iri_template.specs.Fault.{triplet_fault, piece_fault, unless, fault_at, varspecs_fault, fault_from, text_fault}
-use Rattle.iri_template.specs.Fault.{template_fault}
-use Rattle.iri_template.specs.declared.error.Error.{Error}
-use Rattle.iri_template.specs.declared.error.ErrorKind.TheVariants.{ExpressionNotClosed, InvalidPercentEncoding, InvalidUtf8, UnsupportedOperator}
-use Rattle.iri_template.specs.declared.operator.Operator.{Operator}
-use Rattle.iri_template.specs.declared.operator.Operator.TheVariants.{Simple, Reserved, Fragment, Label, PathSegment, PathParameter}
-use Rattle.iri_template.specs.declared.operator.Operator.TheVariants.{FormQuery, FormContinuation}
+use Rattle.iri_template.specs.Template.{has_varspecs, is_piece, body_text, Spells, IsTemplate}
+use Rattle.iri_template.specs.Fault.{is_reserved_operator, body_fault, expression_fault}
 use Rattle.iri_template.proofs.FaultLemmas.{neither, unmoved, passed, of_text}
 use Rattle.iri_template.proofs.VarSpecLemmas.{inner, varspec_bytes, varspecs_fine, varspecs_are}
 use Rattle.iri_template.proofs.Prefixes.{Begins, Fine, other_piece, begins_fault, begins_pieces, literal_begins, triplet_begins}
 use Rattle.iri_template.proofs.Prefixes.{expression_begins, has_delimiter}
 use Rattle.iri_template.proofs.Walks.{nothing_left, fine_there, none_anywhere}
+use Rattle.iri_grammar.specs.Pieces as split
 
 -- ---- operators
 Good : ℕ → Operator → Type 0

@@ -1,36 +1,22 @@
 -- A walk over the parts of a template without a fault: the part at the start, the types of values, and the portions that are left.
-use Rattle.std.proofs.lemmas.List.{nil_from_length, length-map}
-use Rattle.std.proofs.Common.{◌≡◌, ℕ, ◌+◌, ◌-◌, cond, List, [], ◌∷◌, ◌++◌, None, length, map, refl, sym, ◌∙◌, ap, arith, length-append, ◌<◌}
-use Rattle.std.proofs.Common.{◌≤◌, ◌*◌, false, Option, Some, subst, append_assoc, append-nil, Ok, Err, Bor}
-use Rattle.std.specs.Str.{IsUtf8, chars}
-use Rattle.std.specs.Str.Lossy.{utf8_valid_len}
+use Rattle.iri_template.proofs.Common.{nil_from_length, ◌≡◌, ℕ, ◌+◌, ◌-◌, cond, List, [], ◌∷◌, ◌++◌, None, length, map, refl, sym, ◌∙◌, ap}
+use Rattle.iri_template.proofs.Common.{arith, length-append, ◌<◌, ◌≤◌, ◌*◌, false, Option, Some, subst, append_assoc, append-nil, Ok, Err}
+use Rattle.iri_template.proofs.Common.{Bor, IsUtf8, chars, utf8_valid_len, is_utf8-from_IsUtf8, Piece, literal, piece_text, template_text}
+use Rattle.iri_template.proofs.Common.{triplet, expression, VarSpec, operator_text, names_of, fault, fault_from, text_fault, first}
+use Rattle.iri_template.proofs.Common.{part_pieces, IsPrefix, pieces_from, pieces_of, varspec_of, ShownValue, type_fault_from, InvalidUtf8}
+use Rattle.iri_template.proofs.Common.{WriteFailed, UnexpectedValueType, encode_utf8, flat_map, Tests, any_char, encoded, encoded_char}
+use Rattle.iri_template.proofs.Common.{pieces, AreSinkLaws, Portion, outside, varspec_portions, portions_from, portions, portions_fault}
+use Rattle.iri_template.proofs.Common.{portions_text, calls_in, Telling, later, WhereTold, MovesBy, EndsAs, CallsUpTo, Error, Operator}
+use Rattle.std.proofs.lemmas.List.{length-map}
 use Rattle.std.proofs.lemmas.Grind.{flat_map-append}
-use Rattle.std.proofs.lemmas.Str.{is_utf8-from_IsUtf8}
-use Rattle.iri_template.specs.Template.{Piece, literal, piece_text, template_text, triplet, expression, VarSpec, operator_text, names_of}
-use Rattle.iri_template.specs.Fault.{fault, fault_from, text_fault, first}
-use Rattle.iri_template.specs.inside.Parts.{part_pieces, part_fault, IsPrefix, IsPlaced}
-use Rattle.iri_template.specs.Reading.{pieces_from, pieces_of, varspec_of}
-use Rattle.iri_template.specs.ShownValues.{ShownValue}
-use Rattle.iri_template.specs.TypeFaults.{piece_type_fault, type_fault_from}
-use Rattle.iri_template.specs.declared.error.ErrorKind.TheVariants.{InvalidUtf8, WriteFailed, UnexpectedValueType}
+use Rattle.iri_template.specs.inside.Parts.{part_fault, IsPlaced}
+use Rattle.iri_template.specs.TypeFaults.{piece_type_fault}
 use Rattle.iri_template.specs.declared.part.Part.{Part}
 use Rattle.iri_template.proofs.FaultLemmas.{neither, first_first}
 use Rattle.iri_template.proofs.Grammar.{no_fault_is_template}
 use Rattle.iri_template.proofs.Walks.{fine_there, none_anywhere, names_append, literals_have_none}
-use Rattle.std.specs.Char.{encode_utf8}
 use Rattle.iri_grammar.specs.Characters.{percent_sign}
-use Rattle.std.specs.List.{flat_map}
-use Rattle.iri_grammar.specs.Classes.{Tests, any_char}
-use Rattle.iri_percent.specs.Encoding.{encoded, encoded_char}
-use Rattle.iri_grammar.specs.Pieces.{pieces}
-use Rattle.iri_text.specs.Shown.{AreSinkLaws}
-use Rattle.iri_template.specs.Portions.{Portion, outside, varspec_portions, portions_from, portions, portions_fault, portions_text}
-use Rattle.iri_template.specs.Portions.{calls_in}
-use Rattle.iri_template.specs.Tells.{Telling, later, WhereTold, MovesBy}
-use Rattle.iri_template.specs.Writings.{EndsAs, CallsUpTo}
 use Rattle.iri_template.specs.inside.PartEnds.{PartEnds, PartCalls, calls_of, begin_after}
-use Rattle.iri_template.specs.declared.error.Error.{Error}
-use Rattle.iri_template.specs.declared.operator.Operator.{Operator}
 use Rattle.iri_template.proofs.PrefixChars.{some_encoded}
 use Rattle.iri_template.proofs.PortionWalk.{fault_after, text_after, calls_append, HasEnded, ended_more, ended_exit, ended_calls, ended_end}
 use Rattle.iri_template.proofs.PortionWalk.{BothTold, later_none, moved_on, moves_none}

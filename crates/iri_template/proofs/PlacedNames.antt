@@ -1,24 +1,18 @@
 -- The names of a template's variables, with their places, in a walk over a template without a fault.
-use Rattle.std.proofs.Common.{◌≡◌, ◌<◌, ◌≤◌, ℕ, ◌+◌, ◌-◌, ◌^◌, true, false, List, [], ◌∷◌, ◌++◌, length, map, Option, Some, None, Bor}
-use Rattle.std.proofs.Common.{refl, sym, ◌∙◌, ap, subst, arith, append_assoc, append-nil, length-append}
-use Rattle.std.specs.Prelude.{is_some}
-use Rattle.std.specs.Str.{chars}
-use Rattle.std.proofs.lemmas.List.{nil_from_length, map-append}
-use Rattle.iri_grammar.specs.Cut.{before, after}
-use Rattle.iri_grammar.specs.OptionalSlices.{now_of}
-use Rattle.iri_grammar.specs.Pieces.{pieces}
-use Rattle.iri_template.specs.Template.{VarSpec, Piece, literal, triplet, expression, piece_text, template_text, varspec_text, names_of}
+use Rattle.iri_template.proofs.Common.{Bor, is_some, chars, nil_from_length, before, after, now_of, pieces, VarSpec, Piece, literal}
+use Rattle.iri_template.proofs.Common.{triplet, expression, piece_text, template_text, varspec_text, names_of, name_of, varspec_of}
+use Rattle.iri_template.proofs.Common.{pieces_from, pieces_of, moved, varspec_fault, varspecs_fault, varspecs_left, part_pieces, IsPrefix}
+use Rattle.std.proofs.Common.{◌≡◌, ◌<◌, ◌≤◌, ℕ, ◌+◌, ◌-◌, ◌^◌, true, false, List, [], ◌∷◌, ◌++◌, length, map, Option, Some, None, refl, sym}
+use Rattle.std.proofs.Common.{◌∙◌, ap, subst, arith, append_assoc, append-nil, length-append}
+use Rattle.std.proofs.lemmas.List.{map-append}
 use Rattle.iri_template.specs.Places.{varspec_names, names_within, placed_names}
-use Rattle.iri_template.specs.Reading.{name_of, varspec_of, pieces_from, pieces_of}
-use Rattle.iri_template.specs.Fault.{moved, varspec_fault, varspecs_fault}
-use Rattle.iri_template.specs.Left.{varspecs_left, names_among, expression_fault, AreFine, IsTaken, Has}
-use Rattle.iri_template.specs.inside.Parts.{part_pieces, IsPrefix}
+use Rattle.iri_template.specs.Left.{names_among, expression_fault, AreFine, IsTaken, Has}
 use Rattle.iri_template.specs.declared.part.Expression.{Expression}
 use Rattle.iri_template.specs.declared.part.Part.{Part}
-use Rattle.iri_template.specs.declared.part.Part.TheVariants as part
 use Rattle.iri_template.proofs.FaultLemmas.{unmoved}
 use Rattle.iri_template.proofs.PartWalk.{PartCut}
 use Rattle.iri_template.proofs.VarSpecWalk.{cut_len, cut_spec, more_varspecs, spec_len}
+use Rattle.iri_template.specs.declared.part.Part.TheVariants as part
 
 -- ---- with and without their places
 varspecs_named : (at : ℕ) (vs : List VarSpec) → map (λ p. p.1) (varspec_names at vs) ≡ map (λ v. v.name) vs

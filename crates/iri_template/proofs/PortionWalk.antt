@@ -1,17 +1,13 @@
 -- How the writing of portions goes on: the calls of the context, lists of portions one after the other, and what is still to be written.
+use Rattle.iri_template.proofs.Common.{◌≡◌, ℕ, ◌+◌, ◌*◌, true, false, cond, List, [], ◌∷◌, ◌++◌, Option, None, Some, refl, sym, ◌∙◌, ap}
+use Rattle.iri_template.proofs.Common.{subst, arith, append_assoc, append-nil, Result, Ok, Err, AreSinkLaws, fault, Portion, portions_fault}
+use Rattle.iri_template.proofs.Common.{portions_text, calls_in, Telling, later, WhereTold, MovesBy, StopsAt, IsRefused, EndsAs, CallsUpTo}
+use Rattle.iri_template.proofs.Common.{Error, WriteFailed, ExpressionNotClosed, InvalidCharacter, InvalidExpression, InvalidPercentEncoding}
+use Rattle.iri_template.proofs.Common.{InvalidUtf8, UnexpectedValueType, UnsupportedOperator, Memory}
 use Rattle.std.specs.Prelude.{⊤}
-use Rattle.std.proofs.Common.{◌≡◌, ℕ, ◌+◌, ◌*◌, true, false, cond, List, [], ◌∷◌, ◌++◌, Option, None, Some, refl, sym, ◌∙◌, ap, subst, arith}
-use Rattle.std.proofs.Common.{append_assoc, append-nil, Result, Ok, Err, IfErr}
+use Rattle.std.proofs.Common.{IfErr}
 use Rattle.std.proofs.Math.Path.{fun_ext}
-use Rattle.iri_text.specs.Shown.{AreSinkLaws}
-use Rattle.iri_template.specs.Fault.{fault}
-use Rattle.iri_template.specs.Portions.{Portion, portions_fault, portions_text, calls_in}
-use Rattle.iri_template.specs.Tells.{Telling, later, WhereTold, MovesBy}
-use Rattle.iri_template.specs.Writings.{StopsAt, IsRefused, EndsAs, CallsUpTo}
-use Rattle.iri_template.specs.declared.error.Error.{Error}
 use Rattle.iri_template.specs.declared.error.ErrorKind.{ErrorKind}
-use Rattle.iri_template.specs.declared.error.ErrorKind.TheVariants.{WriteFailed, ExpressionNotClosed, InvalidCharacter, InvalidExpression}
-use Rattle.iri_template.specs.declared.error.ErrorKind.TheVariants.{InvalidPercentEncoding, InvalidUtf8, UnexpectedValueType, UnsupportedOperator, Memory}
 
 -- ---- calls of a context that changes
 pub later_none : (f : Telling) → later 0 f ≡ f

@@ -1,27 +1,18 @@
 -- What a sink that passes the first characters on has written, and whether a text is empty once it is encoded.
-use Rattle.std.proofs.Common.{◌≡◌, ◌≢◌, ℕ, zero, suc, ◌-◌, cond, false, List, [], ◌∷◌, ◌++◌, take, refl, sym, ◌∙◌, ap, subst, arith}
-use Rattle.std.proofs.Common.{append-nil, Result, Ok, Err, ◌<◌, Bool, true, Option, None, Some, length, nat_le, length-append}
-use Rattle.std.specs.Prelude.{◌==◌}
-use Rattle.std.specs.List.{flat_map}
-use Rattle.std.specs.Char.{encode_utf8}
-use Rattle.std.specs.Str.{IsUtf8, chars, encode_utf8_all}
-use Rattle.std.proofs.lemmas.Str.{chars-nil, chars-append, encodes-chars, len_utf8_bounds, length-encode}
-use Rattle.std.proofs.lemmas.Bool.Decides.{nat_tests}
-use Rattle.iri_grammar.specs.Classes.{Tests, unreserved}
-use Rattle.iri_text.proofs.CharSteps.{first_char, no_chars}
+use Rattle.iri_template.proofs.Common.{◌≡◌, ◌≢◌, ℕ, zero, suc, ◌-◌, cond, false, List, [], ◌∷◌, ◌++◌, take, refl, sym, ◌∙◌, ap, subst}
+use Rattle.iri_template.proofs.Common.{arith, append-nil, Result, Ok, Err, ◌<◌, Bool, true, Option, None, Some, length, nat_le}
+use Rattle.iri_template.proofs.Common.{length-append, ◌==◌, flat_map, encode_utf8, IsUtf8, chars, encode_utf8_all, chars-nil}
+use Rattle.iri_template.proofs.Common.{len_utf8_bounds, nat_tests, Tests, unreserved, first_char, no_chars, AreSinkLaws, Shows, texts, Stop}
+use Rattle.iri_template.proofs.Common.{keeps, encoded_char, encoded, prefix_step, char_text, limited, shown_text, is_used_up}
+use Rattle.std.proofs.lemmas.Str.{chars-append, encodes-chars, length-encode}
 use Rattle.iri_text.proofs.ThroughLaws.{through_laws}
 use Rattle.iri_text.proofs.ByCharsLaws.{chars_halt}
-use Rattle.iri_text.specs.Shown.{AreSinkLaws, Shows}
-use Rattle.iri_text.specs.inside.Through.{after, texts}
-use Rattle.iri_text.specs.declared.shown.show.Stop.{Stop}
-use Rattle.iri_percent.specs.Encoding.{keeps, encoded_char, encoded}
+use Rattle.iri_text.specs.inside.Through.{after}
 use Rattle.iri_percent.specs.declared.context.Context.TheVariants.{Unreserved}
-use Rattle.iri_template.specs.inside.Prefix.{prefix_step, char_text, prefix_text}
+use Rattle.iri_template.specs.inside.Prefix.{prefix_text}
 use Rattle.iri_template.specs.inside.PrefixText.{PrefixPuts, PrefixHalts}
 use Rattle.iri_template.specs.declared.encoded_value.PrefixSink.{PrefixSink}
 use Rattle.iri_percent.specs.Mapping.{triplets}
-use Rattle.iri_template.specs.Expansion.{limited, shown_text}
-use Rattle.iri_template.specs.inside.UnitSteps.{is_used_up}
 
 pub encoded_one : (s : Tests) (c : ℕ) (t : List ℕ) → IsUtf8 t → t ≡ encode_utf8 c
     → encoded (keeps s Unreserved) t ≡ encoded_char (unreserved s) c

@@ -1,40 +1,30 @@
 -- A template piece by piece; and what a walk takes at a time is its prefix: literals, what stands between braces, a triplet.
-use Rattle.std.proofs.Common.{◌≡◌, ℕ, zero, suc, ◌+◌, ◌-◌, ◌<◌, ◌≤◌, true, false, List, [], ◌∷◌, ◌++◌, length, drop, map, get_or, Some}
-use Rattle.std.proofs.Common.{None, refl, sym, ◌∙◌, ap, subst, arith, length-append, append_assoc, cond, Bool, take, not, ◌&&◌, ◌≢◌, Option}
-use Rattle.std.specs.Prelude.{◌==◌, slice_range}
-use Rattle.std.specs.Char.{encode_utf8, len_utf8}
-use Rattle.std.specs.List.{list_all}
-use Rattle.std.specs.Str.{chars, IsUtf8, encode_utf8_all}
-use Rattle.std.proofs.lemmas.Bool.{and_parts as both}
-use Rattle.std.proofs.lemmas.List.{drop_at, take-append-drop, append-nil, length-drop, take_at}
-use Rattle.std.proofs.lemmas.Str.{chars_past_char, char_from_byte, length-encode, len_utf8_bounds, IsUtf8-past_char, encode_ascii}
-use Rattle.std.proofs.lemmas.Str.{chars-nil, chars_from_encodes}
-use Rattle.iri_grammar.proofs.CutLaws.{by_test, joined}
-use Rattle.iri_grammar.specs.Classes.{any_char, is_ascii_any, is_ascii_reg_name, is_ascii_unreserved, is_sub_delim, is_gen_delim}
-use Rattle.iri_grammar.specs.Classes.{is_ucschar, is_ucschar_plane, is_iprivate, iri_tests}
-use Rattle.iri_template.specs.Template.{Piece, literal, triplet, literal_char, expression, operator_text}
-use Rattle.iri_template.specs.Reading.{first_of, piece_at, piece_of, len_at, piece_len, pieces_from, pieces_of, body_of, expression_of}
-use Rattle.iri_template.specs.Reading.{triplet_of, varspec_of, operator_of, after_operator}
-use Rattle.iri_template.specs.Fault.{fault, moved, first, unless, fault_at, piece_fault, fault_from, triplet_fault, literal_fault}
-use Rattle.iri_template.specs.Fault.{operator_fault, varspecs_fault}
+use Rattle.iri_template.proofs.Common.{◌≡◌, ℕ, zero, suc, ◌+◌, ◌-◌, ◌<◌, ◌≤◌, true, false, List, [], ◌∷◌, ◌++◌, length, drop, map, get_or}
+use Rattle.iri_template.proofs.Common.{Some, None, refl, sym, ◌∙◌, ap, subst, arith, length-append, append_assoc, cond, Bool, take, not}
+use Rattle.iri_template.proofs.Common.{◌&&◌, ◌≢◌, Option, ◌==◌, encode_utf8, len_utf8, list_all, chars, IsUtf8, encode_utf8_all, both}
+use Rattle.iri_template.proofs.Common.{append-nil, length-drop, len_utf8_bounds, chars-nil, by_test, joined, any_char, is_ascii_any}
+use Rattle.iri_template.proofs.Common.{is_ascii_reg_name, is_ascii_unreserved, is_sub_delim, is_gen_delim, is_ucschar, is_ucschar_plane}
+use Rattle.iri_template.proofs.Common.{is_iprivate, Piece, literal, triplet, literal_char, expression, operator_text, first_of, piece_len}
+use Rattle.iri_template.proofs.Common.{pieces_from, pieces_of, body_of, expression_of, varspec_of, operator_of, after_operator, fault}
+use Rattle.iri_template.proofs.Common.{moved, first, unless, fault_at, piece_fault, fault_from, triplet_fault, operator_fault}
+use Rattle.iri_template.proofs.Common.{varspecs_fault, Error, InvalidCharacter, ExpressionNotClosed, run_of, prefix_fault, IsPrefix, before}
+use Rattle.iri_template.proofs.Common.{after, lacks, delimited, nat_tests, Bor, pieces, Operator, Simple, Reserved, Fragment, Label}
+use Rattle.iri_template.proofs.Common.{PathSegment, PathParameter, FormQuery, FormContinuation}
+use Rattle.std.specs.Prelude.{slice_range}
+use Rattle.std.proofs.lemmas.List.{drop_at, take-append-drop, take_at}
+use Rattle.std.proofs.lemmas.Str.{chars_past_char, char_from_byte, length-encode, IsUtf8-past_char, encode_ascii, chars_from_encodes}
+use Rattle.iri_grammar.specs.Classes.{iri_tests}
+use Rattle.iri_template.specs.Reading.{piece_at, piece_of, len_at, triplet_of}
+use Rattle.iri_template.specs.Fault.{literal_fault}
 use Rattle.iri_template.proofs.FaultLemmas.{moved_moved, varspecs_moved}
-use Rattle.iri_template.specs.declared.error.Error.{Error}
-use Rattle.iri_template.specs.declared.error.ErrorKind.TheVariants.{InvalidCharacter, ExpressionNotClosed}
 use Rattle.iri_grammar.proofs.ClassLaws.{class_has_ascii}
 use Rattle.iri_grammar.specs.inside.Laws.{iri_is_spec}
-use Rattle.iri_grammar.specs.Runs.{run_of}
 use Rattle.iri_grammar.specs.declared.class.Class.TheVariants.{Any}
 use Rattle.iri_grammar.proofs.PlainTails.{run-all}
 use Rattle.iri_grammar.proofs.Units.{char_shorter}
-use Rattle.iri_template.specs.inside.Parts.{IsPastLiterals, prefix_fault, IsExpression, IsTriplet, IsPrefix}
-use Rattle.iri_grammar.specs.Cut.{before, after, lacks, delimited, tail}
-use Rattle.std.proofs.lemmas.Bool.Decides.{nat_tests}
-use denote.Ref.{Bor}
-use Rattle.iri_grammar.specs.Pieces.{pieces}
+use Rattle.iri_template.specs.inside.Parts.{IsPastLiterals, IsExpression, IsTriplet}
+use Rattle.iri_grammar.specs.Cut.{tail}
 use Rattle.iri_grammar.proofs.Ranges.{range_prefix}
-use Rattle.iri_template.specs.declared.operator.Operator.{Operator}
-use Rattle.iri_template.specs.declared.operator.Operator.TheVariants.{Simple, Reserved, Fragment, Label, PathSegment, PathParameter}
-use Rattle.iri_template.specs.declared.operator.Operator.TheVariants.{FormQuery, FormContinuation}
 use Rattle.iri_template.specs.declared.part.Expression.{Expression}
 use Rattle.iri_template.specs.declared.part.Part.TheVariants as part
 

@@ -1,22 +1,19 @@
 -- What is written for the events of a value is what is written for the value.
-use Rattle.std.proofs.Common.{◌≡◌, ℕ, Bool, true, false, cond, not, ◌&&◌, ◌||◌, List, [], ◌∷◌, ◌++◌, None, map, refl, sym, ◌∙◌, ap}
-use Rattle.std.proofs.Common.{append_assoc, append-nil}
-use Rattle.iri_grammar.specs.Classes.{Tests}
+use Rattle.iri_template.proofs.Common.{◌≡◌, ℕ, Bool, true, false, cond, not, ◌&&◌, ◌||◌, List, [], ◌∷◌, ◌++◌, None, map, refl, sym, ◌∙◌, ap}
+use Rattle.iri_template.proofs.Common.{append_assoc, append-nil, Tests, texts, row_of, shown_text, value_texts, ShownValue, undefined}
+use Rattle.iri_template.proofs.Common.{string, list, pairs, led, has_texts, WriteState, event_step, event_text, told_texts, Operator}
 use Rattle.std.proofs.Math.Bool.{or-false, or-true}
 use Rattle.std.proofs.lemmas.Bool.{and_right}
 use Rattle.std.proofs.lemmas.Simd.{map-map}
 use Rattle.iri_grammar.specs.Pieces.{joined}
-use Rattle.iri_text.specs.inside.Through.{after, texts}
-use Rattle.iri_template.specs.Template as template
+use Rattle.iri_text.specs.inside.Through.{after}
 use Rattle.iri_template.specs.Events.{Event, Item, Finished, telling, entry_of}
-use Rattle.iri_template.specs.Expansion.{Row, row_of, shown_text, shown_pair, named_text, pair_with, in_one, expression_text, value_texts}
-use Rattle.iri_template.specs.ShownValues.{ShownValue, undefined, string, list, pairs}
+use Rattle.iri_template.specs.Expansion.{Row, shown_pair, named_text, pair_with, in_one, expression_text}
 use Rattle.iri_template.specs.VarSpecs.{held}
-use Rattle.iri_template.specs.Led.{lead, led, has_texts}
-use Rattle.iri_template.specs.inside.Written.{WriteState, explodes, name_part, item_lead, entry_lead, entry_delimiter, event_step}
-use Rattle.iri_template.specs.inside.Written.{event_text, told_texts}
-use Rattle.iri_template.specs.declared.operator.Operator.{Operator}
+use Rattle.iri_template.specs.Led.{lead}
+use Rattle.iri_template.specs.inside.Written.{explodes, name_part, item_lead, entry_lead, entry_delimiter}
 use Rattle.iri_template.specs.declared.varspec.Modifier.{Modifier}
+use Rattle.iri_template.specs.Template as template
 
 -- the texts of a varspec, as it is held
 pub held_texts : (s : Tests) (row : Row) (name : List ℕ) (m : template.Modifier) (v : ShownValue)

@@ -1,38 +1,32 @@
 -- What is written for a text that comes character by character is what its units are written as; and the unit at the start of what is held back.
-use Rattle.std.proofs.Common.{◌≡◌, ℕ, zero, suc, ◌*◌, ◌-◌, ◌<◌, ◌≤◌, Bool, true, false, cond, not, ◌&&◌, ◌||◌, List, [], ◌∷◌, ◌++◌, Option}
-use Rattle.std.proofs.Common.{Some, None, length, take, drop, refl, sym, ◌∙◌, ap, arith, append_assoc, append-nil, length-drop, subst}
+use Rattle.iri_template.proofs.Common.{◌≡◌, ℕ, zero, suc, ◌*◌, ◌-◌, ◌<◌, ◌≤◌, Bool, true, false, cond, not, ◌&&◌, ◌||◌, List, [], ◌∷◌, ◌++◌}
+use Rattle.iri_template.proofs.Common.{Option, Some, None, length, take, drop, refl, sym, ◌∙◌, ap, arith, append_assoc, append-nil}
+use Rattle.iri_template.proofs.Common.{length-drop, subst, ◌==◌, is_some, nat_le, flat_map, is_ascii_hexdigit, len_utf8, encode_utf8, both}
+use Rattle.iri_template.proofs.Common.{not-true, nat_tests, len_utf8_bounds, chars-nil, Tests, any_char, is_ascii_any, is_ascii_reg_name}
+use Rattle.iri_template.proofs.Common.{is_ascii_unreserved, is_sub_delim, is_gen_delim, TextUnit, Plain, first_unit, units, texts, limited}
+use Rattle.iri_template.proofs.Common.{kept_unit, is_part, is_closed, after_unit, told_units, left_over, fewer, step_units, step_pending}
+use Rattle.iri_template.proofs.Common.{is_used_up, next_state, unit_step, written_units, unit_step_text, begins_triplet, Units, IsUtf8}
+use Rattle.iri_template.proofs.Common.{chars, lacks, by_test, keeps, encoded_char, encoded, unit_at, TellsNone, IsUnit}
 use Rattle.std.proofs.Common.{eqb-true}
-use Rattle.std.specs.Prelude.{◌==◌, is_some, nat_le, slice_index}
-use Rattle.std.specs.List.{flat_map}
-use Rattle.std.specs.Char.{is_ascii_hexdigit, len_utf8, encode_utf8}
-use Rattle.std.proofs.lemmas.Bool.{and_parts as both, not-true, or_right}
-use Rattle.std.proofs.lemmas.Bool.Decides.{nat_tests}
+use Rattle.std.specs.Prelude.{slice_index}
+use Rattle.std.proofs.lemmas.Bool.{or_right}
 use Rattle.std.proofs.lemmas.Grind.{flat_map-append}
-use Rattle.std.proofs.lemmas.List.{take-append-le, drop-append-le, length-take-le}
-use Rattle.std.proofs.lemmas.Str.{len_utf8_bounds, chars-nil, encodes-chars, encode_ascii, chars-IsAscii}
-use Rattle.iri_grammar.specs.Classes.{Tests, any_char, IsSpec, is_ascii_any, is_ascii_reg_name, is_ascii_unreserved, is_sub_delim}
-use Rattle.iri_grammar.specs.Classes.{is_gen_delim}
-use Rattle.iri_percent.specs.Units.{TextUnit, Plain, Char, Stray, is_triplet, octet, octets, well_formed, first_char, triplet_unit}
-use Rattle.iri_percent.specs.Units.{byte_unit, first_unit, unit_text, units_from, units, Lone}
+use Rattle.std.proofs.lemmas.List.{drop-append-le, length-take-le}
+use Rattle.std.proofs.lemmas.Str.{encodes-chars, encode_ascii, chars-IsAscii}
+use Rattle.iri_grammar.specs.Classes.{IsSpec}
+use Rattle.iri_percent.specs.Units.{Char, Stray, is_triplet, octet, octets, well_formed, first_char, triplet_unit, byte_unit, unit_text}
+use Rattle.iri_percent.specs.Units.{units_from, Lone}
 use Rattle.iri_percent.proofs.UnitTexts.{some_taken}
 use Rattle.iri_percent.proofs.UnitLaws.{first_char_is, char_first, octets_other, byte_other, units_from_drop}
 use Rattle.iri_percent.specs.DelimiterLaws.{IsOutsideTriplets}
 use Rattle.iri_percent.proofs.DelimiterLaws.{char_within, unit_within, units_delimiter, triplet_more}
 use Rattle.iri_percent.proofs.Characters.{first_of_four}
-use Rattle.iri_text.specs.inside.Through.{after, texts}
-use Rattle.iri_template.specs.Expansion.{limited, kept_unit}
-use Rattle.iri_template.specs.inside.UnitSteps.{is_part, is_closed, is_settled, after_unit, told_units, left_over, fewer, step_units}
-use Rattle.iri_template.specs.inside.UnitSteps.{step_pending, is_used_up, next_state, unit_step, written_units, unit_step_text}
-use Rattle.iri_template.specs.inside.UnitSteps.{begins_triplet}
-use Rattle.iri_template.specs.declared.units.Units.{Units}
-use Rattle.std.specs.Str.{IsUtf8, chars, IsAscii}
+use Rattle.iri_text.specs.inside.Through.{after}
+use Rattle.iri_template.specs.inside.UnitSteps.{is_settled}
+use Rattle.std.specs.Str.{IsAscii}
 use lib.Utf8.{encode, encodes}
-use Rattle.iri_grammar.specs.Cut.{lacks}
-use Rattle.iri_grammar.proofs.CutLaws.{by_test}
-use Rattle.iri_percent.specs.Encoding.{keeps, encoded_char, encoded}
 use Rattle.iri_percent.specs.declared.context.Context.TheVariants.{Any}
 use Rattle.iri_percent.specs.Mapping.{triplets}
-use Rattle.iri_template.specs.inside.UnitViews.{unit_at, TellsNone, IsUnit}
 
 -- ---- octets, whatever follows
 more_octets : (t r : List ℕ) → (zs : List ℕ) × (octets (t ++ r) ≡ octets t ++ zs)

@@ -1,22 +1,15 @@
 -- A varspec has no fault exactly where it is one.
-use Rattle.std.proofs.Common.{◌≡◌, ◌≢◌, ℕ, zero, suc, ◌+◌, true, false, cond, Bool, not, ◌&&◌, List, [], ◌∷◌, ◌++◌, length, map}
-use Rattle.std.proofs.Common.{Some, None, refl, sym, ◌∙◌, ap, arith}
-use Rattle.std.specs.Prelude.{◌==◌, nat_lt, nat_le}
-use Rattle.std.specs.Char.{is_ascii_digit, is_ascii_hexdigit}
-use Rattle.std.specs.List.{list_all}
-use Rattle.std.proofs.lemmas.Bool.{and_parts as both, not-true, leb-true}
-use Rattle.std.proofs.lemmas.Bool.Decides.{nat_tests}
-use Rattle.iri_grammar.proofs.CutLaws.{by_test}
-use Rattle.iri_grammar.specs.Delimiters.{before_any, from_any}
-use Rattle.iri_grammar.specs.Over.{over, over_from}
-use Rattle.iri_grammar.specs.Runs.{run_of}
+use Rattle.iri_template.proofs.Common.{◌≡◌, ◌≢◌, ℕ, zero, suc, ◌+◌, true, false, cond, Bool, not, ◌&&◌, List, [], ◌∷◌, ◌++◌, length, map}
+use Rattle.iri_template.proofs.Common.{Some, None, refl, sym, ◌∙◌, ap, arith, ◌==◌, nat_le, is_ascii_digit, is_ascii_hexdigit, list_all}
+use Rattle.iri_template.proofs.Common.{both, not-true, nat_tests, by_test, before_any, from_any, over, over_from, run_of, Modifier, whole}
+use Rattle.iri_template.proofs.Common.{explode, prefix, VarSpec, is_varspec, modifier_text, varspec_text, ends_name, name_of, varspec_of}
+use Rattle.iri_template.proofs.Common.{fault, moved, first, unless, modifier_fault, varspec_fault, varspecs_fault, Error, InvalidExpression}
+use Rattle.std.specs.Prelude.{nat_lt}
+use Rattle.std.proofs.lemmas.Bool.{leb-true}
 use Rattle.iri_template.specs.Names.{is_name_char, is_varname, begins_name}
-use Rattle.iri_template.specs.Template.{Modifier, whole, explode, prefix, VarSpec, is_max_length, is_modifier, is_varspec, modifier_text}
-use Rattle.iri_template.specs.Template.{varspec_text}
-use Rattle.iri_template.specs.Reading.{ends_name, name_of, modifier_of, varspec_of}
-use Rattle.iri_template.specs.Fault.{fault, moved, first, unless, max_length_fault, modifier_fault, varspec_fault, varspecs_fault}
-use Rattle.iri_template.specs.declared.error.Error.{Error}
-use Rattle.iri_template.specs.declared.error.ErrorKind.TheVariants.{InvalidExpression}
+use Rattle.iri_template.specs.Template.{is_max_length, is_modifier}
+use Rattle.iri_template.specs.Reading.{modifier_of}
+use Rattle.iri_template.specs.Fault.{max_length_fault}
 use Rattle.iri_template.proofs.FaultLemmas.{unmoved, neither, passed}
 use Rattle.iri_grammar.proofs.DelimiterLemmas.{run_of_all}
 use Rattle.iri_grammar.proofs.LiteralChars.{all-join as all_append, all-weaken}

@@ -1,30 +1,14 @@
 -- A walk over varspecs without a fault, where values may change: the portions of those that are left.
-use Rattle.std.proofs.Common.{◌≡◌, ℕ, ◌+◌, ◌-◌, ◌*◌, Bool, true, false, cond, ◌||◌, List, [], ◌∷◌, Option, None, Some, length, map, refl, sym, ◌∙◌}
-use Rattle.std.proofs.Common.{ap, subst, arith, Ok, Err}
-use denote.Ref.{Bor}
-use Rattle.iri_grammar.specs.Classes.{Tests}
-use Rattle.iri_grammar.specs.Cut.{before, after}
-use Rattle.iri_grammar.specs.Pieces.{pieces}
-use Rattle.iri_grammar.specs.OptionalSlices.{now_of}
-use Rattle.iri_text.specs.Shown.{AreSinkLaws}
-use Rattle.iri_template.specs.Expansion.{row_of, value_texts}
-use Rattle.iri_template.specs.Fault.{fault, moved, varspec_fault}
-use Rattle.iri_template.specs.Led.{led, has_texts}
-use Rattle.iri_template.specs.Left.{varspecs_left}
-use Rattle.iri_template.specs.Portions.{Portion, varspec_portions, portions_fault, calls_in}
-use Rattle.iri_template.specs.Reading.{varspec_of}
-use Rattle.iri_template.specs.Template.{VarSpec as TemplateVarSpec, varspec_text}
-use Rattle.iri_template.specs.Tells.{Telling, later, WhereTold, MovesBy}
-use Rattle.iri_template.specs.TypeFaults.{is_mistyped, is_mistyped_as}
+use Rattle.iri_template.proofs.Common.{◌≡◌, ℕ, ◌+◌, ◌-◌, ◌*◌, Bool, true, false, cond, ◌||◌, List, [], ◌∷◌, Option, None, Some, length, map}
+use Rattle.iri_template.proofs.Common.{refl, sym, ◌∙◌, ap, subst, arith, Ok, Err, Bor, Tests, before, after, pieces, now_of, AreSinkLaws}
+use Rattle.iri_template.proofs.Common.{row_of, value_texts, fault, moved, varspec_fault, led, has_texts, varspecs_left, Portion}
+use Rattle.iri_template.proofs.Common.{varspec_portions, portions_fault, calls_in, varspec_of, varspec_text, Telling, later, WhereTold}
+use Rattle.iri_template.proofs.Common.{MovesBy, is_mistyped, is_mistyped_as, EndsAs, CallsUpTo, told_texts, Error, UnexpectedValueType}
+use Rattle.iri_template.proofs.Common.{Operator, Typecheck, Expand}
+use Rattle.iri_template.specs.Template.{VarSpec as TemplateVarSpec}
 use Rattle.iri_template.specs.VarSpecs.{IsHeld}
-use Rattle.iri_template.specs.Writings.{EndsAs, CallsUpTo}
 use Rattle.iri_template.specs.inside.Checked.{held_portion}
-use Rattle.iri_template.specs.inside.Written.{told_texts}
-use Rattle.iri_template.specs.declared.error.Error.{Error}
-use Rattle.iri_template.specs.declared.error.ErrorKind.TheVariants.{UnexpectedValueType}
-use Rattle.iri_template.specs.declared.operator.Operator.{Operator}
 use Rattle.iri_template.specs.declared.varspec.VarSpec.{VarSpec}
-use Rattle.iri_template.specs.declared.visitor.VisitPurpose.TheVariants.{Typecheck, Expand}
 use Rattle.iri_template.proofs.PortionWalk.{HasEnded, ended_none, ended_more, ended_exit, ended_calls, ended_end, BothTold, moved_on}
 use Rattle.iri_template.proofs.VarSpecWalk.{cut_spec, held_spec, mistyped_spec, spec_len}
 

@@ -1,30 +1,16 @@
 -- A walk over varspecs: their faults, one by one, what is written of them, and their values' types.
-use Rattle.std.proofs.Common.{◌≡◌, ℕ, ◌+◌, ◌-◌, true, false, cond, Bool, List, ◌∷◌, length, map, Option, Some, None, refl, sym, ◌∙◌, ap}
-use Rattle.std.proofs.Common.{arith, length-append, []}
-use Rattle.iri_grammar.specs.Cut.{before, after, delimited}
-use Rattle.iri_grammar.proofs.CutLaws.{joined}
-use Rattle.iri_grammar.specs.Delimiters.{from_any}
-use Rattle.iri_grammar.specs.Pieces.{pieces}
+use Rattle.iri_template.proofs.Common.{◌≡◌, ℕ, ◌+◌, ◌-◌, true, false, cond, Bool, List, ◌∷◌, length, map, Option, Some, None, refl, sym}
+use Rattle.iri_template.proofs.Common.{◌∙◌, ap, arith, length-append, [], before, after, delimited, joined, from_any, pieces, is_varname}
+use Rattle.iri_template.proofs.Common.{ends_name, name_of, varspec_of, pieces_of, fault, moved, first, unless, name_fault, modifier_fault}
+use Rattle.iri_template.proofs.Common.{varspec_fault, varspecs_fault, text_fault, Error, InvalidExpression, UnexpectedValueType, Bor}
+use Rattle.iri_template.proofs.Common.{now_of, varspecs_left, Tests, Piece, literal, triplet, expression, operator_text, varspec_text}
+use Rattle.iri_template.proofs.Common.{piece_text, row_of, ShownValue, undefined, is_mistyped, is_mistyped_as, varspecs_type_fault}
+use Rattle.iri_template.proofs.Common.{type_fault_from, type_fault, untold, told_texts, Operator}
 use Rattle.iri_grammar.specs.inside.PiecesLaws.{more_pieces}
 use Rattle.iri_grammar.proofs.PiecesLaws.{pieces_cut}
-use Rattle.iri_template.specs.Names.{is_varname}
-use Rattle.iri_template.specs.Reading.{ends_name, name_of, varspec_of, pieces_of}
-use Rattle.iri_template.specs.Fault.{fault, moved, first, unless, name_fault, modifier_fault, varspec_fault, varspecs_fault, text_fault}
-use Rattle.iri_template.specs.declared.error.Error.{Error}
-use Rattle.iri_template.specs.declared.error.ErrorKind.TheVariants.{InvalidExpression, UnexpectedValueType}
 use Rattle.iri_template.proofs.FaultLemmas.{moved_moved, unmoved, varspecs_moved, moved_none, first_first, first_none}
-use denote.Ref.{Bor}
-use Rattle.iri_grammar.specs.OptionalSlices.{now_of}
-use Rattle.iri_template.specs.Left.{varspecs_left}
-use Rattle.iri_grammar.specs.Classes.{Tests}
-use Rattle.iri_template.specs.Template.{Piece, literal, triplet, expression, operator_text, varspec_text, piece_text}
-use Rattle.iri_template.specs.Expansion.{row_of, varspec_texts}
-use Rattle.iri_template.specs.ShownValues.{ShownValue, undefined}
-use Rattle.iri_template.specs.TypeFaults.{is_mistyped, is_mistyped_as, varspecs_type_fault, type_fault_from, type_fault}
+use Rattle.iri_template.specs.Expansion.{varspec_texts}
 use Rattle.iri_template.specs.VarSpecs.{held, IsHeld}
-use Rattle.iri_template.specs.inside.ByPurpose.{untold}
-use Rattle.iri_template.specs.inside.Written.{told_texts}
-use Rattle.iri_template.specs.declared.operator.Operator.{Operator}
 use Rattle.iri_template.specs.declared.varspec.VarSpec.{VarSpec}
 use Rattle.iri_template.proofs.Telling.{held_texts}
 use Rattle.iri_template.proofs.VarSpecLemmas.{varspec_is}

@@ -1,10 +1,8 @@
 -- How calls of one visitor compose, and how a loop tells the members of a value one by one, with those that are left.
-use Rattle.std.proofs.Common.{◌≡◌, ◌<◌, ◌+◌, ℕ, List, [], ◌∷◌, ◌++◌, length, get_or, drop, map, ◌∙◌, ap, sym, subst, append_assoc, append-nil}
-use Rattle.std.proofs.Common.{Result, Ok, Err, IsErr}
+use Rattle.iri_template.proofs.Common.{◌≡◌, ◌<◌, ◌+◌, ℕ, List, [], ◌∷◌, ◌++◌, length, get_or, drop, map, ◌∙◌, ap, sym, subst, append_assoc}
+use Rattle.iri_template.proofs.Common.{append-nil, Result, Ok, Err, IsErr, AreSinkLaws, HasShown, shown_more, shown_exit, shows_exit, Stop}
 use Rattle.std.proofs.lemmas.List.{map-append, drop_more}
-use Rattle.iri_text.specs.Shown.{AreSinkLaws}
-use Rattle.iri_text.proofs.Compose.{HasShown, shown_more, shown_then, shown_exit, shows_exit}
-use Rattle.iri_text.specs.declared.shown.show.Stop.{Stop}
+use Rattle.iri_text.proofs.Compose.{shown_then}
 use Rattle.iri_template.specs.Events.{Event, Finished}
 use Rattle.iri_template.specs.Visits.{Visits}
 use Rattle.iri_template.specs.declared.visitor.VisitPurpose.{VisitPurpose}

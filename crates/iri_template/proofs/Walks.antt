@@ -1,11 +1,8 @@
 -- A walk over a template without a fault.
-use Rattle.std.proofs.lemmas.List.{nil_from_length}
-use Rattle.std.proofs.Common.{◌≡◌, ℕ, zero, suc, ◌+◌, ◌-◌, List, [], ◌∷◌, ◌++◌, length, map, Some, None, refl, sym}
-use Rattle.std.proofs.Common.{◌∙◌, ap, arith, append_assoc}
-use Rattle.iri_template.specs.Template.{Piece, literal, names_of, piece_names}
-use Rattle.iri_template.specs.Reading.{piece_len}
-use Rattle.iri_template.specs.Fault.{moved, first, piece_fault, fault_from, text_fault}
-use Rattle.iri_template.specs.declared.error.Error.{Error}
+use Rattle.iri_template.proofs.Common.{nil_from_length, ◌≡◌, ℕ, zero, suc, ◌+◌, ◌-◌, List, [], ◌∷◌, ◌++◌, length, map, Some, None, refl}
+use Rattle.iri_template.proofs.Common.{sym, ◌∙◌, ap, arith, append_assoc, Piece, literal, names_of, piece_len, moved, first, piece_fault}
+use Rattle.iri_template.proofs.Common.{fault_from, text_fault, Error}
+use Rattle.iri_template.specs.Template.{piece_names}
 use Rattle.iri_template.proofs.FaultLemmas.{moved_moved, moved_first, unmoved}
 
 pub nothing_left : (at : ℕ) (t : List ℕ) → length t ≡ 0 → fault_from 0 at t ≡ None

@@ -1,31 +1,19 @@
 -- What a visitor that writes has done of a value, whose type it checks, and how it has ended then.
-use Rattle.std.proofs.Common.{◌≡◌, ℕ, Bool, true, false, cond, ◌&&◌, ◌||◌, List, [], ◌∷◌, ◌++◌, map, refl, sym, ◌∙◌, ap, Option, None, Some}
-use Rattle.std.proofs.Common.{subst, append-nil, Result, Ok, Err}
-use Rattle.iri_grammar.specs.Classes.{Tests}
-use Rattle.iri_text.specs.inside.Through.{after, texts}
+use Rattle.iri_template.proofs.Common.{◌≡◌, ℕ, Bool, true, false, cond, ◌&&◌, ◌||◌, List, [], ◌∷◌, ◌++◌, map, refl, sym, ◌∙◌, ap, Option}
+use Rattle.iri_template.proofs.Common.{None, Some, subst, append-nil, Result, Ok, Err, Tests, texts, ShownValue, undefined, string, list}
+use Rattle.iri_template.proofs.Common.{pairs, is_mistyped_as, WriteState, event_step, event_text, AreSinkLaws, Shows, Stop, row_of, fault}
+use Rattle.iri_template.proofs.Common.{led, has_texts, Portion, Telling, WhereTold, EndsAs, Error, WriteFailed, UnexpectedValueType, Expand}
+use Rattle.iri_text.specs.inside.Through.{after}
 use Rattle.iri_template.specs.Events.{Event, Undefined, StringTold, ListBegun, Item, PairsBegun, Entry, Finished, telling, entry_of}
-use Rattle.iri_template.specs.ShownValues.{ShownValue, undefined, string, list, pairs}
-use Rattle.iri_template.specs.TypeFaults.{is_mistyped_as}
 use Rattle.iri_template.specs.inside.Checked.{has_prefix, CheckState, refuses, is_misfit, checked_step, checked_text, is_put, puts_some}
 use Rattle.iri_template.specs.inside.Checked.{state_texts, state_portion}
 use Rattle.iri_template.specs.inside.Members.{is_member}
-use Rattle.iri_template.specs.inside.Written.{WriteState, event_step, event_text, write_state}
+use Rattle.iri_template.specs.inside.Written.{write_state}
 use Rattle.iri_template.specs.declared.varspec.Modifier.{Modifier}
 use Rattle.iri_template.specs.declared.varspec.Modifier.TheVariants.{Whole, Explode, Prefix}
-use Rattle.iri_text.specs.Shown.{AreSinkLaws, Shows}
-use Rattle.iri_text.specs.declared.shown.show.Stop.{Stop}
-use Rattle.iri_template.specs.Expansion.{row_of}
-use Rattle.iri_template.specs.Fault.{fault}
-use Rattle.iri_template.specs.Led.{led, has_texts}
-use Rattle.iri_template.specs.Portions.{Portion}
-use Rattle.iri_template.specs.Tells.{Telling, WhereTold}
-use Rattle.iri_template.specs.Writings.{EndsAs}
 use Rattle.iri_template.specs.inside.WriterHears.{WriterHears, WriterHalts, state_of}
-use Rattle.iri_template.specs.declared.error.Error.{Error}
-use Rattle.iri_template.specs.declared.error.ErrorKind.TheVariants.{WriteFailed, UnexpectedValueType}
 use Rattle.iri_template.specs.declared.value_writer.ExpressionState.{ExpressionState}
 use Rattle.iri_template.specs.declared.value_writer.ValueWriter.{ValueWriter}
-use Rattle.iri_template.specs.declared.visitor.VisitPurpose.TheVariants.{Expand}
 use Rattle.iri_template.proofs.Telling.{told_text, told_written}
 
 abbrev pub checking : WriteState → Bool → CheckState

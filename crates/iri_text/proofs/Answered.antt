@@ -1,14 +1,11 @@
 -- What follows from an answer of a reader of lines.
-use Rattle.std.proofs.Common.{◌≡◌, ℕ, ◌+◌, ◌-◌, ◌≤◌, true, false, List, [], ◌∷◌, ◌++◌, length, Option, None, Some, Result, Ok, Err, Bool}
-use Rattle.std.proofs.Common.{sym, ◌∙◌, ap, arith, append_assoc, length-append, ⊎_elim}
-use Rattle.std.proofs.lemmas.List.{append-nil}
-use Rattle.iri_text.specs.Source.{Consumes}
+use Rattle.iri_text.proofs.Common.{◌≡◌, ℕ, ◌+◌, ◌-◌, ◌≤◌, List, [], ◌∷◌, ◌++◌, length, Option, None, Some, Result, Ok, Err, sym, ◌∙◌, ap}
+use Rattle.iri_text.proofs.Common.{arith, append_assoc, length-append, append-nil, Consumes, LineState, Source, LineTooLong, InputTooLong}
+use Rattle.std.proofs.Common.{true, false, Bool, ⊎_elim}
 use Rattle.iri_text.specs.Lines.{lines}
 use Rattle.iri_text.specs.Limits.{limit_fault, limit_told}
-use Rattle.iri_text.specs.Line.{LineState}
 use Rattle.iri_text.specs.Reader.{Says, GivesLine, GivesNext}
 use Rattle.iri_text.specs.declared.streams.reader.LineFault.{LineFault}
-use Rattle.iri_text.specs.declared.streams.reader.LineFault.TheVariants.{Source, LineTooLong, InputTooLong}
 use Rattle.iri_text.proofs.LinesLemmas.{lines-lf, lines-last}
 use Rattle.iri_text.proofs.LimitsLemmas.{none-lf, none, long, over}
 

@@ -1,9 +1,6 @@
 -- The laws of sinks whose relations go by characters.
-use Rattle.std.specs.Prelude.{ℕ, List, ◌++◌}
-use Rattle.std.specs.Str.{chars}
-use Rattle.std.proofs.Common.{sym, ◌∙◌, ap, subst, append_assoc}
-use Rattle.std.proofs.lemmas.Str.{IsUtf8-append, IsUtf8-nil, chars-append, chars-nil}
-use Rattle.iri_text.specs.Shown.{AreSinkLaws}
+use Rattle.iri_text.proofs.Common.{ℕ, List, ◌++◌, chars, sym, ◌∙◌, ap, subst, append_assoc, IsUtf8-append, chars-nil, AreSinkLaws}
+use Rattle.std.proofs.lemmas.Str.{IsUtf8-nil, chars-append}
 use Rattle.iri_text.specs.inside.ByChars.{CharsPut, CharsHalt}
 
 module _ {V : Type 0} {puts halts : V → List ℕ → V → Type 0} (laws : AreSinkLaws puts halts) where

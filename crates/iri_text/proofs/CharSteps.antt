@@ -1,11 +1,9 @@
 -- The characters of a text, one by one.
-use Rattle.std.specs.Prelude.{◌≡◌, ℕ, List, [], ◌∷◌, ◌++◌, length}
-use Rattle.std.specs.Str.{IsUtf8, chars}
+use Rattle.iri_text.proofs.Common.{◌≡◌, ℕ, List, [], ◌∷◌, ◌++◌, length, IsUtf8, chars, sym, ◌∙◌, ap, chars-nil}
 use Rattle.std.specs.Char.{encode_utf8}
-use Rattle.std.proofs.Common.{sym, ◌∙◌, ap}
 use Rattle.std.proofs.lemmas.List.{nil_from_length}
 use Rattle.std.proofs.lemmas.Bool.{and_parts}
-use Rattle.std.proofs.lemmas.Str.{chars_from_encodes, cons_from_encodes, chars-nil}
+use Rattle.std.proofs.lemmas.Str.{chars_from_encodes, cons_from_encodes}
 use lib.Utf8.{scalar, scalars}
 
 pub record FirstChar (bs rest : List ℕ) (c : ℕ) : Type 0 where

@@ -1,8 +1,7 @@
 -- How calls that put texts into one sink compose: what the proof of a `show` of several puts cites.
-use Rattle.std.proofs.Common.{◌≡◌, ◌≤◌, ◌<◌, ℕ, zero, suc, List, [], ◌∷◌, ◌++◌, length, get_or, take, drop, ◌∙◌, ap, arith, append_assoc}
-use Rattle.std.proofs.Common.{Result, Ok, Err, IsErr}
+use Rattle.iri_text.proofs.Common.{◌≡◌, ◌≤◌, ◌<◌, ℕ, zero, suc, List, [], ◌∷◌, ◌++◌, length, get_or, take, drop, ◌∙◌, ap, arith}
+use Rattle.iri_text.proofs.Common.{append_assoc, Result, Ok, Err, IsErr, AreSinkLaws, Shows}
 use Rattle.std.specs.List.{flat_map}
-use Rattle.iri_text.specs.Shown.{AreSinkLaws, Shows}
 use Rattle.iri_text.specs.declared.shown.show.Stop.{Stop}
 
 -- The whole text went in: what a loop of puts keeps true of what it has put so far.

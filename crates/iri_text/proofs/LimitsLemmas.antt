@@ -1,10 +1,7 @@
 -- The limit that is passed first.
+use Rattle.iri_text.proofs.Common.{append-nil, nat_tests, NoLf, LineTooLong, InputTooLong}
 use Rattle.std.proofs.Common.{◌≡◌, ◌≢◌, ℕ, ◌+◌, ◌<◌, ◌≤◌, List, [], ◌∷◌, ◌++◌, length, None, Some, sym, ◌∙◌, ap, arith, add-zero}
-use Rattle.std.proofs.lemmas.List.{append-nil}
-use Rattle.std.proofs.lemmas.Bool.Decides.{nat_tests}
-use Rattle.iri_text.specs.Lines.{NoLf}
 use Rattle.iri_text.specs.Limits.{limit_fault}
-use Rattle.iri_text.specs.declared.streams.reader.LineFault.TheVariants.{LineTooLong, InputTooLong}
 
 module _ (line input : ℕ) where
   -- one byte of a line

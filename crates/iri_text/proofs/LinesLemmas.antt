@@ -1,7 +1,6 @@
 -- The lines of a text, one after another.
-use Rattle.std.proofs.Common.{◌≡◌, ◌≢◌, ◌≤◌, ◌==◌, length, true, false, if◌then◌else◌, ℕ, List, [], ◌∷◌, ◌++◌, refl, sym, ◌∙◌, ap, arith, append_assoc}
-use Rattle.std.proofs.lemmas.List.{append-nil}
-use Rattle.std.proofs.lemmas.Bool.Decides.{nat_tests}
+use Rattle.iri_text.proofs.Common.{◌≡◌, ◌≤◌, length, ℕ, List, [], ◌∷◌, ◌++◌, refl, sym, ◌∙◌, ap, arith, append_assoc, append-nil, nat_tests}
+use Rattle.std.proofs.Common.{◌≢◌, ◌==◌, true, false, if◌then◌else◌}
 use Rattle.iri_text.specs.Lines.{NoLf, ended_from, no_cr, last_line, lines, lines_from}
 
 -- one byte of a line

@@ -1,9 +1,8 @@
 -- What a call of a reader has moved so far.
-use Rattle.std.proofs.Common.{◌≡◌, ◌⊎◌, ℕ, ◌+◌, List, [], ◌∷◌, ◌++◌, length, Option, None, Some, refl, subst, sym, ◌∙◌, ap, arith, inl}
-use Rattle.std.proofs.Common.{append_assoc, length-append}
-use Rattle.iri_text.specs.Source.{Consumes, IsAtEnd}
-use Rattle.iri_text.specs.Lines.{NoLf}
-use Rattle.iri_text.specs.Line.{LineState}
+use Rattle.iri_text.proofs.Common.{◌≡◌, ℕ, ◌+◌, List, [], ◌∷◌, ◌++◌, length, Option, None, Some, refl, subst, sym, ◌∙◌, ap, arith, inl}
+use Rattle.iri_text.proofs.Common.{append_assoc, length-append, Consumes, NoLf, LineState}
+use Rattle.std.proofs.Common.{◌⊎◌}
+use Rattle.iri_text.specs.Source.{IsAtEnd}
 
 pub record Moved (old now : LineState) (left_old left_now : Option (List ℕ)) : Type 0 where
   pub moved : List ℕ

@@ -1,15 +1,13 @@
 -- Parts of a list, and lines in them.
-use Rattle.std.proofs.Common.{◌≡◌, ◌≢◌, inl, inr, ℕ, zero, suc, ◌+◌, ◌-◌, ◌<◌, ◌≤◌, List, [], ◌∷◌, ◌++◌, length, get_or, take, drop}
-use Rattle.std.proofs.Common.{slice_range, Option, None, Some, MatchOption, refl, sym, ◌∙◌, ap, subst, arith, take-add, drop-drop, eq-eqb}
-use Rattle.std.proofs.Common.{eqb-true, false}
+use Rattle.iri_text.proofs.Common.{◌≡◌, inl, inr, ℕ, zero, suc, ◌+◌, ◌-◌, ◌<◌, ◌≤◌, List, [], ◌∷◌, ◌++◌, length, get_or, take, drop}
+use Rattle.iri_text.proofs.Common.{slice_range, Option, None, Some, refl, sym, ◌∙◌, ap, subst, arith, take_all, nat_tests, NoLf, no_cr}
+use Rattle.std.proofs.Common.{◌≢◌, MatchOption, take-add, drop-drop, eq-eqb, eqb-true, false}
 use Rattle.std.proofs.Math.Seq.{take-suc, take-length}
 use Rattle.std.proofs.Math.Dec.{ltb}
 use Rattle.std.proofs.lemmas.Bool.{ltb-false, le-ltb, cases_lt}
-use Rattle.std.proofs.lemmas.List.{take_all, take_at}
-use Rattle.std.proofs.lemmas.Bool.Decides.{nat_tests}
+use Rattle.std.proofs.lemmas.List.{take_at}
 use Rattle.std.proofs.lemmas.Grind.{common_steps}
 use Rattle.memchr.specs.Find.{IsFirstByte, is_byte}
-use Rattle.iri_text.specs.Lines.{NoLf, no_cr}
 use Rattle.iri_text.specs.Line.{IsFirstLf}
 
 pub length-part : (xs : List ℕ) (a b : ℕ) → b ≤ length xs → length (slice_range xs a b) ≡ b - a

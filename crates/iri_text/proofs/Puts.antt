@@ -1,7 +1,6 @@
 -- How calls that write pieces compose.
-use Rattle.std.proofs.Common.{ℕ, ◌+◌, ◌≤◌, List, [], ◌++◌, length, Option, None, Some, Result, Ok, Err, IsErr, sym, ◌∙◌, ap, arith}
-use Rattle.std.proofs.Common.{append_assoc, length-append}
-use Rattle.std.proofs.lemmas.List.{append-nil}
+use Rattle.iri_text.proofs.Common.{ℕ, ◌+◌, ◌≤◌, List, [], ◌++◌, length, Option, None, Some, Result, Ok, Err, IsErr, sym, ◌∙◌, ap, arith}
+use Rattle.iri_text.proofs.Common.{append_assoc, length-append, append-nil}
 use Rattle.iri_text.specs.Sink.{Appends, AppendsPrefix, HasRoom, KeepsRoom, PutsAll, SinkState}
 use Rattle.iri_text.specs.declared.Failed.{Failed}
 

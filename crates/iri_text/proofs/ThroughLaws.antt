@@ -1,7 +1,5 @@
 -- What writes a text for each thing through to a sink obeys the laws of sinks, where that sink does.
-use Rattle.std.proofs.Common.{◌≡◌, ℕ, List, [], ◌∷◌, ◌++◌, refl, sym, ◌∙◌, ap, subst, append_assoc}
-use Rattle.std.proofs.lemmas.List.{append-nil}
-use Rattle.iri_text.specs.Shown.{AreSinkLaws}
+use Rattle.iri_text.proofs.Common.{◌≡◌, ℕ, List, [], ◌∷◌, ◌++◌, refl, sym, ◌∙◌, ap, subst, append_assoc, append-nil, AreSinkLaws}
 use Rattle.iri_text.specs.inside.Through.{after, texts, ThroughPuts, ThroughHalts}
 
 module _ {X S : Type 0} (step : S → X → S) (text : S → X → List ℕ) where

@@ -11,8 +11,7 @@ use Rattle.iri_grammar.proofs.SplitUnique.{fits-delimiters}
 use Rattle.iri_grammar.specs.WholeFault.{reference_fault, iri_fault, absolute_fault, relative_fault}
 use Rattle.iri_grammar.proofs.FaultLaws.{splits_where_no_fault, iri-law, absolute-law, relative-law}
 use Rattle.iri_types.specs.inside.KindLaws.{iri-whole}
-use Rattle.iri_grammar.proofs.KindLaws.{iri-has_scheme as iri-scheme}
-use Rattle.iri_grammar.proofs.KindLaws.{scheme_text-lacks, splits_without_fragment, without_fragment}
+use Rattle.iri_grammar.proofs.KindLaws.{iri-has_scheme as iri-scheme, scheme_text-lacks, splits_without_fragment, without_fragment}
 
 -- ---- a reference is an IRI where a scheme stands, and otherwise a relative reference
 pub reference-iri : (s : Tests) → IsSpec s → (t u : List ℕ) → reference_fault s t ≡ None → t ≡ u → (x : List ℕ)

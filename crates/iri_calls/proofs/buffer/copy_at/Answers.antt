@@ -1,6 +1,4 @@
-use Rattle.std.proofs.Common.{arith, sym, ◌≡◌, ◌<◌, ◌≤◌, ◌∙◌, ap, take, drop, ◌++◌, ◌+◌, ◌-◌, ℕ, List, length}
-use Rattle.std.proofs.lemmas.Grind.{common_steps}
-use Rattle.iri_calls.specs.inside.Placed.{over_at}
+use Rattle.iri_calls.proofs.Common.{arith, sym, ◌≡◌, ◌<◌, ◌≤◌, ◌∙◌, ap, take, drop, ◌++◌, ◌+◌, ◌-◌, ℕ, List, length, common_steps, over_at}
 use Rattle.iri_calls.specs.inside.PlacedLaws.{over_at-past, over_at-mid}
 use Rattle.iri_calls.proofs.buffer.copy_at.Goals as goal
 

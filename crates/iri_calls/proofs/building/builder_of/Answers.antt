@@ -1,6 +1,5 @@
-use Rattle.std.proofs.Common.{◌≡◌, ◌+◌, ◌∙◌, ap, arith, drop, refl, subst, suc, sym}
+use Rattle.iri_calls.proofs.Common.{◌≡◌, ◌+◌, ◌∙◌, ap, arith, drop, refl, subst, suc, sym, given_by, given_from}
 use Rattle.iri_edit.specs.Builders.{given}
-use Rattle.iri_calls.specs.Building.{given_by, given_from}
 use Rattle.iri_calls.proofs.BuildingLemmas.{given-next, given-done}
 use Rattle.iri_calls.proofs.building.builder_of.Goals as goal
 

@@ -1,6 +1,5 @@
-use Rattle.std.proofs.Common.{◌≡◌, drop}
+use Rattle.iri_calls.proofs.Common.{◌≡◌, drop, given_by, given_from}
 use Rattle.iri_edit.specs.Builders.{given}
-use Rattle.iri_calls.specs.Building.{given_by, given_from}
 use Rattle.iri_calls.proofs.building.builder_of.Given as goal
 
 -- the parts that are left make of what is given so far what all parts make

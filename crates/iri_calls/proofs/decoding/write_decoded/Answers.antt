@@ -1,5 +1,4 @@
-use Rattle.std.proofs.Common.{◌+◌, length, ap, sym, subst, ◌∙◌, arith, length-append}
-use Rattle.std.specs.List.{flat_map}
+use Rattle.iri_calls.proofs.Common.{◌+◌, length, ap, sym, subst, ◌∙◌, arith, length-append, flat_map}
 use Rattle.iri_percent.specs.Decoding.{fragments, fragment_bytes}
 use Rattle.iri_percent.specs.FragmentViews.{fragment, fragments_left}
 use Rattle.iri_percent.proofs.DecodingLemmas.{decoding-shorter}

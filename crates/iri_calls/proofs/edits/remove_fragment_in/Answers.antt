@@ -1,6 +1,4 @@
-use Rattle.std.proofs.Common.{ap, subst, ◌∙◌}
-use Rattle.iri_grammar.specs.Cut.{before}
-use Rattle.iri_calls.specs.Outcome.{Answered}
+use Rattle.iri_calls.proofs.Common.{ap, subst, ◌∙◌, before, Answered}
 use Rattle.iri_calls.proofs.EditLemmas.{cut_text}
 use Rattle.iri_calls.proofs.edits.remove_fragment_in.Goals as goal
 

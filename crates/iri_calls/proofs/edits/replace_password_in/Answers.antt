@@ -1,12 +1,7 @@
-use Rattle.std.proofs.Common.{refl, ap, subst, ◌∙◌}
+use Rattle.iri_calls.proofs.Common.{refl, ap, subst, ◌∙◌, InvalidUtf8, text_fault, no_text_fault, no_fault, Answered, text}
 use Rattle.iri_edit.specs.Password.{with_password}
 use Rattle.iri_edit.specs.Shown.{text_replaced}
-use Rattle.iri_grammar.specs.declared.error.ErrorKind.TheVariants.{InvalidUtf8}
-use Rattle.iri_types.proofs.Lemmas.{text_fault, no_text_fault}
 use Rattle.iri_types.specs.Texts.{text as text_in}
-use Rattle.iri_calls.specs.Encodings.{no_fault}
-use Rattle.iri_calls.specs.Outcome.{Answered}
-use Rattle.iri_calls.specs.Outcome.Outcome.{text}
 use Rattle.iri_calls.proofs.EditLemmas.{password_text, password_refused}
 use Rattle.iri_calls.proofs.edits.replace_password_in.Goals as goal
 

@@ -1,7 +1,4 @@
-use Rattle.std.proofs.Common.{◌++◌, ◌∷◌, ap, subst, ◌∙◌}
-use Rattle.iri_grammar.specs.Cut.{before}
-use Rattle.iri_calls.specs.Outcome.{Answered}
-use Rattle.iri_calls.specs.Outcome.Outcome.{text}
+use Rattle.iri_calls.proofs.Common.{◌++◌, ◌∷◌, ap, subst, ◌∙◌, before, Answered, text}
 use Rattle.iri_calls.proofs.EditLemmas.{fragment_text}
 use Rattle.iri_calls.proofs.edits.set_fragment_in.Goals as goal
 

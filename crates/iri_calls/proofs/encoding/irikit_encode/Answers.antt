@@ -1,9 +1,5 @@
-use Rattle.std.proofs.Common.{ℕ, List, refl, sym, subst}
-use Rattle.iri_types.proofs.Lemmas.{text_fault, no_text_fault}
-use Rattle.iri_calls.specs.Encodings.{encoded_by, no_fault}
-use Rattle.iri_calls.specs.Numbers.{bad_text}
-use Rattle.iri_calls.specs.Outcome.{Outcome, Answered}
-use Rattle.iri_calls.specs.Outcomes.{unless_fault}
+use Rattle.iri_calls.proofs.Common.{ℕ, List, refl, sym, subst, text_fault, no_text_fault, encoded_by, no_fault, bad_text, Outcome, Answered}
+use Rattle.iri_calls.proofs.Common.{unless_fault}
 use Rattle.iri_calls.proofs.encoding.irikit_encode.Goals as goal
 
 pub returns-in-Ok : goal.returns-in-Ok

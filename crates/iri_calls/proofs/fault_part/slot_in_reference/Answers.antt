@@ -1,5 +1,4 @@
-use Rattle.std.proofs.Common.{◌∙◌}
-use Rattle.iri_grammar.specs.Split.{split_of}
+use Rattle.iri_calls.proofs.Common.{◌∙◌, split_of}
 use Rattle.iri_calls.proofs.FaultPartLemmas.{slots_of_reference, in_text, past_text}
 use Rattle.iri_calls.proofs.fault_part.slot_in_reference.Goals as goal
 

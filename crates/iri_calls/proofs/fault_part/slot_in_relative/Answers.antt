@@ -1,5 +1,4 @@
-use Rattle.std.proofs.Common.{◌∙◌}
-use Rattle.iri_grammar.specs.Split.{relative_split_of}
+use Rattle.iri_calls.proofs.Common.{◌∙◌, relative_split_of}
 use Rattle.iri_calls.proofs.FaultPartLemmas.{relative_slots, in_text, past_text}
 use Rattle.iri_calls.proofs.fault_part.slot_in_relative.Goals as goal
 

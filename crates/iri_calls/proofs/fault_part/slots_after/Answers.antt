@@ -1,8 +1,7 @@
-use Rattle.std.proofs.Common.{◌≡◌, length, ap, ◌∙◌, arith}
-use Rattle.iri_grammar.specs.Cut.{before, after}
+use Rattle.iri_calls.proofs.Common.{◌≡◌, length, ap, ◌∙◌, arith, before, width}
+use Rattle.iri_grammar.specs.Cut.{after}
 use Rattle.iri_grammar.specs.OptionalSlices.{now_of}
 use Rattle.iri_grammar.specs.Split.{authority_of, hier_of, path_of}
-use Rattle.iri_calls.specs.Slots.{width}
 use Rattle.iri_calls.proofs.SlotLemmas.{total_after}
 use Rattle.iri_calls.proofs.fault_part.slots_after.Goals as goal
 

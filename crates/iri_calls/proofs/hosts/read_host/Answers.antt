@@ -1,6 +1,5 @@
-use Rattle.std.proofs.Common.{Some, ◌∙◌, ap, sym}
+use Rattle.iri_calls.proofs.Common.{Some, ◌∙◌, ap, sym, text_fault, no_text_fault}
 use Rattle.iri_grammar.specs.Fault.{host_fault}
-use Rattle.iri_types.proofs.Lemmas.{text_fault, no_text_fault}
 use Rattle.iri_calls.proofs.hosts.read_host.Goals as goal
 
 pub returns-in_default : goal.returns-in_default

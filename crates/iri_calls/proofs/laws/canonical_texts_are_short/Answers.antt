@@ -1,11 +1,7 @@
-use Rattle.std.proofs.Common.{◌+◌, length}
-use Rattle.iri_grammar.specs.Fault.{bytes_fault}
-use Rattle.iri_grammar.specs.WholeFault.{absolute_fault, reference_fault}
-use Rattle.iri_normal.specs.NormalForm.{canonical_in}
+use Rattle.iri_calls.proofs.Common.{◌+◌, length, bytes_fault, absolute_fault, reference_fault, canonical_in, text, in_grammar, unless_fault}
 use Rattle.iri_calls.proofs.BoundLemmas.{in_each_grammar, in_each_mode, short_canonical, where_valid}
 use Rattle.iri_calls.specs.Numbers.{bad_base, bad_reference, grammar_of, mode_numbered}
-use Rattle.iri_calls.specs.Outcome.Outcome.{text}
-use Rattle.iri_calls.specs.Outcomes.{canonical_as, in_grammar, unless_fault}
+use Rattle.iri_calls.specs.Outcomes.{canonical_as}
 use Rattle.iri_calls.proofs.laws.canonical_texts_are_short.Goals as goal
 
 pub returns : goal.returns

@@ -1,8 +1,6 @@
-use Rattle.std.proofs.Common.{◌*◌, length}
-use Rattle.iri_grammar.specs.Fault.{bytes_fault}
+use Rattle.iri_calls.proofs.Common.{◌*◌, length, bytes_fault, encoded_by, no_fault, bad_text}
 use Rattle.iri_calls.proofs.BoundLemmas.{in_each_grammar, short_encoding, where_valid}
-use Rattle.iri_calls.specs.Encodings.{encoded_as, encoded_by, no_fault, place_numbered}
-use Rattle.iri_calls.specs.Numbers.{bad_text}
+use Rattle.iri_calls.specs.Encodings.{encoded_as, place_numbered}
 use Rattle.iri_calls.proofs.laws.encoded_texts_are_short.Goals as goal
 
 pub returns : goal.returns

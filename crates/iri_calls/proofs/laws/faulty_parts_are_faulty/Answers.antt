@@ -1,9 +1,6 @@
-use Rattle.std.proofs.Common.{Some}
-use Rattle.iri_grammar.specs.Fault.{fragment_fault}
-use Rattle.iri_grammar.specs.Split.{split_of, relative_split_of}
-use Rattle.iri_grammar.specs.WholeFault.{reference_fault, iri_fault, absolute_fault, relative_fault}
-use Rattle.iri_grammar.specs.declared.error.ErrorKind.TheVariants.{UnexpectedFragment}
-use Rattle.iri_grammar.proofs.SplitLaws.{recompose_split, recompose_relative_split}
+use Rattle.iri_calls.proofs.Common.{Some, fragment_fault, split_of, relative_split_of, reference_fault, iri_fault, absolute_fault}
+use Rattle.iri_calls.proofs.Common.{UnexpectedFragment, recompose_split, recompose_relative_split}
+use Rattle.iri_grammar.specs.WholeFault.{relative_fault}
 use Rattle.iri_calls.proofs.FaultLemmas.{of_bytes, of_first, of_parts, of_parts_without_fragment}
 use Rattle.iri_calls.proofs.laws.faulty_parts_are_faulty.Goals as goal
 

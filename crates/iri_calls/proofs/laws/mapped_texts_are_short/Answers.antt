@@ -1,11 +1,6 @@
-use Rattle.std.proofs.Common.{◌*◌, length}
-use Rattle.iri_grammar.specs.Classes.{iri_tests}
-use Rattle.iri_grammar.specs.Fault.{bytes_fault}
-use Rattle.iri_grammar.specs.WholeFault.{reference_fault}
+use Rattle.iri_calls.proofs.Common.{◌*◌, length, iri_tests, bytes_fault, reference_fault, bad_text, text}
 use Rattle.iri_percent.specs.Mapping.{mapped}
 use Rattle.iri_calls.proofs.BoundLemmas.{short_mapped, where_valid}
-use Rattle.iri_calls.specs.Numbers.{bad_text}
-use Rattle.iri_calls.specs.Outcome.Outcome.{text}
 use Rattle.iri_calls.proofs.laws.mapped_texts_are_short.Goals as goal
 
 pub returns : goal.returns

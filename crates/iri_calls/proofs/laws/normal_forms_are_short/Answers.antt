@@ -1,14 +1,8 @@
-use Rattle.std.proofs.Common.{◌+◌, false, length}
-use Rattle.iri_grammar.specs.Fault.{bytes_fault}
-use Rattle.iri_grammar.specs.Split.{split_of}
-use Rattle.iri_grammar.specs.WholeFault.{iri_fault}
+use Rattle.iri_calls.proofs.Common.{◌+◌, false, length, bytes_fault, split_of, iri_fault, bad_text, text, in_grammar, grammar_of}
 use Rattle.iri_normal.specs.Normalized.{written_text}
 use Rattle.iri_calls.proofs.BoundLemmas.{in_each_form, in_each_grammar, short_form, where_valid}
-use Rattle.iri_calls.specs.Numbers.{bad_text, form_numbered}
-use Rattle.iri_calls.specs.Outcome.Outcome.{text}
+use Rattle.iri_calls.specs.Numbers.{form_numbered}
 use Rattle.iri_calls.specs.Resolutions.{normalized_as}
-use Rattle.iri_calls.specs.Outcomes.{in_grammar}
-use Rattle.iri_calls.specs.Numbers.{grammar_of}
 use Rattle.iri_calls.proofs.laws.normal_forms_are_short.Goals as goal
 
 pub returns : goal.returns

@@ -1,10 +1,5 @@
-use Rattle.std.proofs.Common.{◌+◌, length}
-use Rattle.iri_grammar.specs.Fault.{bytes_fault}
-use Rattle.iri_grammar.specs.WholeFault.{absolute_fault, reference_fault}
+use Rattle.iri_calls.proofs.Common.{◌+◌, length, bytes_fault, absolute_fault, reference_fault, bad_base, bad_reference, text, unless_fault}
 use Rattle.iri_calls.proofs.BoundLemmas.{in_each_grammar, short_resolved, where_valid}
-use Rattle.iri_calls.specs.Numbers.{bad_base, bad_reference}
-use Rattle.iri_calls.specs.Outcome.Outcome.{text}
-use Rattle.iri_calls.specs.Outcomes.{unless_fault}
 use Rattle.iri_calls.specs.Resolutions.{resolved, resolved_in}
 use Rattle.iri_calls.proofs.laws.resolved_texts_are_short.Goals as goal
 

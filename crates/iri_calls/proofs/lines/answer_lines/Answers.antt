@@ -1,8 +1,5 @@
-use Rattle.std.proofs.Common.{arith, ap, ◌∙◌, rules, sym, subst}
-use Rattle.iri_normal.specs.Resolver.{base_text}
-use Rattle.iri_normal.specs.Answers.{answer_in}
-use Rattle.iri_text.specs.Lines.{ended}
-use Rattle.iri_calls.specs.Lines.{line_answer, batch}
+use Rattle.iri_calls.proofs.Common.{arith, ap, ◌∙◌, sym, subst, base_text, answer_in, ended, line_answer, batch}
+use Rattle.std.proofs.Common.{rules}
 use Rattle.iri_calls.specs.inside.BufferText.{BufferPuts, BufferHalts}
 use Rattle.iri_calls.proofs.LineLemmas.{Going, going_init, going_end, going_end-bytes, going_short, going_short-bytes, going_next}
 use Rattle.iri_calls.proofs.lines.answer_lines.Goals as goal

@@ -1,6 +1,4 @@
-use Rattle.std.proofs.Common.{length}
-use Rattle.iri_normal.specs.Resolver.{base_text}
-use Rattle.iri_calls.specs.Lines.{line_answer}
+use Rattle.iri_calls.proofs.Common.{length, base_text, line_answer}
 use Rattle.iri_calls.proofs.LineLemmas.{Going}
 use Rattle.iri_calls.proofs.lines.answer_lines.Given as goal
 

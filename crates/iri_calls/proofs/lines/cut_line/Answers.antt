@@ -1,6 +1,4 @@
-use Rattle.std.proofs.Common.{None, Some, arith, ◌∙◌, ◌≡◌, ◌+◌, ◌-◌, ◌∷◌, ap, length, take, drop, sym}
-use Rattle.std.proofs.lemmas.Grind.{common_steps}
-use Rattle.iri_text.specs.Lines.{ended}
+use Rattle.iri_calls.proofs.Common.{None, Some, arith, ◌∙◌, ◌≡◌, ◌+◌, ◌-◌, ◌∷◌, ap, length, take, drop, sym, common_steps, ended}
 use Rattle.iri_text.proofs.LinesLemmas.{ended-none}
 use Rattle.iri_calls.proofs.LineLemmas.{first-lf, ended-at}
 use Rattle.iri_calls.proofs.lines.cut_line.Goals as goal

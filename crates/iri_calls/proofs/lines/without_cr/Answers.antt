@@ -1,8 +1,7 @@
-use Rattle.std.proofs.Common.{Some, None, [], ◌∷◌, ◌∙◌, sym, ap}
+use Rattle.iri_calls.proofs.Common.{Some, None, [], ◌∷◌, ◌∙◌, sym, ap, no_cr}
 use Rattle.std.proofs.Math.Seq.{take-length}
 use Rattle.std.proofs.lemmas.Bool.Decides.{Decides-eqb}
 use Rattle.std.proofs.lemmas.Slice.Eq.{strip_suffix_is}
-use Rattle.iri_text.specs.Lines.{no_cr}
 use Rattle.iri_text.proofs.Parts.{no_cr-cr, other-len}
 use Rattle.iri_calls.proofs.lines.without_cr.Goals as goal
 

@@ -1,7 +1,6 @@
-use Rattle.std.proofs.Common.{ℕ, List, length, set, ◌∙◌, ap}
+use Rattle.iri_calls.proofs.Common.{ℕ, List, length, set, ◌∙◌, ap, Slot}
 use Rattle.iri_template.specs.Variables.{places_left}
 use Rattle.iri_calls.proofs.NameLemmas.{walk_begins, walk_goes_on}
-use Rattle.iri_calls.specs.declared.parts.Slot.{Slot}
 use Rattle.iri_calls.proofs.names.write_names.Goals as goal
 
 pub names-init : goal.names-init

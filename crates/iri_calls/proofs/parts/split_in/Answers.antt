@@ -1,6 +1,5 @@
-use Rattle.std.proofs.Common.{ap, arith, length}
+use Rattle.iri_calls.proofs.Common.{ap, arith, length, total, width}
 use Rattle.iri_types.specs.SplitText.{split_text}
-use Rattle.iri_calls.specs.Slots.{total, width}
 use Rattle.iri_calls.proofs.SlotLemmas.{total_split}
 use Rattle.iri_calls.proofs.parts.split_in.Goals as goal
 

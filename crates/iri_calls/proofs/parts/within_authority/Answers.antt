@@ -1,6 +1,5 @@
-use Rattle.std.proofs.Common.{ap, arith}
+use Rattle.iri_calls.proofs.Common.{ap, arith, width}
 use Rattle.iri_grammar.specs.OptionalSlices.{now_of}
-use Rattle.iri_calls.specs.Slots.{width}
 use Rattle.iri_calls.proofs.SlotLemmas.{authority_total_parts}
 use Rattle.iri_calls.proofs.parts.within_authority.Goals as goal
 

@@ -1,5 +1,4 @@
-use Rattle.std.proofs.Common.{◌≡◌, ℕ, List, None, Some, ap, sym, subst, refl, ◌∙◌}
-use Rattle.iri_grammar.specs.Classes.{Tests}
+use Rattle.iri_calls.proofs.Common.{◌≡◌, ℕ, List, None, Some, ap, sym, subst, refl, ◌∙◌, Tests, Answered, text}
 use Rattle.iri_template.specs.Expansion.{expansion}
 use Rattle.iri_template.specs.Fault.{template_fault, first}
 use Rattle.iri_template.specs.Reading.{pieces_of}
@@ -7,8 +6,6 @@ use Rattle.iri_template.specs.ShownValues.{ShownValue}
 use Rattle.iri_template.specs.Texts.{text as text_in}
 use Rattle.iri_template.specs.TypeFaults.{type_fault}
 use Rattle.iri_template.specs.declared.error.Error.{Error}
-use Rattle.iri_calls.specs.Outcome.{Answered}
-use Rattle.iri_calls.specs.Outcome.Outcome.{text}
 use Rattle.iri_calls.specs.Templates.{ExpandedBy, ExpandedIn, Refused}
 use Rattle.iri_calls.specs.Variables.{value_in}
 use Rattle.iri_calls.specs.declared.variables.Variable.{Variable}

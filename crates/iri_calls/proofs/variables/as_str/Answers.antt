@@ -1,7 +1,5 @@
-use Rattle.std.proofs.Common.{◌≡◌, ℕ, List, [], cond, false, refl, sym, ◌∙◌}
-use Rattle.std.specs.Str.{IsUtf8, is_utf8}
-use Rattle.std.proofs.lemmas.Bool.{false_from_ne_true}
-use Rattle.std.proofs.lemmas.Str.{is_utf8-from_IsUtf8, IsUtf8-from_is_utf8}
+use Rattle.iri_calls.proofs.Common.{◌≡◌, ℕ, List, [], cond, false, refl, sym, ◌∙◌, IsUtf8, is_utf8, false_from_ne_true, is_utf8-from_IsUtf8}
+use Rattle.iri_calls.proofs.Common.{IsUtf8-from_is_utf8}
 use Rattle.iri_calls.proofs.variables.as_str.Goals as goal
 
 of_text : (b : List ℕ) → IsUtf8 b → cond (is_utf8 b) b [] ≡ b

@@ -1,7 +1,4 @@
-use Rattle.std.proofs.Common.{sym}
-use Rattle.std.specs.Str.{is_utf8}
-use Rattle.std.proofs.lemmas.Bool.{false_from_ne_true}
-use Rattle.std.proofs.lemmas.Str.{is_utf8-from_IsUtf8, IsUtf8-from_is_utf8}
+use Rattle.iri_calls.proofs.Common.{sym, is_utf8, false_from_ne_true, is_utf8-from_IsUtf8, IsUtf8-from_is_utf8}
 use Rattle.iri_calls.proofs.variables.is_utf8.Goals as goal
 
 pub returns-in-Ok : goal.returns-in-Ok

@@ -1,4 +1,4 @@
-use Rattle.std.proofs.Common.{◌≡◌, ◌∷◌, ◌*◌, ◌+◌, ◌<◌, ℕ, List, drop, length, refl, get_or}
+use Rattle.std.proofs.Common.{◌*◌, ◌+◌, refl, get_or}
 use Rattle.std.proofs.lemmas.List.{drop_all}
 use Rattle.iri_template.proofs.VisitsEach.{heard_exit_first, up_to_more, up_to_exit, up_to_end, next_at}
 use Rattle.iri_template.specs.declared.visitor.Phase.TheVariants.{Done}

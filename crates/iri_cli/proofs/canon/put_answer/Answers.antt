@@ -1,10 +1,5 @@
-use Rattle.std.proofs.Common.{◌≤◌, ◌+◌, ◌++◌, ◌∷◌, [], ◌∙◌, Some, true, false, ap, arith, length, refl, rules, subst, sym}
-use Rattle.std.specs.Prelude.{codes}
-use Rattle.iri_text.specs.Sink.{PutsAll, sink_state}
-use Rattle.iri_types.specs.SplitText.{split_text}
-use Rattle.iri_normal.specs.NormalForm.{canonical_in}
-use Rattle.iri_normal.specs.Resolver.{base_text}
-use Rattle.iri_normal.specs.Answers.{answer_in, good_answer, bad_answer}
+use Rattle.iri_cli.proofs.Common.{◌≤◌, ◌+◌, ◌++◌, ◌∷◌, [], ◌∙◌, Some, true, false, ap, arith, length, refl, rules, subst, sym, codes}
+use Rattle.iri_cli.proofs.Common.{PutsAll, sink_state, split_text, canonical_in, base_text, answer_in, good_answer, bad_answer}
 use Rattle.iri_cli.proofs.AnswerLemmas.{answer_of_reference, answer_of_fault}
 use Rattle.iri_cli.proofs.CanonLemmas.{has_room, told_line, told_room}
 use Rattle.iri_cli.proofs.canon.put_answer.Goals as goal

@@ -1,5 +1,4 @@
-use Rattle.std.proofs.Common.{◌∙◌, ◌++◌, ap}
-use Rattle.std.specs.Prelude.{codes}
+use Rattle.iri_cli.proofs.Common.{◌∙◌, ◌++◌, ap, codes}
 use Rattle.iri_cli.proofs.PutLemmas.{puts_so}
 use Rattle.iri_cli.proofs.canon.put_good.Goals as goal
 

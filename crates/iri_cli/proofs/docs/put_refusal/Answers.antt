@@ -1,5 +1,4 @@
-use Rattle.std.proofs.Common.{◌∙◌, [], ◌∷◌}
-use Rattle.iri_text.proofs.Puts.{puts-then, puts-exit}
+use Rattle.iri_cli.proofs.Common.{◌∙◌, [], ◌∷◌, puts-then, puts-exit}
 use Rattle.iri_cli.proofs.PutLemmas.{puts_so}
 use Rattle.iri_cli.proofs.docs.put_refusal.Goals as goal
 

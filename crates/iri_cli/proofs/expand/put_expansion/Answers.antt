@@ -1,13 +1,6 @@
-use Rattle.std.proofs.Common.{◌≡◌, ◌≢◌, ◌<◌, ◌≤◌, ◌∙◌, ℕ, Err, true, false, refl, arith, rules, subst, ap, length}
-use Rattle.iri_text.specs.Sink.{KeepsRoom, sink_state}
-use Rattle.iri_normal.specs.Resolver.{base_text}
-use Rattle.iri_template.specs.Contexts.{value_in}
+use Rattle.iri_cli.proofs.Common.{◌≡◌, ◌≢◌, ◌<◌, ◌≤◌, ◌∙◌, ℕ, Err, true, false, refl, arith, rules, subst, ap, length, KeepsRoom}
+use Rattle.iri_cli.proofs.Common.{sink_state, base_text, value_in, expansion_limit, answer, PutsLine, too_long, SinkFailed}
 use Rattle.iri_template.specs.ExpandedTexts.{expanded_text}
-use Rattle.iri_docs.specs.Expanded.{expansion_limit}
-use Rattle.iri_cli.specs.canon.Answers.{answer}
-use Rattle.iri_cli.specs.inside.Puts.{PutsLine}
-use Rattle.iri_cli.specs.expand.Answers.{too_long}
-use Rattle.iri_cli.specs.declared.run.answers.AnswerError.TheVariants.{SinkFailed}
 use Rattle.iri_cli.proofs.CanonLemmas.{told_line, told_room}
 use Rattle.iri_cli.proofs.ExpandLemmas.{long_answer, short_answer}
 use Rattle.iri_cli.proofs.expand.put_expansion.Goals as goal

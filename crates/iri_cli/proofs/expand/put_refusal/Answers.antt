@@ -1,6 +1,4 @@
-use Rattle.std.proofs.Common.{◌∙◌, [], ◌∷◌, ◌++◌, ap}
-use Rattle.std.specs.Prelude.{codes, decimal}
-use Rattle.iri_text.proofs.Puts.{puts-then, puts-exit}
+use Rattle.iri_cli.proofs.Common.{◌∙◌, [], ◌∷◌, ◌++◌, ap, codes, decimal, puts-then, puts-exit}
 use Rattle.iri_template.specs.ErrorTexts.{description}
 use Rattle.iri_cli.proofs.PutLemmas.{puts_so}
 use Rattle.iri_cli.proofs.expand.put_refusal.Goals as goal

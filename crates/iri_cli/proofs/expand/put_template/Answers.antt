@@ -1,15 +1,7 @@
-use Rattle.std.proofs.Common.{◌≡◌, ◌≢◌, ◌∙◌, ℕ, List, Err, None, false, refl, rules, subst, ap}
-use Rattle.iri_grammar.specs.Classes.{Tests}
-use Rattle.iri_text.specs.Sink.{KeepsRoom, sink_state}
-use Rattle.iri_normal.specs.Resolver.{base_text}
-use Rattle.iri_template.specs.Contexts.{value_in}
-use Rattle.iri_template.specs.Expansion.{expansion}
-use Rattle.iri_template.specs.Reading.{pieces_of}
+use Rattle.iri_cli.proofs.Common.{◌≡◌, ◌≢◌, ◌∙◌, ℕ, List, Err, None, false, refl, rules, subst, ap, Tests, KeepsRoom, sink_state, base_text}
+use Rattle.iri_cli.proofs.Common.{value_in, expansion, pieces_of, PutsLine, expansion_answer, template_answer, template_refusal, Values}
+use Rattle.iri_cli.proofs.Common.{SinkFailed}
 use Rattle.iri_template.specs.TypeFaults.{expansion_fault}
-use Rattle.iri_cli.specs.inside.Puts.{PutsLine}
-use Rattle.iri_cli.specs.expand.Answers.{expansion_answer, template_answer, template_refusal}
-use Rattle.iri_cli.specs.expand.Lines.{Values}
-use Rattle.iri_cli.specs.declared.run.answers.AnswerError.TheVariants.{SinkFailed}
 use Rattle.iri_cli.proofs.CanonLemmas.{told_line, told_room}
 use Rattle.iri_cli.proofs.ExpandLemmas.{template_expanded, template_refused}
 use Rattle.iri_cli.proofs.expand.put_template.Goals as goal

@@ -1,5 +1,4 @@
-use Rattle.std.proofs.Common.{◌∙◌, ap}
-use Rattle.iri_cli.specs.canon.Answers.{refusal}
+use Rattle.iri_cli.proofs.Common.{◌∙◌, ap, refusal}
 use Rattle.iri_cli.proofs.GenReferences.{base_taken}
 use Rattle.iri_cli.proofs.generator.base_resolver.Goals as goal
 

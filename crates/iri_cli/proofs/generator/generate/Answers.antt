@@ -1,5 +1,4 @@
-use Rattle.std.proofs.Common.{arith}
-use Rattle.iri_text.proofs.Puts.{room-same}
+use Rattle.iri_cli.proofs.Common.{arith, room-same}
 use Rattle.iri_cli.proofs.generator.generate.Goals as goal
 
 pub returns-in-Err-clause-room : goal.returns-in-Err-clause-room

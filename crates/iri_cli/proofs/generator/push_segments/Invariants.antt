@@ -1,5 +1,4 @@
-use Rattle.std.proofs.Common.{◌≡◌, ◌-◌, ◌++◌, string_bytes}
-use Rattle.iri_cli.specs.generator.References.{more_segments}
+use Rattle.iri_cli.proofs.Common.{◌≡◌, ◌-◌, ◌++◌, string_bytes, more_segments}
 use Rattle.iri_cli.proofs.generator.push_segments.Given as goal
 
 abbrev pub invariant-loop-i : goal.invariant-loop-i

@@ -1,7 +1,6 @@
-use Rattle.std.proofs.Common.{◌≡◌, ◌+◌, ◌*◌, ◌%◌, ◌^◌, ◌∙◌, add-one, ap, arith, length, suc, sum, sym}
-use Rattle.iri_grammar.specs.WholeFault.{reference_fault}
-use Rattle.iri_normal.specs.NormalForm.{canonical}
-use Rattle.iri_cli.specs.generator.References.{gen_base, gen_bytes, gen_reference, gen_state, gen_sum}
+use Rattle.iri_cli.proofs.Common.{◌≡◌, ◌+◌, ◌^◌, ◌∙◌, ap, arith, length, suc, sym, reference_fault, canonical, gen_base, gen_reference}
+use Rattle.std.proofs.Common.{◌*◌, ◌%◌, add-one, sum}
+use Rattle.iri_cli.specs.generator.References.{gen_bytes, gen_state, gen_sum}
 use Rattle.iri_cli.proofs.GenReferences.{no_fault_of_made}
 use Rattle.iri_cli.proofs.generator.totals_of.Goals as goal
 

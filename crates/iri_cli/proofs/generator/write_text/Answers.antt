@@ -1,8 +1,4 @@
-use Rattle.std.proofs.Common.{◌≡◌, ◌∙◌, ◌++◌, ap, subst}
-use Rattle.std.specs.Prelude.{OnOk, string_bytes}
-use Rattle.iri_types.specs.SplitText.{split_text}
-use Rattle.iri_normal.specs.NormalForm.{canonical}
-use Rattle.iri_normal.specs.Resolver.{base_text}
+use Rattle.iri_cli.proofs.Common.{◌≡◌, ◌∙◌, ◌++◌, ap, subst, OnOk, string_bytes, split_text, canonical, base_text}
 use Rattle.iri_cli.proofs.generator.write_text.Goals as goal
 
 pub returns : goal.returns

@@ -1,8 +1,5 @@
-use Rattle.std.proofs.Common.{◌≡◌, ◌≢◌, ◌∙◌, ℕ, List, Option, inl, inr, sym, subst, arith, ap, ⊎_elim}
-use Rattle.std.proofs.lemmas.List.{append-nil}
-use Rattle.iri_text.specs.Sink.{Appends, KeepsRoom, sink_state}
-use Rattle.iri_text.proofs.Puts.{room-so, room-then}
-use Rattle.iri_cli.specs.run.Run.{status_of}
+use Rattle.iri_cli.proofs.Common.{◌≡◌, ◌≢◌, ◌∙◌, ℕ, List, Option, inl, inr, sym, subst, arith, ap, ⊎_elim, append-nil, Appends, KeepsRoom}
+use Rattle.iri_cli.proofs.Common.{sink_state, room-so, room-then, status_of}
 use Rattle.iri_cli.proofs.Answered.{whole_prefix}
 use Rattle.iri_cli.proofs.help.put_text.Goals as goal
 

@@ -1,8 +1,6 @@
-use Rattle.std.proofs.Common.{arith, refl, subst, sym}
-use Rattle.std.specs.Prelude.{◌-◌, length}
+use Rattle.iri_cli.proofs.Common.{arith, refl, subst, sym, ◌-◌, length, ending}
 use Rattle.iri_text.specs.Sink.{HasRoom}
 use Rattle.iri_text.specs.Memory.{memory_written, unless_failing}
-use Rattle.iri_cli.specs.run.Ending.{ending}
 use Rattle.iri_cli.proofs.laws.run_over_memory.Goals as goal
 
 pub returns : goal.returns

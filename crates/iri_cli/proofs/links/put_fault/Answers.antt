@@ -1,5 +1,4 @@
-use Rattle.std.proofs.Common.{◌++◌, ◌∷◌, [], arith, codes, refl, subst}
-use Rattle.iri_text.specs.Sink.{PutsAll, sink_state}
+use Rattle.iri_cli.proofs.Common.{◌++◌, ◌∷◌, [], arith, codes, refl, subst, PutsAll, sink_state}
 use Rattle.iri_cli.proofs.LinksLemmas.{displayed_short}
 use Rattle.iri_cli.proofs.links.put_fault.Goals as goal
 

@@ -1,6 +1,4 @@
-use Rattle.std.proofs.Common.{◌+◌, arith, drop}
-use Rattle.iri_text.proofs.Puts.{puts-then, puts-exit}
-use Rattle.iri_cli.specs.register.Answers.{entry_lines}
+use Rattle.iri_cli.proofs.Common.{◌+◌, arith, drop, puts-then, puts-exit, entry_lines}
 use Rattle.iri_cli.proofs.PutLemmas.{puts_so}
 use Rattle.iri_cli.proofs.RegisterLemmas.{entries_left, entry_next, entry_there}
 use Rattle.iri_cli.proofs.register.put_entries.Goals as goal

@@ -1,6 +1,4 @@
-use Rattle.std.proofs.Common.{Ok, take}
-use Rattle.iri_text.specs.Sink.{PutsAll, sink_state}
-use Rattle.iri_cli.specs.register.Answers.{entry_lines}
+use Rattle.iri_cli.proofs.Common.{Ok, take, PutsAll, sink_state, entry_lines}
 use Rattle.iri_cli.proofs.register.put_entries.Given as goal
 
 abbrev pub invariant-loop-index : goal.invariant-loop-index

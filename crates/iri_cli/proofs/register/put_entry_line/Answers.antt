@@ -1,6 +1,4 @@
-use Rattle.std.proofs.Common.{[], ◌∷◌, ◌++◌}
-use Rattle.iri_text.proofs.Puts.{puts-then, puts-exit}
-use Rattle.iri_cli.specs.register.Answers.{joined}
+use Rattle.iri_cli.proofs.Common.{[], ◌∷◌, ◌++◌, puts-then, puts-exit, joined}
 use Rattle.iri_cli.proofs.register.put_entry_line.Goals as goal
 
 pub returns-in_err-put_number : goal.returns-in_err-put_number

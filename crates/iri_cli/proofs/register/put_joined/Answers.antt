@@ -1,6 +1,4 @@
-use Rattle.std.proofs.Common.{ap, sym}
-use Rattle.iri_text.proofs.Puts.{puts-then, puts-exit}
-use Rattle.iri_cli.specs.register.Answers.{joined, more_numbers}
+use Rattle.iri_cli.proofs.Common.{ap, sym, puts-then, puts-exit, joined, more_numbers}
 use Rattle.iri_cli.proofs.PutLemmas.{puts_so}
 use Rattle.iri_cli.proofs.register.put_joined.Goals as goal
 

@@ -1,6 +1,4 @@
-use Rattle.std.proofs.Common.{◌+◌, ◌++◌, drop, decimal, get_or, sym}
-use Rattle.iri_text.proofs.Puts.{puts-then, puts-exit}
-use Rattle.iri_cli.specs.register.Answers.{more_numbers}
+use Rattle.iri_cli.proofs.Common.{◌+◌, ◌++◌, drop, decimal, get_or, sym, puts-then, puts-exit, more_numbers}
 use Rattle.iri_cli.proofs.PutLemmas.{puts_so}
 use Rattle.iri_cli.proofs.RegisterLemmas.{number_more, numbers_whole}
 use Rattle.iri_cli.proofs.register.put_more.Goals as goal

@@ -1,6 +1,4 @@
-use Rattle.std.proofs.Common.{Ok, take}
-use Rattle.iri_text.specs.Sink.{PutsAll, sink_state}
-use Rattle.iri_cli.specs.register.Answers.{more_numbers}
+use Rattle.iri_cli.proofs.Common.{Ok, take, PutsAll, sink_state, more_numbers}
 use Rattle.iri_cli.proofs.register.put_more.Given as goal
 
 abbrev pub invariant-loop-number : goal.invariant-loop-number

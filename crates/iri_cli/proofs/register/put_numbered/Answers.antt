@@ -1,5 +1,4 @@
-use Rattle.std.proofs.Common.{[], ◌∷◌, ◌++◌, decimal}
-use Rattle.iri_text.proofs.Puts.{puts-then, puts-exit}
+use Rattle.iri_cli.proofs.Common.{[], ◌∷◌, ◌++◌, decimal, puts-then, puts-exit}
 use Rattle.iri_cli.proofs.register.put_numbered.Goals as goal
 
 pub returns-in_err-put_all : goal.returns-in_err-put_all

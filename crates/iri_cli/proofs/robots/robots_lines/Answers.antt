@@ -1,6 +1,4 @@
-use Rattle.std.proofs.Common.{inl, subst}
-use Rattle.iri_cli.specs.run.Run.{RunsLines, outside_state}
-use Rattle.iri_cli.specs.robots.Rules.{robots_rules}
+use Rattle.iri_cli.proofs.Common.{inl, subst, RunsLines, outside_state, robots_rules}
 use Rattle.iri_cli.proofs.robots.robots_lines.Goals as goal
 
 pub returns-in-Ok : goal.returns-in-Ok

@@ -1,10 +1,7 @@
-use Rattle.std.proofs.Common.{◌≡◌, ◌↔◌, ◌∙◌, ap, true, false, refl, string_bytes, subst}
-use Rattle.iri_grammar.specs.Split.{split_of}
+use Rattle.iri_cli.proofs.Common.{◌≡◌, ◌↔◌, ◌∙◌, ap, true, false, refl, string_bytes, subst, split_of, is_allowed, record_texts}
 use Rattle.iri_robots.specs.Allowed.{IsAllowed}
 use Rattle.iri_robots.specs.Compared.{subject}
-use Rattle.iri_robots.specs.Decided.{is_allowed}
 use Rattle.iri_robots.specs.Records.{rules_for}
-use Rattle.iri_robots.specs.Stored.{record_texts}
 use Rattle.iri_robots.specs.declared.robots.Verdict.TheVariants.{Allow}
 use Rattle.iri_types.specs.Texts.{text}
 use Rattle.iri_cli.specs.inside.Sites.{is_of_site}

@@ -1,10 +1,6 @@
-use Rattle.std.proofs.Common.{◌≡◌, ◌++◌, None, Result, Ok, Err, sym, subst, ap}
-use Rattle.std.specs.Prelude.{OnOk, string_bytes}
-use Rattle.std.specs.declared.alloc.AllocError.{AllocError}
+use Rattle.iri_cli.proofs.Common.{◌≡◌, ◌++◌, None, Result, Ok, Err, sym, subst, ap, OnOk, string_bytes, AllocError, split_text, canonical}
+use Rattle.iri_cli.proofs.Common.{base_text}
 use Rattle.iri_grammar.specs.WholeFault.{iri_fault}
-use Rattle.iri_types.specs.SplitText.{split_text}
-use Rattle.iri_normal.specs.NormalForm.{canonical}
-use Rattle.iri_normal.specs.Resolver.{base_text}
 use Rattle.iri_cli.proofs.robots.write_target.Goals as goal
 
 pub returns-clause-text : goal.returns-clause-text

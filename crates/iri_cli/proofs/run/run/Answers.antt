@@ -1,6 +1,4 @@
-use Rattle.std.proofs.Common.{map, string_bytes}
-use Rattle.iri_cli.specs.run.Run.{outside_state}
-use Rattle.iri_cli.specs.run.Words.{tests_of}
+use Rattle.iri_cli.proofs.Common.{map, string_bytes, outside_state, tests_of}
 use Rattle.iri_cli.specs.declared.run.words.Command.TheVariants.{Lines, Gen, Tell}
 use Rattle.iri_cli.proofs.BytesLemmas.{canonical_answers, grammar_is_spec}
 use Rattle.iri_cli.proofs.ToolLaws.{answers_are_expansions, answers_are_links, answers_are_verdicts, live_lines_share_entries}

@@ -1,10 +1,8 @@
-use Rattle.std.proofs.Common.{◌≡◌, ◌∙◌, None, Ok, Err, refl, sym, ap}
-use Rattle.iri_template.specs.Contexts.{value_in}
+use Rattle.iri_docs.proofs.Common.{◌≡◌, ◌∙◌, Ok, Err, refl, sym, ap, value_in, expansion_within, Template, TooLong, Memory}
+use Rattle.std.proofs.Common.{None}
 use Rattle.iri_template.specs.Expansion.{expansion}
 use Rattle.iri_template.specs.Reading.{pieces_of}
 use Rattle.iri_template.specs.TypeFaults.{expansion_fault}
-use Rattle.iri_docs.specs.Expanded.{expansion_within}
-use Rattle.iri_docs.specs.declared.expand_error.DocExpandError.TheVariants.{Template, TooLong, Memory}
 use Rattle.iri_docs.proofs.FaultLemmas.{tells_err, tells_ok}
 use Rattle.iri_docs.proofs.ExpandLemmas.{faulty, too_long, short, same_expansion}
 use Rattle.iri_docs.proofs.expand.expand.Goals as goal

@@ -1,9 +1,7 @@
+use Rattle.iri_docs.proofs.Common.{AnswersBut, expanded, IsExpanded, Memory}
 use Rattle.std.proofs.Common.{subst}
 use Rattle.std.specs.Prelude.{IfOk}
-use Rattle.iri_docs.specs.Answered.{AnswersBut}
-use Rattle.iri_docs.specs.Expanded.{expanded, IsExpanded}
 use Rattle.iri_docs.specs.Held.{held}
-use Rattle.iri_docs.specs.declared.expand_error.DocExpandError.TheVariants.{Memory}
 use Rattle.iri_docs.proofs.expand.expand_document.Goals as goal
 
 pub returns : goal.returns

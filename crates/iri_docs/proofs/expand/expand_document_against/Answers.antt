@@ -1,10 +1,6 @@
-use Rattle.std.proofs.Common.{◌≡◌, ◌∙◌, Ok, Err, string_bytes, sym, ap}
-use Rattle.iri_template.specs.Contexts.{value_in}
+use Rattle.iri_docs.proofs.Common.{◌≡◌, ◌∙◌, Ok, Err, string_bytes, sym, ap, value_in, AnswersBut, expanded, expansion_within, Memory}
 use Rattle.iri_normal.specs.Resolver.{base_text}
-use Rattle.iri_docs.specs.Answered.{AnswersBut}
-use Rattle.iri_docs.specs.Expanded.{expanded, expansion_within}
 use Rattle.iri_docs.specs.Held.{held}
-use Rattle.iri_docs.specs.declared.expand_error.DocExpandError.TheVariants.{Memory}
 use Rattle.iri_docs.proofs.ExpandLemmas.{all_expanded}
 use Rattle.iri_docs.proofs.FaultLemmas.{error_or, tells_ok}
 use Rattle.iri_docs.proofs.expand.expand_document_against.Goals as goal

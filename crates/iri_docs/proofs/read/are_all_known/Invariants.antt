@@ -1,5 +1,4 @@
-use Rattle.std.proofs.Common.{◌≡◌}
-use Rattle.serde_json.specs.View.{members_view}
+use Rattle.iri_docs.proofs.Common.{◌≡◌, members_view}
 use Rattle.iri_docs.specs.Documents.{all_known}
 use Rattle.iri_docs.proofs.read.are_all_known.Given as goal
 

@@ -1,7 +1,6 @@
-use Rattle.std.proofs.Common.{ℕ, List, ap, option_map}
-use Rattle.serde_json.specs.View.{view}
-use Rattle.iri_template.specs.ShownValues.{ShownValue}
-use Rattle.iri_docs.specs.Documents.{result_map, vars_of}
+use Rattle.iri_docs.proofs.Common.{ℕ, List, ap, view, ShownValue, result_map}
+use Rattle.std.proofs.Common.{option_map}
+use Rattle.iri_docs.specs.Documents.{vars_of}
 use Rattle.iri_docs.specs.Held.{Held}
 use Rattle.iri_docs.proofs.FaultLemmas.{retold}
 use Rattle.iri_docs.proofs.read.with_vars.Goals as goal

@@ -1,7 +1,4 @@
-use Rattle.std.proofs.Common.{◌≡◌, drop}
-use Rattle.std.specs.Result.{result_err}
-use Rattle.serde_json.specs.View.{items_view}
-use Rattle.iri_docs.specs.Documents.{inner_texts}
+use Rattle.iri_docs.proofs.Common.{◌≡◌, drop, result_err, items_view, inner_texts}
 use Rattle.iri_docs.proofs.value_fault.list_fault.Given as goal
 
 abbrev pub invariant-loop-value : goal.invariant-loop-value

@@ -1,7 +1,4 @@
-use Rattle.std.proofs.Common.{◌≡◌}
-use Rattle.std.specs.Result.{result_err}
-use Rattle.serde_json.specs.View.{members_view}
-use Rattle.iri_docs.specs.Documents.{inner_pairs}
+use Rattle.iri_docs.proofs.Common.{◌≡◌, result_err, members_view, inner_pairs}
 use Rattle.iri_docs.proofs.value_fault.pairs_fault.Given as goal
 
 abbrev pub invariant-loop-value : goal.invariant-loop-value

@@ -1,6 +1,4 @@
-use Rattle.std.proofs.Common.{◌≡◌, drop}
-use Rattle.serde_json.specs.View.{items_view}
-use Rattle.iri_docs.specs.Documents.{inner_texts}
+use Rattle.iri_docs.proofs.Common.{◌≡◌, drop, items_view, inner_texts}
 use Rattle.iri_docs.proofs.StepLemmas.{after}
 use Rattle.iri_docs.proofs.values.read_list.Given as goal
 

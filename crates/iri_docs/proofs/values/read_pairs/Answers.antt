@@ -1,6 +1,5 @@
-use Rattle.std.proofs.Common.{◌∙◌, ℕ, List, string_bytes}
-use Rattle.serde_json.specs.View.{view, members_view}
-use Rattle.iri_docs.specs.Documents.{inner_text, inner_pairs}
+use Rattle.iri_docs.proofs.Common.{◌∙◌, ℕ, List, string_bytes, view, members_view, inner_pairs}
+use Rattle.iri_docs.specs.Documents.{inner_text}
 use Rattle.iri_docs.proofs.StepLemmas.{one_more, is_pair}
 use Rattle.iri_docs.proofs.values.read_pairs.Goals as goal
 

@@ -1,6 +1,4 @@
-use Rattle.std.proofs.Common.{◌≡◌}
-use Rattle.serde_json.specs.View.{members_view}
-use Rattle.iri_docs.specs.Documents.{inner_pairs}
+use Rattle.iri_docs.proofs.Common.{◌≡◌, members_view, inner_pairs}
 use Rattle.iri_docs.proofs.StepLemmas.{after}
 use Rattle.iri_docs.proofs.values.read_pairs.Given as goal
 

@@ -1,8 +1,7 @@
-use Rattle.std.proofs.Common.{◌≡◌, ◌∙◌, [], ◌∷◌, ◌++◌, if◌then◌else◌, bytes_eq, string_bytes, Ok, sym, ap}
-use Rattle.serde_json.specs.View.{view, members_view}
+use Rattle.iri_docs.proofs.Common.{◌≡◌, ◌∙◌, [], ◌∷◌, ◌++◌, if◌then◌else◌, bytes_eq, string_bytes, Ok, sym, ap, view, members_view}
+use Rattle.iri_docs.proofs.Common.{followed, variable, variables}
 use Rattle.iri_template.specs.HeldValues.{shown_value}
 use Rattle.iri_template.specs.ShownValues.{undefined}
-use Rattle.iri_docs.specs.Documents.{followed, variable, variables}
 use Rattle.iri_docs.specs.inside.Entries.{entry_of}
 use Rattle.iri_docs.proofs.NameLemmas.{value_among-append}
 use Rattle.iri_docs.proofs.StepLemmas.{after, after-followed}

@@ -1,8 +1,4 @@
-use Rattle.std.proofs.Common.{◌≡◌, ℕ, List}
-use Rattle.serde_json.specs.View.{members_view}
-use Rattle.iri_template.specs.Contexts.{value_in}
-use Rattle.iri_template.specs.ShownValues.{ShownValue}
-use Rattle.iri_docs.specs.Documents.{variables, value_by_name}
+use Rattle.iri_docs.proofs.Common.{◌≡◌, ℕ, List, members_view, value_in, ShownValue, variables, value_by_name}
 use Rattle.iri_docs.proofs.StepLemmas.{after}
 use Rattle.iri_docs.proofs.variables.copy_variables.Given as goal
 

@@ -1,5 +1,4 @@
-use Rattle.serde_json.specs.View.{view}
-use Rattle.iri_docs.specs.Documents.{variable}
+use Rattle.iri_docs.proofs.Common.{view, variable}
 use Rattle.iri_docs.proofs.FaultLemmas.{fault_is, tells_err, tells_none}
 use Rattle.iri_docs.proofs.variables.read_variable.Goals as goal
 

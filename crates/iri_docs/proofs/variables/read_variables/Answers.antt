@@ -1,6 +1,4 @@
-use Rattle.std.proofs.Common.{sym, ◌∙◌}
-use Rattle.serde_json.specs.View.{members_view}
-use Rattle.iri_docs.specs.Documents.{result_map, value_by_name, variables}
+use Rattle.iri_docs.proofs.Common.{sym, ◌∙◌, members_view, result_map, value_by_name, variables}
 use Rattle.iri_docs.proofs.FaultLemmas.{fault_is, fault_mapped, tells_err, tells_none}
 use Rattle.iri_docs.proofs.variables.read_variables.Goals as goal
 

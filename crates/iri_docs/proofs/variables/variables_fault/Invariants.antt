@@ -1,7 +1,4 @@
-use Rattle.std.proofs.Common.{◌≡◌}
-use Rattle.std.specs.Result.{result_err}
-use Rattle.serde_json.specs.View.{members_view}
-use Rattle.iri_docs.specs.Documents.{variables}
+use Rattle.iri_docs.proofs.Common.{◌≡◌, result_err, members_view, variables}
 use Rattle.iri_docs.proofs.variables.variables_fault.Given as goal
 
 abbrev pub invariant-loop-key : goal.invariant-loop-key

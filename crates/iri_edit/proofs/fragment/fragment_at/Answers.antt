@@ -1,5 +1,4 @@
-use Rattle.std.proofs.Common.{length, subst, sym}
-use Rattle.iri_edit.specs.inside.Places.{IsFragmentAt}
+use Rattle.iri_edit.proofs.Common.{length, subst, sym, IsFragmentAt}
 use Rattle.iri_edit.proofs.FragmentLemmas.{fragment-place}
 use Rattle.iri_edit.proofs.fragment.fragment_at.Goals as goal
 

@@ -1,23 +1,16 @@
-use Rattle.std.proofs.Common.{◌≡◌, ◌∙◌, ◌++◌, ℕ, ◌+◌, ◌<◌, ◌≤◌, true, List, [], ◌∷◌, length, None, Some, Result, Ok, Err, ap, arith, subst, sym}
-use Rattle.std.proofs.Common.{◌-◌, ◌^◌, OnErr}
+use Rattle.iri_edit.proofs.Common.{◌≡◌, ◌∙◌, ◌++◌, ℕ, ◌+◌, ◌≤◌, true, List, [], ◌∷◌, length, None, Some, ap, arith, subst, sym, ◌-◌}
+use Rattle.iri_edit.proofs.Common.{IsCharBoundary, is_fragment, before, reference_fault, spliced, text, with_fragment, IsFragmentAt}
+use Rattle.std.proofs.Common.{◌<◌, Result, Ok, Err, ◌^◌, OnErr}
 use Rattle.std.proofs.Math.Nat.{min-le_left}
-use Rattle.std.specs.Str.{IsCharBoundary}
 use Rattle.std.proofs.lemmas.Str.{IsCharBoundary-end}
-use Rattle.iri_grammar.specs.Components.{is_fragment}
-use Rattle.iri_grammar.specs.Cut.{before}
 use Rattle.iri_grammar.proofs.FaultLaws.{passed}
-use Rattle.iri_grammar.specs.WholeFault.{reference_fault}
 use Rattle.iri_grammar.specs.declared.error.ErrorKind.TheVariants.{InvalidFragment}
 use Rattle.iri_owned.specs.OwnedText.{OwnedText}
-use Rattle.iri_owned.specs.Spliced.{spliced}
-use Rattle.iri_types.specs.Texts.{text}
-use Rattle.iri_edit.specs.Fragment.{with_fragment}
-use Rattle.iri_edit.specs.inside.Places.{IsFragmentAt}
 use Rattle.iri_edit.proofs.FragmentLemmas.{fragment-put, put-after, put-length, empty_fragment}
 use Rattle.iri_edit.proofs.KindLemmas.{IsWhole, fragment-valid}
+use Rattle.iri_edit.proofs.fragment.put_fragment.Goals.{After-try_reserve}
 use Rattle.iri_edit.proofs.fragment.put_fragment.Given as given
 use Rattle.iri_edit.proofs.fragment.put_fragment.Goals as goal
-use Rattle.iri_edit.proofs.fragment.put_fragment.Goals.{After-try_reserve}
 
 -- where the fragment stands, and the text's kind
 at : (g : given.Over) (c : After-try_reserve g)

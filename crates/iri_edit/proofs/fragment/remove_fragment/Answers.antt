@@ -1,6 +1,4 @@
-use Rattle.std.proofs.Common.{◌≡◌, ◌∙◌, [], None, subst, sym, refl}
-use Rattle.std.proofs.lemmas.List.{append-nil}
-use Rattle.iri_edit.specs.inside.Places.{IsFragmentAt}
+use Rattle.iri_edit.proofs.Common.{◌≡◌, ◌∙◌, [], None, subst, sym, refl, append-nil, IsFragmentAt}
 use Rattle.iri_edit.proofs.FragmentLemmas.{fragment-removed}
 use Rattle.iri_edit.proofs.KindLemmas.{IsWhole, fragment-valid}
 use Rattle.iri_edit.proofs.fragment.remove_fragment.Goals as goal

@@ -1,12 +1,7 @@
-use Rattle.std.proofs.Common.{◌≡◌, ◌+◌, ◌++◌, ◌∙◌, true, length, None, ap, append_assoc, length-append, subst, sym}
-use Rattle.std.specs.Str.{IsCharBoundary}
+use Rattle.iri_edit.proofs.Common.{◌≡◌, ◌+◌, ◌++◌, ◌∙◌, true, length, None, ap, append_assoc, length-append, subst, sym, IsCharBoundary}
+use Rattle.iri_edit.proofs.Common.{◌&&◌, ◌||◌, not, slice_range, both, is_host, is_replaced, IsHostAt}
 use Rattle.std.proofs.lemmas.Str.{IsCharBoundary-at_seam, IsUtf8-append}
-use Rattle.std.specs.Prelude.{◌&&◌, ◌||◌, not, slice_range}
-use Rattle.iri_grammar.proofs.CutLaws.{both}
-use Rattle.iri_grammar.specs.Host.{is_host}
 use Rattle.iri_types.specs.Components.{is_named}
-use Rattle.iri_edit.specs.Host.{is_replaced}
-use Rattle.iri_edit.specs.inside.Places.{IsHostAt}
 use Rattle.iri_edit.proofs.KindLemmas.{IsWhole, host-valid}
 use Rattle.iri_edit.proofs.SpliceLemmas.{host-spliced, slice-there}
 use Rattle.iri_edit.proofs.host.put_host.Goals as goal

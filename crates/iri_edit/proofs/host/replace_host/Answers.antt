@@ -1,5 +1,4 @@
-use Rattle.std.proofs.Common.{◌+◌, length, subst, sym}
-use Rattle.std.specs.Str.{IsCharBoundary}
+use Rattle.iri_edit.proofs.Common.{◌+◌, length, subst, sym, IsCharBoundary}
 use Rattle.iri_edit.proofs.host.replace_host.Goals as goal
 
 pub range-requires-clause-start_boundary : goal.range-requires-clause-start_boundary

@@ -1,7 +1,4 @@
-use Rattle.std.proofs.Common.{◌≡◌, ◌+◌, ◌++◌, ◌∙◌, [], ap, drop, subst, sym, take}
-use Rattle.iri_text.specs.Shown.{Shows}
-use Rattle.iri_types.specs.Texts.{text}
-use Rattle.iri_edit.specs.Password.{masked}
+use Rattle.iri_edit.proofs.Common.{◌≡◌, ◌+◌, ◌++◌, ◌∙◌, [], ap, drop, subst, sym, take, Shows, text, masked}
 use Rattle.iri_edit.proofs.SameLemmas.{with_password-same}
 use Rattle.iri_edit.proofs.SpliceLemmas.{password-spliced}
 use Rattle.iri_edit.proofs.password.show_masked.Goals as goal

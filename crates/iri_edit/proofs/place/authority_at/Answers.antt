@@ -1,10 +1,6 @@
-use Rattle.std.proofs.Common.{◌≡◌, ◌+◌, ◌∙◌, ap, length, subst, sym, true, Some}
-use Rattle.iri_edit.specs.inside.Places.{IsAuthorityAt}
+use Rattle.iri_edit.proofs.Common.{◌≡◌, ◌+◌, ◌∙◌, ap, length, subst, sym, true, Some, IsAuthorityAt, is_authority, if_there, scheme_text}
+use Rattle.iri_edit.proofs.Common.{split_of}
 use Rattle.iri_edit.proofs.PlaceLemmas.{authority-place}
-use Rattle.iri_grammar.specs.Authority.{is_authority}
-use Rattle.iri_grammar.specs.Components.{if_there}
-use Rattle.iri_grammar.specs.Parts.{scheme_text}
-use Rattle.iri_grammar.specs.Split.{split_of}
 use Rattle.iri_edit.proofs.place.authority_at.Goals as goal
 
 pub returns-in-Some : goal.returns-in-Some

@@ -1,9 +1,5 @@
-use Rattle.std.proofs.Common.{◌≡◌, ◌+◌, ◌∙◌, ap, length, subst, sym}
-use Rattle.iri_edit.specs.inside.Places.{IsHostAt}
+use Rattle.iri_edit.proofs.Common.{◌≡◌, ◌+◌, ◌∙◌, ap, length, subst, sym, IsHostAt, authority_parts, userinfo_text, reads, text}
 use Rattle.iri_edit.proofs.PlaceLemmas.{host-place}
-use Rattle.iri_grammar.specs.Authority.{authority_parts, userinfo_text}
-use Rattle.iri_grammar.proofs.AuthorityLaws.{reads}
-use Rattle.iri_types.specs.Texts.{text}
 use Rattle.iri_edit.proofs.place.host_at.Goals as goal
 
 pub returns : goal.returns

@@ -1,13 +1,9 @@
-use Rattle.std.proofs.Common.{◌≡◌, ◌+◌, ◌∙◌, ap, arith, length, subst, sym, Some}
-use Rattle.iri_edit.specs.inside.Places.{IsPasswordAt}
+use Rattle.iri_edit.proofs.Common.{◌≡◌, ◌+◌, ◌∙◌, ap, arith, length, subst, sym, Some, IsPasswordAt, authority_parts, after, text}
 use Rattle.iri_edit.proofs.PlaceLemmas.{password-place, password-inside, no_authority, no_userinfo, no_colon}
-use Rattle.iri_grammar.specs.Authority.{authority_parts}
-use Rattle.iri_grammar.specs.Cut.{after}
 use Rattle.iri_grammar.specs.OptionalSlices.{now_of}
-use Rattle.iri_types.specs.Texts.{text}
+use Rattle.iri_edit.proofs.place.password_at.Goals.{In-Some-after}
 use Rattle.iri_edit.proofs.place.password_at.Given as given
 use Rattle.iri_edit.proofs.place.password_at.Goals as goal
-use Rattle.iri_edit.proofs.place.password_at.Goals.{In-Some-after}
 
 here : (g : given.Over) (c : In-Some-after g) → IsPasswordAt (text c.args.reference) (c.in-Some.start + length c.cut.result.0.now)
     (c.in-Some.start + length c.cut.result.0.now + 1 + length c.in-Some-after.password.now)

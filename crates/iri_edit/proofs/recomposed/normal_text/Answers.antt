@@ -1,7 +1,4 @@
-use Rattle.std.proofs.Common.{◌≡◌, ◌∙◌, ap, subst, false, List, ℕ}
-use Rattle.std.specs.Prelude.{IfOk, string_bytes}
-use Rattle.iri_grammar.specs.Parts.{recompose}
-use Rattle.iri_grammar.specs.Split.{split_of}
+use Rattle.iri_edit.proofs.Common.{◌≡◌, ◌∙◌, ap, subst, false, List, ℕ, IfOk, string_bytes, recompose, split_of}
 use Rattle.iri_normal.specs.Normalized.{Written, written_text}
 use Rattle.iri_normal.specs.declared.mode.Mode.TheVariants.{Normal}
 use Rattle.iri_percent.specs.declared.canon_mode.CanonMode.TheVariants.{Default}

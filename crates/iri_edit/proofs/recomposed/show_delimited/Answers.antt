@@ -1,6 +1,5 @@
-use Rattle.std.proofs.Common.{subst}
+use Rattle.iri_edit.proofs.Common.{subst, Shows}
 use Rattle.iri_text.proofs.Compose.{shows_exit, shows_then}
-use Rattle.iri_text.specs.Shown.{Shows}
 use Rattle.iri_edit.proofs.ShownLemmas.{delimited-some}
 use Rattle.iri_edit.proofs.recomposed.show_delimited.Goals as goal
 

@@ -1,9 +1,6 @@
-use Rattle.std.proofs.Common.{◌≡◌, ◌+◌, ◌++◌, ◌∙◌, true, length, ap, drop, subst, sym, take}
-use Rattle.std.specs.Prelude.{◌&&◌, ◌||◌, not}
-use Rattle.iri_grammar.specs.Host.{is_host}
+use Rattle.iri_edit.proofs.Common.{◌≡◌, ◌+◌, ◌++◌, ◌∙◌, true, length, ap, drop, subst, sym, take, ◌&&◌, ◌||◌, not, is_host, text}
+use Rattle.iri_edit.proofs.Common.{is_replaced, with_host}
 use Rattle.iri_types.specs.Components.{is_named}
-use Rattle.iri_types.specs.Texts.{text}
-use Rattle.iri_edit.specs.Host.{is_replaced, with_host}
 use Rattle.iri_edit.proofs.SpliceLemmas.{host-spliced}
 use Rattle.iri_edit.proofs.shown_host.with_other_host.Goals as goal
 

@@ -1,6 +1,4 @@
-use Rattle.std.proofs.Common.{◌++◌, ◌∙◌, ap, drop, sym, take}
-use Rattle.std.proofs.lemmas.List.{append-nil}
-use Rattle.iri_types.specs.Texts.{text}
+use Rattle.iri_edit.proofs.Common.{◌++◌, ◌∙◌, ap, drop, sym, take, append-nil, text}
 use Rattle.iri_edit.proofs.SameLemmas.{without_password-same}
 use Rattle.iri_edit.proofs.SpliceLemmas.{password-removed}
 use Rattle.iri_edit.proofs.shown_removal.without_password.Goals as goal

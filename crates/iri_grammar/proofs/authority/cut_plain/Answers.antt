@@ -1,12 +1,6 @@
-use Rattle.std.proofs.Common.{◌∙◌, ap, subst, sym, take}
-use Rattle.std.proofs.lemmas.List.{take_rest}
-use Rattle.std.specs.List.{list_all}
-use Rattle.std.specs.Str.{IsUtf8, is_utf8}
+use Rattle.iri_grammar.proofs.Common.{◌∙◌, ap, subst, sym, take, take_rest, list_all, IsUtf8, is_utf8, ascii_test, is_plain_authority}
+use Rattle.iri_grammar.proofs.Common.{is_small, Userinfo, is_small_name}
 use Rattle.std.proofs.lemmas.Bool.{not-false}
-use Rattle.iri_grammar.specs.ClassTests.{ascii_test}
-use Rattle.iri_grammar.specs.Seen.{is_plain_authority, is_small}
-use Rattle.iri_grammar.specs.declared.class.Class.TheVariants.{Userinfo}
-use Rattle.iri_grammar.specs.inside.PlainAuthority.{is_small_name}
 use Rattle.iri_grammar.proofs.TextParts.{text-past}
 use Rattle.iri_grammar.proofs.PlainAuthorities.{plain_cut}
 use Rattle.iri_grammar.proofs.authority.cut_plain.Goals as goal

@@ -1,5 +1,4 @@
-use Rattle.std.proofs.Common.{arith}
-use Rattle.std.proofs.lemmas.Str.{lead_after_ascii}
+use Rattle.iri_grammar.proofs.Common.{arith, lead_after_ascii}
 use Rattle.iri_grammar.proofs.authority.cut_port.Goals as goal
 
 pub range_from-port-requires : goal.range_from-port-requires

@@ -1,9 +1,4 @@
-use Rattle.std.proofs.Common.{◌∙◌, ap, arith, drop, not, sym}
-use Rattle.std.specs.Prelude.{◌==◌}
-use Rattle.std.proofs.lemmas.List.{take_rest}
-use Rattle.iri_grammar.specs.ClassTests.{ascii_test}
-use Rattle.iri_grammar.specs.declared.class.Class.TheVariants.{RegName}
-use Rattle.iri_grammar.specs.inside.PlainAuthority.{name_len}
+use Rattle.iri_grammar.proofs.Common.{◌∙◌, ap, arith, drop, not, sym, ◌==◌, take_rest, ascii_test, RegName, name_len}
 use Rattle.iri_grammar.proofs.PlainAuthorities.{small_run}
 use Rattle.iri_grammar.proofs.Units.{run_of_le}
 use Rattle.iri_grammar.proofs.authority.name_len.Goals as goal

@@ -1,5 +1,4 @@
-use Rattle.std.proofs.Common.{◌≡◌, ◌+◌, ◌&&◌, not, drop}
-use Rattle.iri_grammar.specs.inside.PlainAuthority.{is_small_name, name_len}
+use Rattle.iri_grammar.proofs.Common.{◌≡◌, ◌+◌, ◌&&◌, not, drop, is_small_name, name_len}
 use Rattle.iri_grammar.proofs.authority.short_name_len.Given as goal
 
 -- what is left counts on

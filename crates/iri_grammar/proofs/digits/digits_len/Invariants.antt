@@ -1,6 +1,4 @@
-use Rattle.std.proofs.Common.{◌≡◌, ◌+◌, drop}
-use Rattle.std.specs.Char.{is_ascii_digit}
-use Rattle.iri_grammar.specs.Runs.{run_of}
+use Rattle.iri_grammar.proofs.Common.{◌≡◌, ◌+◌, drop, is_ascii_digit, run_of}
 use Rattle.iri_grammar.proofs.digits.digits_len.Given as goal
 
 -- what is left counts on

@@ -1,7 +1,5 @@
-use Rattle.std.proofs.Common.{◌≡◌, ◌+◌, ◌-◌, ◌∙◌, ap, arith, drop, inl, inr, length, sym, take}
-use Rattle.std.proofs.lemmas.Bool.{cases_eq, cases_lt}
-use Rattle.std.proofs.lemmas.List.{length-drop, take_all}
-use Rattle.iri_grammar.specs.Seen.{has_slash_and_dot, slash_and_dot}
+use Rattle.iri_grammar.proofs.Common.{◌≡◌, ◌+◌, ◌-◌, ◌∙◌, ap, arith, drop, inl, inr, length, sym, take, cases_eq, cases_lt, length-drop}
+use Rattle.iri_grammar.proofs.Common.{take_all, has_slash_and_dot, slash_and_dot}
 use Rattle.iri_grammar.proofs.DotPlaces.{none-onward, none-passed}
 use Rattle.iri_grammar.proofs.dots.has_dots_in_long.Goals as goal
 

@@ -1,5 +1,4 @@
-use Rattle.std.proofs.Common.{◌≡◌, ◌<◌, ◌≤◌, ◌+◌, ◌-◌, ℕ, false, drop, length}
-use Rattle.iri_grammar.specs.Seen.{slash_and_dot}
+use Rattle.iri_grammar.proofs.Common.{◌≡◌, ◌<◌, ◌≤◌, ◌+◌, ◌-◌, ℕ, false, drop, length, slash_and_dot}
 use Rattle.iri_grammar.proofs.dots.has_dots_in_long.Given as goal
 
 -- none begins before this place

@@ -1,5 +1,4 @@
-use Rattle.std.proofs.Common.{◌≡◌, length}
-use Rattle.iri_grammar.specs.Seen.{has_slash_and_dot}
+use Rattle.iri_grammar.proofs.Common.{◌≡◌, length, has_slash_and_dot}
 use Rattle.iri_grammar.proofs.dots.has_dots_in_short.Given as goal
 
 -- what is left decides as the whole does

@@ -1,6 +1,4 @@
-use Rattle.std.proofs.Common.{◌≡◌, ◌<◌, ℕ, true, ◌||◌, sym, ap, ◌∙◌, length, arith}
-use Rattle.std.specs.Prelude.{◌==◌, slice_index}
-use Rattle.std.proofs.lemmas.Bool.Decides.{nat_tests}
+use Rattle.iri_grammar.proofs.Common.{◌≡◌, ◌<◌, ℕ, true, ◌||◌, sym, ap, ◌∙◌, length, arith, ◌==◌, slice_index, nat_tests}
 use Rattle.std.proofs.lemmas.Str.{IsCharBoundary-after_ascii}
 use Rattle.iri_grammar.proofs.ip_literal.is_ipvfuture.Goals as goal
 

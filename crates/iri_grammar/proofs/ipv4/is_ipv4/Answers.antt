@@ -1,8 +1,5 @@
-use Rattle.std.proofs.Common.{◌∙◌, sym, ap, arith}
-use Rattle.iri_grammar.specs.OptionalSlices.{now_of}
-use Rattle.iri_grammar.specs.Pieces.{pieces}
+use Rattle.iri_grammar.proofs.Common.{◌∙◌, sym, ap, arith, now_of, pieces, is_dec_octet}
 use Rattle.iri_grammar.proofs.PiecesLaws.{after_shorter}
-use Rattle.iri_grammar.specs.Ipv4.{is_dec_octet}
 use Rattle.iri_grammar.proofs.Delimiters.{text_after}
 use Rattle.iri_grammar.proofs.Octets.{stop_bad, stop_many, step_octet, last_octet, octets_left}
 use Rattle.iri_grammar.proofs.ipv4.is_ipv4.Goals as goal

@@ -1,8 +1,6 @@
-use Rattle.std.proofs.Common.{◌≡◌, length}
+use Rattle.iri_grammar.proofs.Common.{◌≡◌, length, pieces, is_ipv4}
 use denote.Text.{Utf8}
 use denote.Shadow.{shadow}
-use Rattle.iri_grammar.specs.Pieces.{pieces}
-use Rattle.iri_grammar.specs.Ipv4.{is_ipv4}
 use Rattle.iri_grammar.proofs.Octets.{octets_left}
 use Rattle.iri_grammar.proofs.ipv4.is_ipv4.Given as goal
 

@@ -1,8 +1,6 @@
-use Rattle.std.proofs.Common.{◌≡◌, ◌+◌, ◌≤◌, length}
+use Rattle.iri_grammar.proofs.Common.{◌≡◌, ◌+◌, ◌≤◌, length, pieces, count, plus}
 use denote.Text.{Utf8}
 use denote.Shadow.{shadow}
-use Rattle.iri_grammar.specs.Pieces.{pieces}
-use Rattle.iri_grammar.specs.inside.Ipv6Counts.{count, plus}
 use Rattle.iri_grammar.proofs.ipv6.count_parts.Given as goal
 
 abbrev pub invariant-groups : goal.invariant-groups

@@ -1,5 +1,4 @@
-use Rattle.std.proofs.Common.{sym}
-use Rattle.iri_grammar.specs.Ipv6Test.{group_texts}
+use Rattle.iri_grammar.proofs.Common.{sym, group_texts}
 use Rattle.iri_grammar.proofs.Groups.{full_count, full_none}
 use Rattle.iri_grammar.proofs.ipv6.is_full.Goals as goal
 

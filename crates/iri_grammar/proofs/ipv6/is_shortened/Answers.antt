@@ -1,7 +1,4 @@
-use Rattle.std.proofs.Common.{◌≡◌, ◌+◌, ◌-◌, ◌<◌, ◌≤◌, sym, ◌∙◌, ℕ, arith}
-use Rattle.std.specs.Prelude.{nat_lt}
-use Rattle.std.proofs.lemmas.Bool.Decides.{nat_tests}
-use Rattle.iri_grammar.specs.Ipv6Test.{group_texts}
+use Rattle.iri_grammar.proofs.Common.{◌≡◌, ◌+◌, ◌-◌, ◌<◌, ◌≤◌, sym, ◌∙◌, ℕ, arith, nat_lt, nat_tests, group_texts}
 use Rattle.iri_grammar.proofs.Groups.{short_count, short_prefix_none, short_back_none}
 use Rattle.iri_grammar.proofs.ipv6.is_shortened.Goals as goal
 

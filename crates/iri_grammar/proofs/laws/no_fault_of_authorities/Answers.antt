@@ -1,8 +1,4 @@
-use Rattle.std.specs.Prelude.{◌&&◌, not}
-use Rattle.iri_grammar.specs.Classes.{userinfo_char, reg_name_char}
-use Rattle.iri_grammar.specs.Components.{is_userinfo, is_port}
-use Rattle.iri_grammar.specs.Ipv4.{is_ipv4}
-use Rattle.iri_grammar.specs.Host.{is_host, is_reg_name}
+use Rattle.iri_grammar.proofs.Common.{◌&&◌, not, userinfo_char, reg_name_char, is_userinfo, is_port, is_ipv4, is_host, is_reg_name}
 use Rattle.iri_grammar.proofs.CutLaws.{both}
 use Rattle.iri_grammar.proofs.AuthorityTexts.{text_over-utf8, host-utf8, port-utf8}
 use Rattle.iri_grammar.proofs.FaultLaws.{component-law, authority-law}

@@ -1,6 +1,4 @@
-use Rattle.std.proofs.Common.{◌∙◌, ap, sym}
-use Rattle.iri_grammar.specs.ClassTests.{class_test}
-use Rattle.iri_grammar.specs.Over.{text_over}
+use Rattle.iri_grammar.proofs.Common.{◌∙◌, ap, sym, class_test, text_over}
 use Rattle.iri_grammar.proofs.UnitRuns.{cut_decides}
 use Rattle.iri_grammar.proofs.over.is_over.Goals as goal
 

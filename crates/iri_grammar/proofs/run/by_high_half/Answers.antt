@@ -1,6 +1,4 @@
-use Rattle.std.proofs.Common.{◌/◌, refl, arith}
-use Rattle.std.proofs.lemmas.Simd.{zip2_splat}
-use Rattle.iri_grammar.specs.inside.Halves.{high_bit}
+use Rattle.iri_grammar.proofs.Common.{◌/◌, refl, arith, zip2_splat, high_bit}
 use Rattle.iri_grammar.specs.declared.run.TheConstants.{HIGH_HALVES}
 use Rattle.iri_grammar.proofs.RunBlocks.{down, high_ok, looked_up}
 use Rattle.iri_grammar.proofs.run.by_high_half.Goals as goal

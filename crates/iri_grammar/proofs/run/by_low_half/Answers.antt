@@ -1,8 +1,7 @@
-use Rattle.std.proofs.Common.{◌≡◌, ◌+◌, bit_and, arith, ap₂, ◌∙◌}
-use Rattle.std.specs.Prelude.{slice_index}
+use Rattle.iri_grammar.proofs.Common.{◌≡◌, ◌+◌, bit_and, arith, ◌∙◌, slice_index, zip2_splat, low_bits}
+use Rattle.std.proofs.Common.{ap₂}
 use Rattle.std.proofs.lemmas.Nat.{and_le_r}
-use Rattle.std.proofs.lemmas.Simd.{get_or-chunk, zip2_splat}
-use Rattle.iri_grammar.specs.inside.Halves.{low_bits}
+use Rattle.std.proofs.lemmas.Simd.{get_or-chunk}
 use Rattle.iri_grammar.proofs.RunBlocks.{low_ok, looked_up}
 use Rattle.iri_grammar.proofs.run.by_low_half.Goals as goal
 

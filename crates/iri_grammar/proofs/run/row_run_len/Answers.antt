@@ -1,5 +1,4 @@
-use Rattle.std.proofs.Common.{arith}
-use Rattle.iri_grammar.specs.inside.Halves.{row_test}
+use Rattle.iri_grammar.proofs.Common.{arith, row_test}
 use Rattle.iri_grammar.proofs.RunBlocks.{run_ends, run_of_last, run_passes}
 use Rattle.iri_grammar.proofs.Units.{run_of_le}
 use Rattle.iri_grammar.proofs.run.row_run_len.Goals as goal

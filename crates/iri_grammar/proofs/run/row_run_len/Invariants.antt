@@ -1,6 +1,4 @@
-use Rattle.std.proofs.Common.{◌≡◌, ◌≤◌, ◌-◌, length}
-use Rattle.iri_grammar.specs.inside.Halves.{row_test}
-use Rattle.iri_grammar.specs.Runs.{run_of}
+use Rattle.iri_grammar.proofs.Common.{◌≡◌, ◌≤◌, ◌-◌, length, row_test, run_of}
 use Rattle.iri_grammar.proofs.run.row_run_len.Given as goal
 
 -- what is passed is of the class

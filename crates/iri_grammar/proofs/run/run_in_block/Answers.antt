@@ -1,7 +1,6 @@
-use Rattle.std.proofs.Common.{sym, ap, subst, ◌∙◌, w8}
+use Rattle.iri_grammar.proofs.Common.{sym, ap, subst, ◌∙◌, row_test, run_of}
+use Rattle.std.proofs.Common.{w8}
 use Rattle.std.proofs.lemmas.Simd.{chunk-fits, length-chunk}
-use Rattle.iri_grammar.specs.inside.Halves.{row_test}
-use Rattle.iri_grammar.specs.Runs.{run_of}
 use Rattle.iri_grammar.proofs.RunBlocks.{IsBlock, first-other, none-other}
 use Rattle.iri_grammar.proofs.run.run_in_block.Goals as goal
 

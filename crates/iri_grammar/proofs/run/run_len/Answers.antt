@@ -1,6 +1,4 @@
-use Rattle.std.proofs.Common.{◌-◌, ◌∙◌, ap}
-use Rattle.iri_grammar.specs.Runs.{run_of}
-use Rattle.iri_grammar.specs.inside.Halves.{row_test}
+use Rattle.iri_grammar.proofs.Common.{◌-◌, ◌∙◌, ap, run_of, row_test}
 use Rattle.iri_grammar.proofs.RunBlocks.{class_run}
 use Rattle.iri_grammar.proofs.run.run_len.Goals as goal
 

@@ -1,6 +1,4 @@
-use Rattle.std.proofs.Common.{◌≡◌, ◌+◌, drop}
-use Rattle.iri_grammar.specs.ClassTests.{ascii_test}
-use Rattle.iri_grammar.specs.Runs.{run_of}
+use Rattle.iri_grammar.proofs.Common.{◌≡◌, ◌+◌, drop, ascii_test, run_of}
 use Rattle.iri_grammar.proofs.run.short_run_len.Given as goal
 
 -- what is left counts on

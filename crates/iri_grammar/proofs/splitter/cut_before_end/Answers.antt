@@ -1,6 +1,4 @@
-use Rattle.std.proofs.Common.{◌≡◌, ◌∙◌, Some, true, ap, sym}
-use Rattle.iri_grammar.specs.Delimiters.{before_any, from_any}
-use Rattle.iri_grammar.specs.inside.Delimiters.{ends_authority, ends_at_start}
+use Rattle.iri_grammar.proofs.Common.{◌≡◌, ◌∙◌, Some, true, ap, sym, before_any, from_any, ends_authority, ends_at_start}
 use Rattle.iri_grammar.proofs.PlainTails.{name-ends}
 use Rattle.iri_grammar.proofs.splitter.cut_before_end.Goals as goal
 

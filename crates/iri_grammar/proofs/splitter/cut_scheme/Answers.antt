@@ -1,6 +1,4 @@
-use Rattle.std.proofs.Common.{◌+◌, ◌∙◌, ap, sym}
-use Rattle.std.specs.Str.{is_utf8}
-use Rattle.std.proofs.lemmas.List.{take_rest}
+use Rattle.iri_grammar.proofs.Common.{◌+◌, ◌∙◌, ap, sym, is_utf8, take_rest}
 use Rattle.iri_grammar.proofs.TextParts.{scheme-text}
 use Rattle.iri_grammar.proofs.splitter.cut_scheme.Goals as goal
 

@@ -1,7 +1,4 @@
-use Rattle.std.proofs.Common.{◌≡◌, ℕ, Bool, true, get_or, refl, arith}
-use Rattle.std.specs.Prelude.{◌==◌}
-use Rattle.std.proofs.lemmas.Bool.{agree_below, agree_below_at}
-use Rattle.iri_grammar.specs.Components.{is_scheme_char}
+use Rattle.iri_grammar.proofs.Common.{◌≡◌, ℕ, Bool, true, get_or, refl, arith, ◌==◌, agree_below, agree_below_at, is_scheme_char}
 use Rattle.iri_grammar.specs.declared.splitter.TheConstants.{SCHEME_BYTES}
 use Rattle.iri_grammar.proofs.splitter.is_scheme_byte.Goals as goal
 

@@ -1,5 +1,4 @@
-use Rattle.std.proofs.Common.{◌≡◌, false, sym, subst}
-use Rattle.iri_grammar.specs.inside.Delimiters.{ends_scheme}
+use Rattle.iri_grammar.proofs.Common.{◌≡◌, false, sym, subst, ends_scheme}
 use Rattle.iri_grammar.proofs.DelimiterLemmas.{no_scheme}
 use Rattle.iri_grammar.proofs.splitter.scheme_end.Goals as goal
 

@@ -1,6 +1,4 @@
-use Rattle.std.proofs.Common.{◌≡◌, ◌+◌, drop}
-use Rattle.iri_grammar.specs.Components.{is_scheme_char}
-use Rattle.iri_grammar.specs.Runs.{run_of}
+use Rattle.iri_grammar.proofs.Common.{◌≡◌, ◌+◌, drop, is_scheme_char, run_of}
 use Rattle.iri_grammar.proofs.splitter.scheme_run.Given as goal
 
 -- what is left counts on

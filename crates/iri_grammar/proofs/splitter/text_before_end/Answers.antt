@@ -1,8 +1,4 @@
-use Rattle.std.proofs.Common.{◌∙◌, ap, sym, arith}
-use Rattle.std.specs.Str.{is_utf8}
-use Rattle.std.proofs.lemmas.List.{take_rest}
-use Rattle.std.proofs.lemmas.Str.{IsUtf8-from_is_utf8, IsUtf8-take}
-use Rattle.std.proofs.lemmas.Bool.{false_from_ne_true}
+use Rattle.iri_grammar.proofs.Common.{◌∙◌, ap, sym, arith, is_utf8, take_rest, IsUtf8-from_is_utf8, IsUtf8-take, false_from_ne_true}
 use Rattle.iri_grammar.proofs.TextParts.{text-past}
 use Rattle.iri_grammar.proofs.splitter.text_before_end.Goals as goal
 

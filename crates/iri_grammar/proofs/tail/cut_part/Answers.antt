@@ -1,5 +1,4 @@
-use Rattle.std.proofs.Common.{subst}
-use Rattle.std.specs.Str.{IsUtf8}
+use Rattle.iri_grammar.proofs.Common.{subst, IsUtf8}
 use Rattle.iri_grammar.proofs.Units.{text_after_ascii}
 use Rattle.iri_grammar.proofs.tail.cut_part.Goals as goal
 

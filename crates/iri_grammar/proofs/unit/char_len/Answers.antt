@@ -1,8 +1,5 @@
-use Rattle.std.proofs.Common.{◌≡◌, true, sym, subst, length, take, ◌∙◌, ◌-◌, arith}
-use Rattle.iri_grammar.specs.ClassTests.{class_test}
-use Rattle.iri_grammar.specs.inside.Runs.{AreUnits}
+use Rattle.iri_grammar.proofs.Common.{◌≡◌, true, sym, subst, length, take, ◌∙◌, ◌-◌, arith, class_test, AreUnits, lacks}
 use Rattle.iri_grammar.proofs.ClassLaws.{class_has_no_percent}
-use Rattle.iri_grammar.specs.Cut.{lacks}
 use Rattle.iri_grammar.proofs.UnitRuns.{char_units, char_lacks, prefix_of, prefix_text}
 use Rattle.iri_grammar.proofs.Units.{char_stops, nothing_left}
 use Rattle.iri_grammar.proofs.unit.char_len.Goals as goal

@@ -1,7 +1,4 @@
-use Rattle.std.proofs.Common.{◌≡◌, ◌∙◌, true, ap, subst, sym, take, drop}
-use Rattle.iri_grammar.specs.ClassTests.{class_test}
-use Rattle.iri_grammar.specs.Cut.{lacks}
-use Rattle.iri_grammar.specs.inside.Runs.{begins_with_triplet, AreUnits}
+use Rattle.iri_grammar.proofs.Common.{◌≡◌, ◌∙◌, true, ap, subst, sym, take, drop, class_test, lacks, begins_with_triplet, AreUnits}
 use Rattle.iri_grammar.proofs.ClassLaws.{class_at_ascii, class_has_no_percent}
 use Rattle.iri_grammar.proofs.UnitRuns.{no_units, no_triplet_at, run_lacks, run_units}
 use Rattle.iri_grammar.proofs.unit.near_units_len.Goals as goal

@@ -1,9 +1,5 @@
-use Rattle.std.proofs.Common.{◌≡◌, true, subst, take, arith}
-use Rattle.std.proofs.lemmas.Bool.{and_parts}
-use Rattle.std.proofs.lemmas.Str.{IsCharBoundary-from_take}
-use Rattle.iri_grammar.specs.ClassTests.{class_test}
-use Rattle.iri_grammar.specs.inside.Runs.{AreUnits, HasNoUnit}
-use Rattle.iri_grammar.specs.Cut.{lacks}
+use Rattle.iri_grammar.proofs.Common.{◌≡◌, true, subst, take, arith, and_parts, IsCharBoundary-from_take, class_test, AreUnits, HasNoUnit}
+use Rattle.iri_grammar.proofs.Common.{lacks}
 use Rattle.iri_grammar.proofs.UnitRuns.{lacks_onward, no_units, units_onward, units_text}
 use Rattle.iri_grammar.proofs.unit.text_units_len.Goals as goal
 

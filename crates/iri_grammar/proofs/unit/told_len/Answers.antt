@@ -1,8 +1,4 @@
-use Rattle.std.proofs.Common.{◌≡◌, true, inl, inr, subst, sym, take, refl}
-use Rattle.std.proofs.lemmas.Bool.{cases_eq}
-use Rattle.iri_grammar.specs.ClassTests.{class_test}
-use Rattle.iri_grammar.specs.Cut.{lacks}
-use Rattle.iri_grammar.specs.inside.Runs.{AreUnits}
+use Rattle.iri_grammar.proofs.Common.{◌≡◌, true, inl, inr, subst, sym, take, refl, cases_eq, class_test, lacks, AreUnits}
 use Rattle.iri_grammar.proofs.UnitRuns.{no_units}
 use Rattle.iri_grammar.proofs.WideChars.{wide_lacks, wide_units}
 use Rattle.iri_grammar.proofs.unit.told_len.Goals as goal

@@ -1,6 +1,4 @@
-use Rattle.std.proofs.Common.{◌+◌, ℕ, Bool, true, sym, ap, ◌∙◌, drop, arith}
-use Rattle.std.proofs.lemmas.List.{take_rest}
-use Rattle.iri_grammar.specs.inside.Runs.{begins_with_triplet, AreUnits}
+use Rattle.iri_grammar.proofs.Common.{◌+◌, ℕ, Bool, true, sym, ap, ◌∙◌, drop, arith, take_rest, begins_with_triplet, AreUnits}
 use Rattle.iri_grammar.proofs.UnitRuns.{no_units, triplet_units, units_onward}
 use Rattle.iri_grammar.proofs.unit.triplets_len.Goals as goal
 

@@ -1,5 +1,4 @@
-use Rattle.std.proofs.Common.{◌-◌, ◌≤◌, ℕ, Bool, length}
-use Rattle.iri_grammar.specs.inside.Runs.{AreUnits}
+use Rattle.iri_grammar.proofs.Common.{◌-◌, ◌≤◌, ℕ, Bool, length, AreUnits}
 use Rattle.iri_grammar.proofs.unit.triplets_len.Given as goal
 
 abbrev pub invariant-triplets : goal.invariant-triplets

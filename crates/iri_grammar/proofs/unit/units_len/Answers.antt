@@ -1,10 +1,5 @@
-use Rattle.std.proofs.Common.{◌≡◌, ◌∙◌, true, ap, subst, sym, take, drop, drop-drop, arith}
-use Rattle.std.specs.Str.{IsUtf8}
-use Rattle.std.proofs.lemmas.Bool.{and_parts}
-use Rattle.std.proofs.lemmas.List.{take_rest}
-use Rattle.iri_grammar.specs.ClassTests.{class_test}
-use Rattle.iri_grammar.specs.inside.Runs.{AreUnits, HasNoUnit}
-use Rattle.iri_grammar.specs.Cut.{lacks}
+use Rattle.iri_grammar.proofs.Common.{◌≡◌, ◌∙◌, true, ap, subst, sym, take, drop, drop-drop, arith, IsUtf8, and_parts, take_rest}
+use Rattle.iri_grammar.proofs.Common.{class_test, AreUnits, HasNoUnit, lacks}
 use Rattle.iri_grammar.proofs.UnitRuns.{lacks_onward, no_units, rest_text, units_onward}
 use Rattle.iri_grammar.proofs.unit.units_len.Goals as goal
 

@@ -1,7 +1,4 @@
-use Rattle.std.proofs.Common.{◌≡◌, ◌-◌, true, length, take}
-use Rattle.iri_grammar.specs.ClassTests.{class_test}
-use Rattle.iri_grammar.specs.Cut.{lacks}
-use Rattle.iri_grammar.specs.inside.Runs.{AreUnits}
+use Rattle.iri_grammar.proofs.Common.{◌≡◌, ◌-◌, true, length, take, class_test, lacks, AreUnits}
 use Rattle.iri_grammar.proofs.unit.units_len.Given as goal
 
 abbrev pub invariant-units : goal.invariant-units

@@ -1,5 +1,4 @@
-use Rattle.std.proofs.Common.{◌∙◌, ap, sym}
-use Rattle.std.proofs.lemmas.List.{take_rest}
+use Rattle.iri_grammar.proofs.Common.{◌∙◌, ap, sym, take_rest}
 use Rattle.iri_grammar.specs.inside.Runs.{begins_with_more}
 use Rattle.iri_grammar.proofs.WideChars.{three_bytes, two_bytes}
 use Rattle.iri_grammar.proofs.unit.wide_len.Goals as goal

@@ -1,5 +1,4 @@
-use Rattle.std.proofs.Common.{sym, ap, ◌∙◌}
-use Rattle.iri_grammar.specs.OptionalSlices.{now_of}
+use Rattle.iri_link.proofs.Common.{sym, ap, ◌∙◌, now_of}
 use Rattle.iri_link.proofs.LinkLemmas.{target_cut, target_open, target_bad}
 use Rattle.iri_link.proofs.link.cut_target.Goals as goal
 

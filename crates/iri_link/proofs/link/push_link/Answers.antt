@@ -1,9 +1,7 @@
-use Rattle.std.proofs.Common.{ap, ◌∙◌, map, [], ◌∷◌}
-use Rattle.std.proofs.lemmas.List.{map-append}
-use Rattle.iri_link.specs.Stored.{link_of}
+use Rattle.iri_link.proofs.Common.{ap, ◌∙◌, map, [], ◌∷◌, map-append, link_of}
 use Rattle.iri_link.proofs.LinkLemmas.{comma_or_end, link_added, link_kept, empty_matched}
-use Rattle.iri_link.proofs.link.push_link.Goals as goal
 use Rattle.iri_link.proofs.link.push_link.Goals.{in-Ok-push, in-Err-push}
+use Rattle.iri_link.proofs.link.push_link.Goals as goal
 
 pub returns-after-push : goal.returns-after-push
 returns-after-push g c =

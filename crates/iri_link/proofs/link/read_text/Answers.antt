@@ -1,7 +1,4 @@
-use Rattle.std.proofs.Common.{ap, map, rules}
-use Rattle.iri_grammar.specs.OptionalSlices.{now_of}
-use Rattle.iri_normal.specs.Resolver.{base_text}
-use Rattle.iri_link.specs.Stored.{link_of}
+use Rattle.iri_link.proofs.Common.{ap, map, rules, now_of, base_text, link_of}
 use Rattle.iri_link.proofs.LinkLemmas.{up_none, up_more, up_end, halts_then}
 use Rattle.iri_link.proofs.link.read_text.Goals as goal
 

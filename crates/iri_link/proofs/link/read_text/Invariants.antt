@@ -1,8 +1,4 @@
-use Rattle.std.proofs.Common.{length, map}
-use denote.Text.{Utf8}
-use denote.Shadow.{shadow}
-use Rattle.iri_normal.specs.Resolver.{base_text}
-use Rattle.iri_link.specs.Stored.{link_of}
+use Rattle.iri_link.proofs.Common.{length, map, Utf8, shadow, base_text, link_of}
 use Rattle.iri_link.specs.inside.ReadLinks.{ReadsUpTo}
 use Rattle.iri_link.proofs.link.read_text.Given as goal
 

@@ -1,11 +1,8 @@
-use Rattle.std.proofs.Common.{refl, sym, ap, ◌∙◌, map, [], ◌∷◌}
-use Rattle.std.proofs.lemmas.List.{map-append}
-use Rattle.iri_link.specs.Stored.{param_of}
-use Rattle.iri_link.specs.Phases.{in_name, after_semicolon}
+use Rattle.iri_link.proofs.Common.{refl, sym, ap, ◌∙◌, map, [], ◌∷◌, map-append, param_of, in_name, after_semicolon}
 use Rattle.iri_link.proofs.PhaseLemmas.{semicolon-name}
 use Rattle.iri_link.proofs.ParamLemmas.{none_added, one_added, halts_on}
-use Rattle.iri_link.proofs.param.push_param.Goals as goal
 use Rattle.iri_link.proofs.param.push_param.Goals.{in-Ok-push, in-Err-push}
+use Rattle.iri_link.proofs.param.push_param.Goals as goal
 
 pub returns-then-not-begins_token : goal.returns-then-not-begins_token
 returns-then-not-begins_token c = none_added c.args.s.now _ _ refl c.requires (sym c.begins_token.ensures ∙ c.if-not-begins_token.true)

@@ -1,5 +1,4 @@
-use Rattle.std.proofs.Common.{refl, ◌∙◌}
-use Rattle.iri_link.specs.Phases.{in_name, after_equals}
+use Rattle.iri_link.proofs.Common.{refl, ◌∙◌, in_name, after_equals}
 use Rattle.iri_link.proofs.ParamLemmas.{bare_read, valued_read, name_goes, halts_on}
 use Rattle.iri_link.proofs.param.read_param.Goals as goal
 

@@ -1,6 +1,4 @@
-use Rattle.std.proofs.Common.{sym, ap, ◌∙◌, map, rules}
-use Rattle.iri_link.specs.Stored.{param_of}
-use Rattle.iri_link.specs.Phases.{after_param, after_semicolon}
+use Rattle.iri_link.proofs.Common.{sym, ap, ◌∙◌, map, rules, param_of, after_param, after_semicolon}
 use Rattle.iri_link.proofs.ParamLemmas.{none_read, more_read, all_read, param_wanted, piece_goes, halts_on}
 use Rattle.iri_link.proofs.param.read_params.Goals as goal
 

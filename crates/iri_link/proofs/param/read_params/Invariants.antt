@@ -1,8 +1,4 @@
-use Rattle.std.proofs.Common.{length, map}
-use denote.Text.{Utf8}
-use denote.Shadow.{shadow}
-use Rattle.iri_link.specs.Stored.{param_of}
-use Rattle.iri_link.specs.inside.ReadParams.{ReadsSome}
+use Rattle.iri_link.proofs.Common.{length, map, Utf8, shadow, param_of, ReadsSome}
 use Rattle.iri_link.proofs.param.read_params.Given as goal
 
 -- what is read so far

@@ -1,9 +1,6 @@
-use Rattle.std.proofs.Common.{◌≡◌, ℕ, ◌+◌, ◌-◌, ◌<◌, List, false, true, suc, take, drop, sym, ◌∙◌, ap, arith, length}
-use Rattle.std.specs.Prelude.{slice_index}
-use Rattle.std.specs.Str.{IsUtf8, IsCharBoundary}
-use Rattle.std.proofs.lemmas.Str.{IsCharBoundary-before_ascii, IsCharBoundary-after_ascii}
-use Rattle.iri_link.specs.Fault.{closes_from}
-use Rattle.iri_link.specs.inside.ReadQuoted.{quoted_len, IsCutQuoted}
+use Rattle.iri_link.proofs.Common.{◌≡◌, ℕ, ◌+◌, ◌-◌, ◌<◌, List, false, true, suc, take, drop, sym, ◌∙◌, ap, arith, length, slice_index}
+use Rattle.iri_link.proofs.Common.{IsUtf8, IsCharBoundary, IsCharBoundary-after_ascii, closes_from, quoted_len, IsCutQuoted}
+use Rattle.std.proofs.lemmas.Str.{IsCharBoundary-before_ascii}
 use Rattle.iri_link.proofs.QuotedLemmas.{closed, is_quoted, quoted-goes}
 use Rattle.iri_link.proofs.quoted.cut_quoted.Goals as goal
 

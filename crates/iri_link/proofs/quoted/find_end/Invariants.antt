@@ -1,6 +1,4 @@
-use Rattle.std.proofs.Common.{◌≡◌, false, ◌+◌, drop}
-use Rattle.iri_link.specs.Fault.{closes_from}
-use Rattle.iri_link.specs.inside.ReadQuoted.{quoted_len}
+use Rattle.iri_link.proofs.Common.{◌≡◌, false, ◌+◌, drop, closes_from, quoted_len}
 use Rattle.iri_link.proofs.quoted.find_end.Given as goal
 
 -- what is left decides, and counts on

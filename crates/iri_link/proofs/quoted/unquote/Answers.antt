@@ -1,8 +1,5 @@
-use Rattle.std.proofs.Common.{true, ◌≡◌, ℕ, ◌∷◌, ◌++◌, List, [], Some, None, sym, ◌∙◌, ap, arith, length, append_assoc, rules, string_bytes}
-use Rattle.std.proofs.lemmas.List.{append-nil}
-use Rattle.iri_grammar.specs.OptionalSlices.{now_of}
-use Rattle.iri_grammar.specs.Cut.{before, after}
-use Rattle.iri_link.specs.inside.ReadQuoted.{unquoted, unquoted_from}
+use Rattle.iri_link.proofs.Common.{true, ◌≡◌, ℕ, ◌∷◌, ◌++◌, List, [], Some, None, sym, ◌∙◌, ap, arith, length, append_assoc, rules}
+use Rattle.iri_link.proofs.Common.{string_bytes, append-nil, now_of, before, after, unquoted, unquoted_from}
 use Rattle.iri_link.proofs.QuotedLemmas.{after_pair, unquoted-chunk, after_pair-plain, after-shorter}
 use Rattle.iri_link.proofs.quoted.unquote.Goals as goal
 

@@ -1,7 +1,4 @@
-use Rattle.std.proofs.Common.{◌≡◌, ◌++◌, string_bytes, length}
-use denote.Text.{Utf8}
-use denote.Shadow.{shadow}
-use Rattle.iri_link.specs.inside.ReadQuoted.{unquoted}
+use Rattle.iri_link.proofs.Common.{◌≡◌, ◌++◌, string_bytes, length, Utf8, shadow, unquoted}
 use Rattle.iri_link.proofs.quoted.unquote.Given as goal
 
 -- what is written, and the value of what is left, are the value

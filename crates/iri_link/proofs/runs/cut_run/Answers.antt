@@ -1,7 +1,4 @@
-use Rattle.std.proofs.Common.{sym, ap, ◌∙◌, subst, take, drop}
-use Rattle.std.specs.Str.{IsCharBoundary}
-use Rattle.iri_grammar.specs.Runs.{run_of}
-use Rattle.iri_link.specs.inside.Runs.{run_test}
+use Rattle.iri_link.proofs.Common.{sym, ap, ◌∙◌, subst, take, drop, IsCharBoundary, run_of, run_test}
 use Rattle.iri_link.proofs.RunLemmas.{run-is, run-boundary}
 use Rattle.iri_link.proofs.runs.cut_run.Goals as goal
 

@@ -1,9 +1,5 @@
-use Rattle.std.proofs.Common.{◌≡◌, ℕ, ◌<◌, List, [], ◌∷◌, true, sym, ap, ◌∙◌, arith}
-use Rattle.std.specs.Prelude.{◌==◌}
-use Rattle.std.specs.Str.{IsUtf8, IsCharBoundary}
-use Rattle.std.proofs.lemmas.Bool.{eqb-true}
-use Rattle.std.proofs.lemmas.Str.{IsCharBoundary-after_ascii}
-use Rattle.iri_grammar.specs.inside.Runs.{first_passes}
+use Rattle.iri_link.proofs.Common.{◌≡◌, ℕ, ◌<◌, List, [], ◌∷◌, true, sym, ap, ◌∙◌, arith, ◌==◌, IsUtf8, IsCharBoundary, eqb-true}
+use Rattle.iri_link.proofs.Common.{IsCharBoundary-after_ascii, first_passes}
 use Rattle.iri_link.proofs.runs.past.Goals as goal
 
 boundary : (m : ℕ) (t : List ℕ) → m < 128 → IsUtf8 t → first_passes (λ c. c == m) t ≡ true → IsCharBoundary t 1

@@ -1,6 +1,4 @@
-use Rattle.std.proofs.Common.{◌≡◌, ◌+◌, drop}
-use Rattle.iri_grammar.specs.Runs.{run_of}
-use Rattle.iri_link.specs.inside.Runs.{run_test}
+use Rattle.iri_link.proofs.Common.{◌≡◌, ◌+◌, drop, run_of, run_test}
 use Rattle.iri_link.proofs.runs.run_len.Given as goal
 
 -- what is left counts on

@@ -1,7 +1,5 @@
-use Rattle.std.proofs.Common.{subst}
-use Rattle.std.specs.Prelude.{MatchResult}
+use Rattle.iri_link.proofs.Common.{subst, MatchResult, IsRead}
 use Rattle.iri_link.specs.Refusals.{RefusedBy}
-use Rattle.iri_link.specs.Resolved.{IsRead}
 use Rattle.iri_link.proofs.set.read_links.Goals as goal
 
 pub returns : goal.returns

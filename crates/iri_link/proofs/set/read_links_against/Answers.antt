@@ -1,5 +1,4 @@
-use Rattle.std.proofs.Common.{◌∙◌}
-use Rattle.iri_normal.specs.Resolver.{base_text}
+use Rattle.iri_link.proofs.Common.{◌∙◌, base_text}
 use Rattle.iri_link.proofs.AnswerLemmas.{of_text, of_bytes}
 use Rattle.iri_link.proofs.set.read_links_against.Goals as goal
 

@@ -1,10 +1,5 @@
-use Rattle.std.proofs.Common.{◌≡◌, ℕ, List, [], ◌∷◌, ◌++◌, false, Some, refl, sym, ap, ◌∙◌, append_assoc}
-use Rattle.iri_grammar.specs.Classes.{Tests}
-use Rattle.iri_link.specs.Field.{quoted}
-use Rattle.iri_link.specs.Phases.{after_equals}
-use Rattle.iri_link.specs.Fault.{fault_from, closes_from}
-use Rattle.iri_link.specs.inside.ReadQuoted.{IsCutQuoted, unquoted}
-use Rattle.iri_link.specs.inside.ReadParams.{ReadsValue}
+use Rattle.iri_link.proofs.Common.{◌≡◌, ℕ, List, [], ◌∷◌, ◌++◌, false, Some, refl, sym, ap, ◌∙◌, append_assoc, Tests, quoted, after_equals}
+use Rattle.iri_link.proofs.Common.{fault_from, closes_from, IsCutQuoted, unquoted, ReadsValue}
 use Rattle.iri_link.specs.declared.error.LinkKind.TheVariants.{OpenString}
 use Rattle.iri_link.proofs.value.read_quoted.Goals as goal
 

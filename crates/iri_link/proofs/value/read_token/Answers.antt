@@ -1,17 +1,5 @@
-use Rattle.std.proofs.Common.{◌≡◌, ℕ, List, [], ◌∷◌, true, false, Some, length, refl, sym, ap, ◌∙◌, arith}
-use Rattle.std.specs.Prelude.{◌==◌}
-use Rattle.std.specs.List.{list_all}
-use Rattle.std.proofs.lemmas.Bool.{eqb-true}
-use Rattle.iri_grammar.specs.Classes.{Tests}
-use Rattle.std.proofs.lemmas.Bool.{and_parts as both}
-use Rattle.iri_grammar.specs.Blanks.{is_blank}
-use Rattle.iri_link.specs.Token.{is_token_char}
-use Rattle.iri_link.specs.Field.{token}
-use Rattle.iri_link.specs.Phases.{after_equals}
-use Rattle.iri_link.specs.Fault.{fault_from}
-use Rattle.iri_grammar.specs.inside.Runs.{first_passes}
-use Rattle.iri_link.specs.inside.Runs.{IsRun}
-use Rattle.iri_link.specs.inside.ReadParams.{ReadsValue}
+use Rattle.iri_link.proofs.Common.{◌≡◌, ℕ, List, [], ◌∷◌, true, false, Some, length, refl, sym, ap, ◌∙◌, arith, ◌==◌, list_all, eqb-true}
+use Rattle.iri_link.proofs.Common.{Tests, both, is_blank, is_token_char, token, after_equals, fault_from, first_passes, IsRun, ReadsValue}
 use Rattle.iri_link.specs.declared.error.LinkKind.TheVariants.{NoValue}
 use Rattle.iri_link.proofs.PhaseLemmas.{equals-token, token-run, token-ends}
 use Rattle.iri_link.proofs.value.read_token.Goals as goal

@@ -1,6 +1,5 @@
-use Rattle.std.proofs.Common.{◌++◌, ◌∷◌, sym, ap, ◌∙◌, append_assoc, rules}
+use Rattle.iri_link.proofs.Common.{◌++◌, ◌∷◌, sym, ap, ◌∙◌, append_assoc, rules, escaped}
 use Rattle.iri_text.proofs.Compose.{shown_more}
-use Rattle.iri_link.specs.Written.{escaped}
 use Rattle.iri_link.proofs.written.show_escaped.Goals as goal
 
 pub delimiters-preserved : goal.delimiters-preserved

@@ -1,8 +1,5 @@
-use Rattle.std.proofs.Common.{◌≡◌, ℕ, List, ◌++◌, length}
-use denote.Text.{Utf8}
-use denote.Shadow.{shadow}
+use Rattle.iri_link.proofs.Common.{◌≡◌, ℕ, List, ◌++◌, length, Utf8, shadow, escaped}
 use Rattle.iri_text.proofs.Compose.{HasShown}
-use Rattle.iri_link.specs.Written.{escaped}
 use Rattle.iri_link.proofs.written.show_escaped.Given as goal
 
 -- what went into the sink, and what is left

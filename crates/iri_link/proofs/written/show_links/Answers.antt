@@ -1,8 +1,6 @@
-use Rattle.std.proofs.Common.{[], ◌∷◌, ◌++◌, ◌+◌, drop, sym, subst, rules, Ok}
+use Rattle.iri_link.proofs.Common.{[], ◌∷◌, ◌++◌, ◌+◌, drop, sym, subst, rules, Ok, link_of, links_of, written, written_link}
 use Rattle.iri_text.specs.Shown.{Shows}
 use Rattle.iri_text.proofs.Compose.{shown_none, shown_more, shown_exit, shows_all}
-use Rattle.iri_link.specs.Stored.{link_of, links_of}
-use Rattle.iri_link.specs.Written.{written, written_link}
 use Rattle.iri_link.proofs.WrittenTexts.{left_text, all_left, left-at, left-none}
 use Rattle.iri_link.proofs.written.show_links.Goals as goal
 

@@ -1,9 +1,5 @@
-use Rattle.std.proofs.Common.{◌≡◌, ℕ, List, ◌++◌, drop}
-use denote.Text.{Utf8}
-use denote.Shadow.{shadow}
+use Rattle.iri_link.proofs.Common.{◌≡◌, ℕ, List, ◌++◌, drop, Utf8, shadow, links_of, written}
 use Rattle.iri_text.proofs.Compose.{HasShown}
-use Rattle.iri_link.specs.Stored.{links_of}
-use Rattle.iri_link.specs.Written.{written}
 use Rattle.iri_link.proofs.WrittenTexts.{left_text}
 use Rattle.iri_link.proofs.written.show_links.Given as goal
 

@@ -1,10 +1,5 @@
-use Rattle.std.proofs.Common.{◌∙◌, ap}
-use Rattle.iri_grammar.specs.Split.{split_of}
-use Rattle.iri_types.specs.SplitText.{split_text}
-use Rattle.iri_normal.specs.NormalForm.{canonical_in}
+use Rattle.iri_normal.proofs.Common.{◌∙◌, ap, split_of, split_text, canonical_in, base_text, takes_base_path}
 use Rattle.iri_normal.specs.NormalizedText.{written}
-use Rattle.iri_normal.specs.Resolver.{base_text}
-use Rattle.iri_normal.specs.Target.{takes_base_path}
 use Rattle.iri_normal.proofs.ModeLemmas.{made-normal_in, written-canonical_in}
 use Rattle.iri_normal.proofs.canonical.canonicalize_against.Goals as goal
 

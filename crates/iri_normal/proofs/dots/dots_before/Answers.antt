@@ -1,5 +1,4 @@
-use Rattle.std.proofs.Common.{◌∙◌, sym, ap}
-use Rattle.iri_grammar.specs.OptionalSlices.{now_of}
+use Rattle.iri_normal.proofs.Common.{◌∙◌, sym, ap, now_of}
 use Rattle.iri_normal.proofs.DotLemmas.{no_dot_first}
 use Rattle.iri_normal.proofs.NextLemmas.{before-one, before-two, none-second, none-end}
 use Rattle.iri_normal.proofs.dots.dots_before.Goals as goal

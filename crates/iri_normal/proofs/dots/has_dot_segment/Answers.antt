@@ -1,5 +1,4 @@
-use Rattle.std.proofs.Common.{◌∙◌, sym, ap}
-use Rattle.iri_normal.specs.Dots.{has_dot_segment}
+use Rattle.iri_normal.proofs.Common.{◌∙◌, sym, ap, has_dot_segment}
 use Rattle.iri_normal.proofs.DotLemmas.{no_dots}
 use Rattle.iri_normal.proofs.NextLemmas.{next-dotted}
 use Rattle.iri_normal.proofs.dots.has_dot_segment.Goals as goal

@@ -1,7 +1,4 @@
-use Rattle.std.proofs.Common.{◌≡◌, ◌<◌, ◌≤◌, ◌+◌, ◌-◌, ℕ, false, drop, length}
-use Rattle.iri_grammar.specs.Cut.{before}
-use Rattle.iri_normal.specs.Dots.{is_dot_segment}
-use Rattle.iri_normal.specs.inside.DotSearch.{slash_and_dots}
+use Rattle.iri_normal.proofs.Common.{◌≡◌, ◌<◌, ◌≤◌, ◌+◌, ◌-◌, ℕ, false, drop, length, before, is_dot_segment, slash_and_dots}
 use Rattle.iri_normal.proofs.dots.next_dots.Given as goal
 
 -- no dot segment begins before this place

@@ -1,5 +1,4 @@
-use Rattle.std.proofs.Common.{◌∙◌, sym, ap}
-use Rattle.iri_grammar.specs.OptionalSlices.{now_of}
+use Rattle.iri_normal.proofs.Common.{◌∙◌, sym, ap, now_of}
 use Rattle.iri_normal.proofs.FormLemmas.{slash-told}
 use Rattle.iri_normal.proofs.form.becomes_slash.Goals as goal
 

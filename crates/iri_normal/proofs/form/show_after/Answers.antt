@@ -1,11 +1,4 @@
-use Rattle.std.proofs.Common.{◌++◌, subst}
-use Rattle.iri_text.proofs.Compose.{shows_exit, shows_then}
-use Rattle.iri_text.specs.Shown.{Shows}
-use Rattle.iri_grammar.specs.Cut.{delimited}
-use Rattle.iri_percent.specs.Triplets.{pct}
-use Rattle.iri_normal.specs.Modes.{is_normalizing}
-use Rattle.iri_normal.specs.NormalForm.{part_in, path_in}
-use Rattle.iri_normal.specs.Slices.{slices}
+use Rattle.iri_normal.proofs.Common.{◌++◌, subst, shows_exit, shows_then, Shows, delimited, pct, is_normalizing, part_in, path_in, slices}
 use Rattle.iri_normal.proofs.PrefixLemmas.{prefix-form}
 use Rattle.iri_normal.proofs.form.show_after.Goals as goal
 

@@ -1,8 +1,4 @@
-use Rattle.std.proofs.Common.{cond, subst}
-use Rattle.iri_grammar.specs.OptionalSlices.{now_of}
-use Rattle.iri_text.proofs.Compose.{shows_exit, shows_then}
-use Rattle.iri_text.specs.Shown.{Shows}
-use Rattle.iri_percent.specs.NormalHost.{normal_authority_in}
+use Rattle.iri_normal.proofs.Common.{cond, subst, now_of, shows_exit, shows_then, Shows, normal_authority_in}
 use Rattle.iri_normal.proofs.FormLemmas.{authority-in}
 use Rattle.iri_normal.proofs.form.show_authority.Goals as goal
 

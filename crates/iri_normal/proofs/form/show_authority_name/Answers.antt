@@ -1,7 +1,4 @@
-use Rattle.std.proofs.Common.{◌∙◌, cond, sym, subst, ap}
-use Rattle.iri_grammar.specs.OptionalSlices.{now_of}
-use Rattle.iri_text.specs.Shown.{Shows}
-use Rattle.iri_percent.specs.NormalHost.{normal_authority_in}
+use Rattle.iri_normal.proofs.Common.{◌∙◌, cond, sym, subst, ap, now_of, Shows, normal_authority_in}
 use Rattle.iri_normal.proofs.form.show_authority_name.Goals as goal
 
 pub returns-then-normal : goal.returns-then-normal

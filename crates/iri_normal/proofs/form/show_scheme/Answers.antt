@@ -1,7 +1,4 @@
-use Rattle.std.proofs.Common.{◌∷◌, [], subst}
-use Rattle.iri_text.proofs.Compose.{shows_exit, shows_then}
-use Rattle.iri_text.specs.Shown.{Shows}
-use Rattle.iri_normal.specs.LowerCase.{lowered}
+use Rattle.iri_normal.proofs.Common.{◌∷◌, [], subst, shows_exit, shows_then, Shows, lowered}
 use Rattle.iri_normal.proofs.FormLemmas.{scheme-in}
 use Rattle.iri_normal.proofs.form.show_scheme.Goals as goal
 

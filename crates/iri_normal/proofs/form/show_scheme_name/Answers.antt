@@ -1,7 +1,4 @@
-use Rattle.std.proofs.Common.{◌∙◌, cond, sym, subst, ap}
-use Rattle.iri_text.specs.Shown.{Shows}
-use Rattle.iri_percent.specs.NormalHost.{normal_host}
-use Rattle.iri_normal.specs.LowerCase.{lowered}
+use Rattle.iri_normal.proofs.Common.{◌∙◌, cond, sym, subst, ap, Shows, normal_host, lowered}
 use Rattle.iri_normal.proofs.FormLemmas.{scheme-host, scheme-lowered}
 use Rattle.iri_normal.proofs.form.show_scheme_name.Goals as goal
 

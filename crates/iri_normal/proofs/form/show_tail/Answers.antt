@@ -1,6 +1,4 @@
-use Rattle.iri_grammar.specs.Components.{is_query, is_fragment}
-use Rattle.iri_grammar.specs.OptionalSlices.{now_of}
-use Rattle.iri_percent.proofs.WholeLaws.{query-whole, fragment-whole}
+use Rattle.iri_normal.proofs.Common.{is_query, is_fragment, now_of, query-whole, fragment-whole}
 use Rattle.iri_percent.proofs.Authorities.{part_whole}
 use Rattle.iri_normal.proofs.form.show_tail.Goals as goal
 

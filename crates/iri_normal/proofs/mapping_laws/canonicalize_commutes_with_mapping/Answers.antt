@@ -1,6 +1,4 @@
-use Rattle.std.proofs.Common.{sym, ◌∙◌}
-use Rattle.iri_grammar.proofs.FaultLaws.{absolute-law, reference-law}
-use Rattle.iri_percent.specs.declared.canon_mode.CanonMode.TheVariants.{Default}
+use Rattle.iri_normal.proofs.Common.{sym, ◌∙◌, absolute-law, reference-law, Default}
 use Rattle.iri_normal.proofs.MapForms.{mapped-canonical}
 use Rattle.iri_normal.proofs.mapping_laws.canonicalize_commutes_with_mapping.Goals as goal
 

@@ -1,7 +1,5 @@
-use Rattle.std.proofs.Common.{◌∙◌, ap}
-use Rattle.iri_normal.specs.DotRemoval.{dots}
+use Rattle.iri_normal.proofs.Common.{◌∙◌, ap, dots, merged}
 use Rattle.iri_normal.specs.inside.Beginning.{is_slashes}
-use Rattle.iri_normal.specs.Slices.{merged}
 use Rattle.iri_normal.proofs.BeginningLemmas.{begins-slashes}
 use Rattle.iri_normal.proofs.path_writer.begins_with_slashes.Goals as goal
 

@@ -1,9 +1,4 @@
-use Rattle.std.proofs.Common.{◌∙◌, sym, subst}
-use Rattle.iri_text.proofs.Compose.{shows_exit, shows_then}
-use Rattle.iri_text.specs.Shown.{Shows}
-use Rattle.iri_normal.specs.DotRemoval.{dots}
-use Rattle.iri_normal.specs.inside.PathForm.{in_form}
-use Rattle.iri_normal.specs.Slices.{merged}
+use Rattle.iri_normal.proofs.Common.{◌∙◌, sym, subst, shows_exit, shows_then, Shows, dots, in_form, merged}
 use Rattle.iri_normal.proofs.BeginLemmas.{unguarded-form, guarded-form}
 use Rattle.iri_normal.proofs.NormalLemmas.{dots_whole}
 use Rattle.iri_normal.proofs.path_writer.show_guarded.Goals as goal

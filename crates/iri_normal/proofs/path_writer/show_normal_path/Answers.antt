@@ -1,11 +1,4 @@
-use Rattle.std.proofs.Common.{◌≡◌, ◌∙◌, sym, subst, ap}
-use Rattle.std.specs.Prelude.{is_some}
-use Rattle.iri_grammar.specs.OptionalSlices.{now_of}
-use Rattle.iri_percent.specs.Triplets.{pct}
-use Rattle.iri_text.specs.Shown.{Shows}
-use Rattle.iri_normal.specs.DotRemoval.{dots}
-use Rattle.iri_normal.specs.Guard.{guard}
-use Rattle.iri_normal.specs.Slices.{merged}
+use Rattle.iri_normal.proofs.Common.{◌≡◌, ◌∙◌, sym, subst, ap, is_some, now_of, pct, Shows, dots, guard, merged}
 use Rattle.iri_normal.proofs.NormalLemmas.{is_some-now_of, path_is}
 use Rattle.iri_normal.proofs.path_writer.show_normal_path.Goals as goal
 

@@ -1,5 +1,4 @@
-use Rattle.iri_percent.proofs.WholeLaws.{path-whole}
-use Rattle.iri_normal.specs.Slices.{merged}
+use Rattle.iri_normal.proofs.Common.{path-whole, merged}
 use Rattle.iri_normal.proofs.path_writer.show_preserved.Goals as goal
 
 pub show_as_it_stands-requires : goal.show_as_it_stands-requires

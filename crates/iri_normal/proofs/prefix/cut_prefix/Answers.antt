@@ -1,12 +1,5 @@
-use Rattle.std.proofs.Common.{◌≡◌, ◌∙◌, false, length, take, sym, subst, ap, arith}
-use Rattle.std.proofs.lemmas.Grind.{common_steps}
-use Rattle.std.specs.Str.{IsUtf8, IsCharBoundary}
-use Rattle.iri_grammar.specs.Parts.{Fits}
-use Rattle.iri_grammar.specs.Split.{split_of}
-use Rattle.iri_grammar.specs.Splitters.{parts}
-use Rattle.iri_grammar.specs.OptionalSlices.{now_of}
-use Rattle.iri_types.specs.SplitText.{split_text}
-use Rattle.iri_normal.specs.Prefix.{prefix_in}
+use Rattle.iri_normal.proofs.Common.{◌≡◌, ◌∙◌, false, length, take, sym, subst, ap, arith, common_steps, IsUtf8, IsCharBoundary, Fits}
+use Rattle.iri_normal.proofs.Common.{split_of, parts, now_of, split_text, prefix_in}
 use Rattle.iri_normal.proofs.PrefixLemmas.{cut-inside, cut-directory, cut-boundary, prefix-parts}
 use Rattle.iri_normal.proofs.prefix.cut_prefix.Goals as goal
 

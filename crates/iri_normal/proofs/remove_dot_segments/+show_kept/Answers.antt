@@ -1,14 +1,6 @@
+use Rattle.iri_normal.proofs.Common.{shown_none, shows_all, shows_exit, shows_then, Shows, is_path, pieces, path_char, path-whole, kept}
+use Rattle.iri_normal.proofs.Common.{in_form, ◌==◌, ends_at_slash}
 use Rattle.std.proofs.Common.{◌≡◌, ◌∙◌, ◌+◌, ◌<◌, ◌^◌, ◌||◌, Ok, true, length, length-append, sym, subst, ap, arith, rules}
-use Rattle.iri_text.proofs.Compose.{shown_none, shows_all, shows_exit, shows_then}
-use Rattle.iri_text.specs.Shown.{Shows}
-use Rattle.iri_grammar.specs.Components.{is_path}
-use Rattle.iri_grammar.specs.Pieces.{pieces}
-use Rattle.iri_grammar.specs.Classes.{path_char}
-use Rattle.iri_percent.proofs.WholeLaws.{path-whole}
-use Rattle.iri_normal.specs.inside.Kept.{kept}
-use Rattle.iri_normal.specs.inside.PathForm.{in_form}
-use Rattle.std.specs.Prelude.{◌==◌}
-use Rattle.iri_normal.specs.Target.{ends_at_slash}
 use Rattle.iri_normal.proofs.EndedLemmas.{rest-ok}
 use Rattle.iri_normal.proofs.KeptLemmas.{kept-plain, one-segment}
 use Rattle.iri_normal.proofs.LongLemmas.{form-two}

@@ -1,6 +1,4 @@
-use Rattle.std.proofs.Common.{◌∙◌, ap, refl, sym}
-use Rattle.std.proofs.lemmas.Bool.{not-true}
-use Rattle.iri_grammar.specs.Seen.{may_have_dots}
+use Rattle.iri_normal.proofs.Common.{◌∙◌, ap, refl, sym, not-true, may_have_dots}
 use Rattle.iri_normal.proofs.DotLemmas.{no_dots}
 use Rattle.iri_normal.proofs.SegmentLemmas.{dot_in_parts}
 use Rattle.iri_normal.proofs.remove_dot_segments.lacks_dots.Goals as goal

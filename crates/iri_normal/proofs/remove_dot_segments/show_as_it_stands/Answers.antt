@@ -1,7 +1,4 @@
-use Rattle.std.proofs.Common.{subst}
-use Rattle.iri_text.proofs.Compose.{shows_exit, shows_then}
-use Rattle.iri_text.specs.Shown.{Shows}
-use Rattle.iri_normal.specs.inside.PathForm.{in_form}
+use Rattle.iri_normal.proofs.Common.{subst, shows_exit, shows_then, Shows, in_form}
 use Rattle.iri_normal.proofs.NormalLemmas.{whole_parts}
 use Rattle.iri_normal.proofs.WriterLemmas.{form-parts}
 use Rattle.iri_normal.proofs.remove_dot_segments.show_as_it_stands.Goals as goal

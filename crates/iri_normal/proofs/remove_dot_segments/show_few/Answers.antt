@@ -1,11 +1,5 @@
-use Rattle.std.proofs.Common.{◌≡◌, ◌∷◌, ◌∙◌, drop, true, sym, ap, subst}
-use Rattle.std.specs.Str.{IsUtf8}
-use Rattle.iri_grammar.specs.Pieces.{pieces}
-use Rattle.iri_text.specs.Shown.{Shows}
-use Rattle.iri_percent.specs.Units.{whole_triplets}
-use Rattle.iri_percent.proofs.WholeLaws.{path-whole}
-use Rattle.iri_normal.specs.inside.Kept.{kept}
-use Rattle.iri_normal.specs.inside.PathForm.{in_form}
+use Rattle.iri_normal.proofs.Common.{◌≡◌, ◌∷◌, ◌∙◌, drop, true, sym, ap, subst, IsUtf8, pieces, Shows, whole_triplets, path-whole, kept}
+use Rattle.iri_normal.proofs.Common.{in_form}
 use Rattle.iri_normal.proofs.KeptLemmas.{kept-path}
 use Rattle.iri_normal.proofs.LongLemmas.{path-utf8}
 use Rattle.iri_normal.proofs.remove_dot_segments.show_few.Goals as goal

@@ -1,7 +1,4 @@
-use Rattle.std.proofs.Common.{◌≡◌, ◌∷◌, [], subst, arith}
-use Rattle.iri_text.proofs.Compose.{shows_exit, shows_then}
-use Rattle.iri_text.specs.Shown.{Shows}
-use Rattle.iri_percent.proofs.WholeLaws.{path-whole}
+use Rattle.iri_normal.proofs.Common.{◌≡◌, ◌∷◌, [], subst, arith, shows_exit, shows_then, Shows, path-whole}
 use Rattle.iri_normal.proofs.LongLemmas.{form-first, form-gone}
 use Rattle.iri_normal.proofs.remove_dot_segments.show_first.Goals as goal
 

@@ -1,17 +1,8 @@
-use Rattle.std.proofs.Common.{◌++◌, ◌∷◌, ◌∙◌, [], sym, subst, ap}
-use Rattle.iri_text.proofs.Compose.{shows_exit, shows_then}
-use Rattle.iri_text.specs.Shown.{Shows}
-use Rattle.iri_grammar.specs.Components.{is_path}
-use Rattle.iri_grammar.specs.Cut.{lacks}
-use Rattle.iri_grammar.specs.OptionalSlices.{now_of}
-use Rattle.iri_grammar.specs.Pieces.{pieces}
-use Rattle.iri_percent.proofs.WholeLaws.{path-whole}
-use Rattle.iri_normal.specs.inside.Kept.{kept}
-use Rattle.iri_normal.specs.inside.PathForm.{in_form}
-use Rattle.iri_normal.specs.inside.Written.{popped_times}
+use Rattle.iri_normal.proofs.Common.{◌++◌, ◌∷◌, ◌∙◌, [], sym, subst, ap, shows_exit, shows_then, Shows, is_path, lacks, now_of, pieces}
+use Rattle.iri_normal.proofs.Common.{path-whole, kept, in_form, popped_times}
 use Rattle.iri_normal.proofs.LongLemmas.{count-ends, first-path, form-three, more-ends, one-alone}
-use Rattle.iri_normal.proofs.remove_dot_segments.show_from_first.Goals as goal
 use Rattle.iri_grammar.proofs.Scans.{before-lacks}
+use Rattle.iri_normal.proofs.remove_dot_segments.show_from_first.Goals as goal
 
 pub show_part-requires : goal.show_part-requires
 show_part-requires g c = path-whole g.S.Spec.tests c.args.text.now g.met.S.Spec.lawful c.requires.paths.0

@@ -1,7 +1,4 @@
-use Rattle.std.proofs.Common.{◌≡◌, ◌<◌, length, subst, ap, arith}
-use Rattle.std.proofs.lemmas.Bool.Decides.{nat_tests}
-use Rattle.iri_text.specs.Shown.{Shows}
-use Rattle.iri_normal.specs.inside.PathForm.{in_form}
+use Rattle.iri_normal.proofs.Common.{◌≡◌, ◌<◌, length, subst, ap, arith, nat_tests, Shows, in_form}
 use Rattle.iri_normal.proofs.LongLemmas.{cut-after, dots-base, dots-reference, path-parts}
 use Rattle.iri_normal.proofs.remove_dot_segments.show_long.Goals as goal
 

@@ -1,7 +1,4 @@
-use Rattle.std.proofs.Common.{◌≡◌, Ok, length, sym, subst, arith}
-use Rattle.std.proofs.lemmas.Bool.Decides.{nat_tests}
-use Rattle.iri_text.proofs.Compose.{shown_none, shows_all}
-use Rattle.iri_text.specs.Shown.{Shows}
+use Rattle.iri_normal.proofs.Common.{◌≡◌, Ok, length, sym, subst, arith, nat_tests, shown_none, shows_all, Shows}
 use Rattle.iri_normal.proofs.WriterLemmas.{form-nothing}
 use Rattle.iri_normal.proofs.remove_dot_segments.show_part.Goals as goal
 

@@ -1,8 +1,4 @@
-use Rattle.std.proofs.Common.{◌≡◌, ◌∙◌, true, sym, subst}
-use Rattle.std.specs.Str.{IsUtf8}
-use Rattle.iri_percent.specs.Units.{whole_triplets}
-use Rattle.iri_normal.specs.DotRemoval.{dots}
-use Rattle.iri_normal.specs.Slices.{merged}
+use Rattle.iri_normal.proofs.Common.{◌≡◌, ◌∙◌, true, sym, subst, IsUtf8, whole_triplets, dots, merged}
 use Rattle.iri_normal.proofs.NormalLemmas.{dots_whole}
 use Rattle.iri_normal.proofs.PathLaws.{dots-over}
 use Rattle.iri_normal.proofs.TargetLaws.{slash_in_path}

@@ -1,8 +1,4 @@
-use Rattle.std.proofs.Common.{sym, subst, ap}
-use Rattle.iri_text.specs.Shown.{Shows}
-use Rattle.iri_percent.proofs.WholeLaws.{path-whole}
-use Rattle.iri_normal.specs.inside.PathForm.{in_form}
-use Rattle.iri_normal.specs.Slices.{merged}
+use Rattle.iri_normal.proofs.Common.{sym, subst, ap, Shows, path-whole, in_form, merged}
 use Rattle.iri_normal.proofs.StableLaws.{no_dots-same}
 use Rattle.iri_normal.proofs.remove_dot_segments.show_without_dots.Goals as goal
 

@@ -1,7 +1,5 @@
-use Rattle.std.proofs.Common.{◌≡◌, ◌+◌, ◌∙◌, true, drop, sym, subst, arith}
-use Rattle.std.proofs.lemmas.Grind.{common_steps}
-use Rattle.std.proofs.lemmas.Str.{lead_after_ascii}
-use Rattle.iri_normal.specs.Target.{to_last_slash, ends_at_slash}
+use Rattle.iri_normal.proofs.Common.{◌≡◌, ◌+◌, ◌∙◌, true, drop, sym, subst, arith, common_steps, lead_after_ascii, to_last_slash}
+use Rattle.iri_normal.proofs.Common.{ends_at_slash}
 use Rattle.iri_normal.proofs.SlashLemmas.{after_slash, ends, last_slash, no_slash, none_after, slash_is}
 use Rattle.iri_normal.proofs.target.cut_last_segment.Goals as goal
 

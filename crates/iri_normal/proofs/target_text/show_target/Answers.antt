@@ -1,7 +1,4 @@
-use Rattle.std.proofs.Common.{◌∙◌, ap, subst}
-use Rattle.iri_grammar.specs.Parts.{recompose}
-use Rattle.iri_text.specs.Shown.{Shows}
-use Rattle.iri_normal.specs.Slices.{slices}
+use Rattle.iri_normal.proofs.Common.{◌∙◌, ap, subst, recompose, Shows, slices}
 use Rattle.iri_normal.proofs.ModeLaws.{whole-plain}
 use Rattle.iri_normal.proofs.target_text.show_target.Goals as goal
 

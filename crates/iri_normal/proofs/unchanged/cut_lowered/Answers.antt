@@ -1,11 +1,5 @@
-use Rattle.std.proofs.Common.{◌∙◌, ap, arith, subst, sym}
-use Rattle.std.proofs.lemmas.Bool.{or_parts}
-use Rattle.iri_grammar.specs.Components.{if_there}
-use Rattle.iri_grammar.specs.OptionalSlices.{now_of}
-use Rattle.iri_grammar.specs.Parts.{Fits, Parts}
+use Rattle.iri_normal.proofs.Common.{◌∙◌, ap, arith, subst, sym, or_parts, if_there, now_of, Fits, Parts, split_of, split_text}
 use Rattle.iri_grammar.specs.Seen.{is_plain_authority, may_have_dots}
-use Rattle.iri_grammar.specs.Split.{split_of}
-use Rattle.iri_types.specs.SplitText.{split_text}
 use Rattle.iri_normal.proofs.DotLemmas.{no_dots}
 use Rattle.iri_normal.proofs.PlainReferences.{lowered-before}
 use Rattle.iri_normal.proofs.unchanged.cut_lowered.Goals as goal

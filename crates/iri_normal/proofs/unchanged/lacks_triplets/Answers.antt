@@ -1,5 +1,4 @@
-use Rattle.std.proofs.Common.{◌||◌}
-use Rattle.std.proofs.lemmas.Bool.{or_parts}
+use Rattle.iri_normal.proofs.Common.{◌||◌, or_parts}
 use Rattle.iri_normal.proofs.PlainReferences.{none-noted}
 use Rattle.iri_normal.proofs.unchanged.lacks_triplets.Goals as goal
 

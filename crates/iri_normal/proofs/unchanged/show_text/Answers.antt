@@ -1,5 +1,4 @@
-use Rattle.std.proofs.Common.{subst, sym}
-use Rattle.iri_text.specs.Shown.{Shows}
+use Rattle.iri_normal.proofs.Common.{subst, sym, Shows}
 use Rattle.iri_percent.proofs.PlainTexts.{pct-same}
 use Rattle.iri_normal.proofs.unchanged.show_text.Goals as goal
 

@@ -1,8 +1,4 @@
-use Rattle.std.proofs.Common.{◌≡◌, ◌∙◌, None, sym, subst, ap}
-use Rattle.std.proofs.Math.Logic.{∥∥₁_elim}
-use Rattle.std.proofs.Props.{props}
-use Rattle.iri_grammar.specs.Parts.{Fits}
-use Rattle.iri_grammar.specs.Split.{split_of}
+use Rattle.iri_normal.proofs.Common.{◌≡◌, ◌∙◌, None, sym, subst, ap, ∥∥₁_elim, props, Fits, split_of}
 use Rattle.iri_normal.proofs.ModeLemmas.{view-sound}
 use Rattle.iri_normal.proofs.views.in_mode.Goals as goal
 

@@ -1,6 +1,5 @@
-use Rattle.std.proofs.Common.{subst}
+use Rattle.iri_percent.proofs.Common.{subst, Shows}
 use Rattle.iri_text.proofs.Compose.{shows_exit, shows_then}
-use Rattle.iri_text.specs.Shown.{Shows}
 use Rattle.iri_percent.proofs.Authorities.{port_in}
 use Rattle.iri_percent.proofs.authority.show_port.Goals as goal
 

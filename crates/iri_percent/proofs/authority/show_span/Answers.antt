@@ -1,7 +1,5 @@
-use Rattle.std.proofs.Common.{◌≡◌, true, sym, subst}
-use Rattle.iri_grammar.specs.Components.{if_there, is_userinfo}
+use Rattle.iri_percent.proofs.Common.{◌≡◌, true, sym, subst, if_there, is_userinfo, whole_triplets}
 use Rattle.iri_grammar.specs.Spans.{span_parts}
-use Rattle.iri_percent.specs.Units.{whole_triplets}
 use Rattle.iri_percent.proofs.Authorities.{part_whole}
 use Rattle.iri_percent.proofs.WholeLaws.{userinfo-whole}
 use Rattle.iri_percent.proofs.authority.show_span.Goals as goal

@@ -1,12 +1,8 @@
-use Rattle.std.proofs.Common.{◌*◌, ◌∷◌, ap, sym, ◌∙◌, arith}
-use Rattle.std.specs.Char.{len_utf8}
-use Rattle.iri_percent.specs.Units.{octets}
-use Rattle.iri_percent.specs.NormalLaws.{decoded}
-use Rattle.iri_percent.specs.inside.Pieces.{Writes}
+use Rattle.iri_percent.proofs.Common.{◌*◌, ◌∷◌, ap, sym, ◌∙◌, arith, len_utf8, octets, decoded, Writes}
 use Rattle.iri_percent.proofs.Changes.{digits, writes_char, writes_octet, at_octet}
 use Rattle.iri_percent.proofs.Characters.{past_ascii}
-use Rattle.iri_percent.proofs.change.write_triplet.Goals as goal
 use Rattle.iri_percent.proofs.change.write_triplet.Goals.{then-octet-ge192+in_default, else-octet-ge192}
+use Rattle.iri_percent.proofs.change.write_triplet.Goals as goal
 
 pub bounds-text-1 : goal.bounds-text-1
 bounds-text-1 g c = let d = digits c.args.text.now c.requires.0 c.requires.1 c.requires.2 in omega (arith, d.room)

@@ -1,6 +1,4 @@
-use Rattle.std.proofs.Common.{◌+◌, ◌*◌, ◌∷◌, ap, sym, ◌∙◌, arith}
-use Rattle.iri_percent.specs.Units.{octets, first_char}
-use Rattle.iri_percent.specs.inside.Octets.{char_from}
+use Rattle.iri_percent.proofs.Common.{◌+◌, ◌*◌, ◌∷◌, ap, sym, ◌∙◌, arith, octets, first_char, char_from}
 use Rattle.iri_percent.proofs.Characters.{ends_at_one, ends_at_two, three_octets}
 use Rattle.iri_percent.proofs.character.char_of_three.Goals as goal
 

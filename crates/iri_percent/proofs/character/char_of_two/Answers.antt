@@ -1,6 +1,4 @@
-use Rattle.std.proofs.Common.{◌+◌, ◌*◌, ◌∷◌, ap, sym, ◌∙◌}
-use Rattle.iri_percent.specs.Units.{octets, first_char}
-use Rattle.iri_percent.specs.inside.Octets.{char_from}
+use Rattle.iri_percent.proofs.Common.{◌+◌, ◌*◌, ◌∷◌, ap, sym, ◌∙◌, octets, first_char, char_from}
 use Rattle.iri_percent.proofs.Characters.{ends_at_one, two_octets}
 use Rattle.iri_percent.proofs.character.char_of_two.Goals as goal
 

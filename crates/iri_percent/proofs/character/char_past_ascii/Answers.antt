@@ -1,5 +1,4 @@
-use Rattle.std.proofs.Common.{Some, None, cond, ap, sym, ◌∙◌}
-use Rattle.iri_percent.specs.Units.{octets}
+use Rattle.iri_percent.proofs.Common.{Some, None, cond, ap, sym, ◌∙◌, octets}
 use Rattle.iri_percent.proofs.Characters.{high_decoded}
 use Rattle.iri_percent.proofs.character.char_past_ascii.Goals as goal
 

@@ -1,5 +1,4 @@
-use Rattle.std.proofs.Common.{Some, ap, sym, ◌∙◌, arith}
-use Rattle.iri_percent.specs.Units.{octets}
+use Rattle.iri_percent.proofs.Common.{Some, ap, sym, ◌∙◌, arith, octets}
 use Rattle.iri_percent.proofs.Characters.{none_decoded, ascii_decoded, low_decoded}
 use Rattle.iri_percent.proofs.character.decoded_char.Goals as goal
 

@@ -1,5 +1,4 @@
-use Rattle.std.proofs.Common.{Some, ap, sym, ◌∙◌, arith}
-use Rattle.iri_percent.specs.Units.{octets}
+use Rattle.iri_percent.proofs.Common.{Some, ap, sym, ◌∙◌, arith, octets}
 use Rattle.iri_percent.proofs.Characters.{ascii_first, middle_none}
 use Rattle.iri_percent.proofs.character.prefix_char.Goals as goal
 

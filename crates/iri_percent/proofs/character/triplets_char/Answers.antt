@@ -1,5 +1,4 @@
-use Rattle.std.proofs.Common.{sym, ◌∙◌}
-use Rattle.iri_percent.specs.Units.{octets}
+use Rattle.iri_percent.proofs.Common.{sym, ◌∙◌, octets}
 use Rattle.iri_percent.proofs.Characters.{empty_none}
 use Rattle.iri_percent.proofs.character.triplets_char.Goals as goal
 

@@ -1,5 +1,4 @@
-use Rattle.std.proofs.Common.{sym, ap, ◌∙◌}
-use Rattle.iri_percent.specs.Encoding.{keeps}
+use Rattle.iri_percent.proofs.Common.{sym, ap, ◌∙◌, keeps}
 use Rattle.iri_percent.proofs.EncodedRuns.{user_is_reg_name}
 use Rattle.iri_percent.proofs.context.class_of.Goals as goal
 

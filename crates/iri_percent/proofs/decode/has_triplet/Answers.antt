@@ -1,8 +1,5 @@
-use Rattle.std.proofs.Common.{Some, None, ◌-◌, length, take, drop, sym, ◌∙◌, ap}
-use Rattle.std.proofs.lemmas.List.{take_rest}
+use Rattle.iri_percent.proofs.Common.{Some, None, ◌-◌, length, take, drop, sym, ◌∙◌, ap, take_rest, has_triplet, octets}
 use Rattle.iri_grammar.proofs.CutLemmas.{found}
-use Rattle.iri_percent.specs.Decoding.{has_triplet}
-use Rattle.iri_percent.specs.Units.{octets}
 use Rattle.iri_percent.proofs.DecodingLemmas.{at_percent, no_percent, triplet-found, triplet-passed}
 use Rattle.iri_percent.proofs.decode.has_triplet.Goals as goal
 

@@ -1,5 +1,4 @@
-use Rattle.std.proofs.Common.{◌≡◌, length}
-use Rattle.iri_percent.specs.Decoding.{has_triplet}
+use Rattle.iri_percent.proofs.Common.{◌≡◌, length, has_triplet}
 use Rattle.iri_percent.proofs.decode.has_triplet.Given as goal
 
 -- what is left decides as the whole does

@@ -1,6 +1,4 @@
-use Rattle.std.proofs.Common.{◌≡◌, ◌+◌, drop}
-use Rattle.iri_grammar.specs.Runs.{run_of}
-use Rattle.iri_percent.specs.inside.Runs.{is_other}
+use Rattle.iri_percent.proofs.Common.{◌≡◌, ◌+◌, drop, run_of, is_other}
 use Rattle.iri_percent.proofs.encode.other_run_len.Given as goal
 
 -- what is left counts on

@@ -1,6 +1,5 @@
-use Rattle.std.proofs.Common.{true, sym, ap, ◌∙◌, length, arith}
+use Rattle.iri_percent.proofs.Common.{true, sym, ap, ◌∙◌, length, arith, class_test}
 use Rattle.std.specs.Cmp.{booleans_Decides}
-use Rattle.iri_grammar.specs.ClassTests.{class_test}
 use Rattle.iri_grammar.proofs.Units.{char_shorter}
 use Rattle.iri_percent.proofs.EncodedRuns.{past_none, run_from_char}
 use Rattle.iri_percent.proofs.encode.past_char.Goals as goal

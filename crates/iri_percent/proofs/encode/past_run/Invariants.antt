@@ -1,7 +1,4 @@
-use Rattle.std.proofs.Common.{length}
-use Rattle.std.specs.Str.{IsUtf8}
-use Rattle.iri_grammar.specs.ClassTests.{class_test}
-use Rattle.iri_percent.specs.inside.Runs.{IsPastRun}
+use Rattle.iri_percent.proofs.Common.{length, IsUtf8, class_test, IsPastRun}
 use Rattle.iri_percent.proofs.encode.past_run.Given as goal
 
 -- what is left follows a run

@@ -1,9 +1,5 @@
-use Rattle.std.proofs.Common.{◌++◌, Ok, sym, ap, ◌∙◌, subst, append-nil}
-use Rattle.iri_grammar.specs.ClassTests.{class_test}
-use Rattle.iri_text.specs.Shown.{Shows}
-use Rattle.iri_text.proofs.Compose.{shown_more, shown_exit, shows_all}
-use Rattle.iri_percent.specs.Encoding.{encoded}
-use Rattle.iri_percent.specs.inside.Runs.{run_text}
+use Rattle.iri_percent.proofs.Common.{◌++◌, Ok, sym, ap, ◌∙◌, subst, append-nil, class_test, Shows, shown_more, shown_exit, shows_all}
+use Rattle.iri_percent.proofs.Common.{encoded, run_text}
 use Rattle.iri_percent.proofs.EncodedRuns.{encoded-none, run_shown}
 use Rattle.iri_percent.proofs.encode.put_over.Goals as goal
 

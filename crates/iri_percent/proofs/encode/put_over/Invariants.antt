@@ -1,8 +1,4 @@
-use Rattle.std.proofs.Common.{◌≡◌, ℕ, List, ◌++◌, length}
-use Rattle.std.specs.Str.{IsUtf8}
-use Rattle.iri_grammar.specs.ClassTests.{class_test}
-use Rattle.iri_text.proofs.Compose.{HasShown}
-use Rattle.iri_percent.specs.Encoding.{encoded}
+use Rattle.iri_percent.proofs.Common.{◌≡◌, ℕ, List, ◌++◌, length, IsUtf8, class_test, HasShown, encoded}
 use Rattle.iri_percent.proofs.encode.put_over.Given as goal
 
 -- what went into the sink, and what is left

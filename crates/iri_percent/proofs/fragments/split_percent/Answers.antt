@@ -1,7 +1,4 @@
-use Rattle.std.proofs.Common.{drop, ap, sym, ◌∙◌, ◌∷◌}
-use Rattle.std.proofs.lemmas.List.{take_rest}
-use Rattle.iri_percent.specs.Decoding.{fragments, Octet, Percent}
-use Rattle.iri_percent.specs.Units.{octets}
+use Rattle.iri_percent.proofs.Common.{drop, ap, sym, ◌∙◌, ◌∷◌, take_rest, fragments, Octet, Percent, octets}
 use Rattle.iri_percent.proofs.DecodingLemmas.{octet-first, stray-first}
 use Rattle.iri_percent.proofs.fragments.split_percent.Goals as goal
 

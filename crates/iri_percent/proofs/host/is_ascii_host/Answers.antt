@@ -1,5 +1,4 @@
-use Rattle.std.proofs.Common.{◌&&◌, ◌-◌, length, take, drop, ap, sym, ◌∙◌, arith}
-use Rattle.iri_percent.specs.NormalHost.{is_ascii_host}
+use Rattle.iri_percent.proofs.Common.{◌&&◌, ◌-◌, length, take, drop, ap, sym, ◌∙◌, arith, is_ascii_host}
 use Rattle.iri_percent.proofs.Hosts.{step, ascii_nil}
 use Rattle.iri_percent.proofs.host.is_ascii_host.Goals as goal
 

@@ -1,6 +1,4 @@
-use Rattle.std.proofs.Common.{◌≡◌, true, length}
-use Rattle.iri_percent.specs.Units.{whole_triplets}
-use Rattle.iri_percent.specs.NormalHost.{is_ascii_host}
+use Rattle.iri_percent.proofs.Common.{◌≡◌, true, length, whole_triplets, is_ascii_host}
 use Rattle.iri_percent.proofs.host.is_ascii_host.Given as goal
 
 -- what is left decides as the whole does

@@ -1,7 +1,4 @@
-use Rattle.std.proofs.Common.{◌≡◌, ℕ, Bool, true, get_or, refl, arith}
-use Rattle.std.specs.Prelude.{◌==◌, ◌%◌}
-use Rattle.std.proofs.lemmas.Bool.{agree_below, agree_below_at}
-use Rattle.iri_percent.specs.NormalHost.{is_plain_byte}
+use Rattle.iri_percent.proofs.Common.{◌≡◌, ℕ, Bool, true, get_or, refl, arith, ◌==◌, ◌%◌, agree_below, agree_below_at, is_plain_byte}
 use Rattle.iri_percent.specs.declared.host.TheConstants.{PLAIN_BYTES}
 use Rattle.iri_percent.proofs.host.is_plain_byte.Goals as goal
 

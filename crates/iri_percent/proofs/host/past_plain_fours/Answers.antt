@@ -1,7 +1,4 @@
-use Rattle.std.proofs.Common.{◌≤◌, length, ap, sym, ◌∙◌, arith}
-use Rattle.std.specs.List.{list_all}
-use Rattle.std.proofs.lemmas.List.{take_rest}
-use Rattle.iri_percent.specs.NormalHost.{is_plain_byte}
+use Rattle.iri_percent.proofs.Common.{◌≤◌, length, ap, sym, ◌∙◌, arith, list_all, take_rest, is_plain_byte}
 use Rattle.iri_percent.proofs.Hosts.{plain_four}
 use Rattle.iri_percent.proofs.host.past_plain_fours.Goals as goal
 

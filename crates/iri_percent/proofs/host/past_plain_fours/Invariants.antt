@@ -1,6 +1,4 @@
-use Rattle.std.proofs.Common.{◌≡◌, length}
-use Rattle.std.specs.List.{list_all}
-use Rattle.iri_percent.specs.NormalHost.{is_plain_byte}
+use Rattle.iri_percent.proofs.Common.{◌≡◌, length, list_all, is_plain_byte}
 use Rattle.iri_percent.proofs.host.past_plain_fours.Given as goal
 
 -- what is left decides as the whole does

@@ -1,5 +1,4 @@
-use Rattle.std.proofs.Common.{◌∙◌, ap}
-use Rattle.iri_percent.specs.Units.{first_char}
+use Rattle.iri_percent.proofs.Common.{◌∙◌, ap, first_char}
 use Rattle.iri_percent.proofs.UnitLaws.{first_char_is, char_first}
 use Rattle.iri_percent.proofs.UnitTexts.{units-text}
 use Rattle.iri_percent.proofs.laws.units_of_texts.Goals as goal

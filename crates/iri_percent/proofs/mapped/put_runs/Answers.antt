@@ -1,11 +1,6 @@
-use Rattle.std.proofs.Common.{true, false, ◌++◌, Ok, length, drop, sym, ap, ◌∙◌, subst, append-nil, arith, eqb-true}
-use Rattle.std.specs.Str.{IsAscii}
+use Rattle.iri_percent.proofs.Common.{true, false, ◌++◌, Ok, length, drop, sym, ap, ◌∙◌, subst, append-nil, arith, eqb-true, IsAscii}
+use Rattle.iri_percent.proofs.Common.{run_of, Shows, shown_more, shown_exit, shows_all, mapped, triplets, goes_on}
 use Rattle.std.proofs.lemmas.Bool.{eqb-false}
-use Rattle.iri_grammar.specs.Runs.{run_of}
-use Rattle.iri_text.specs.Shown.{Shows}
-use Rattle.iri_text.proofs.Compose.{shown_more, shown_exit, shows_all}
-use Rattle.iri_percent.specs.Mapping.{mapped, triplets}
-use Rattle.iri_percent.specs.inside.MapRuns.{goes_on}
 use Rattle.iri_percent.proofs.MappedRuns.{low-ascii, one_run, two_runs, shorter_by, mapped-none}
 use Rattle.iri_percent.proofs.mapped.put_runs.Goals as goal
 

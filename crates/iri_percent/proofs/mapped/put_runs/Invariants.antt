@@ -1,6 +1,4 @@
-use Rattle.std.proofs.Common.{◌≡◌, ℕ, List, ◌++◌, length}
-use Rattle.iri_text.proofs.Compose.{HasShown}
-use Rattle.iri_percent.specs.Mapping.{mapped}
+use Rattle.iri_percent.proofs.Common.{◌≡◌, ℕ, List, ◌++◌, length, HasShown, mapped}
 use Rattle.iri_percent.proofs.mapped.put_runs.Given as goal
 
 -- what went into the sink, and what is left

@@ -1,6 +1,4 @@
-use Rattle.std.proofs.Common.{◌≡◌, ◌+◌, drop}
-use Rattle.iri_grammar.specs.Runs.{run_of}
-use Rattle.iri_percent.specs.inside.MapRuns.{goes_on}
+use Rattle.iri_percent.proofs.Common.{◌≡◌, ◌+◌, drop, run_of, goes_on}
 use Rattle.iri_percent.proofs.mapped.run_len.Given as goal
 
 -- what is left counts on

@@ -1,5 +1,4 @@
-use Rattle.std.proofs.Common.{sym, subst}
-use Rattle.iri_text.specs.Shown.{Shows}
+use Rattle.iri_percent.proofs.Common.{sym, subst, Shows}
 use Rattle.iri_percent.proofs.MappedRuns.{mapped-of_ascii}
 use Rattle.iri_percent.proofs.mapped.show_mapped.Goals as goal
 

@@ -1,6 +1,5 @@
-use Rattle.std.proofs.Common.{subst, sym, ◌≤◌, length}
+use Rattle.iri_percent.proofs.Common.{subst, sym, ◌≤◌, length, goes_on}
 use Rattle.iri_grammar.proofs.Units.{run_of_le}
-use Rattle.iri_percent.specs.inside.MapRuns.{goes_on}
 use Rattle.iri_percent.proofs.mapped.split_run.Goals as goal
 
 pub split_at-requires : goal.split_at-requires

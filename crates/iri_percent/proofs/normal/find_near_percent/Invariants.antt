@@ -1,5 +1,4 @@
-use Rattle.std.proofs.Common.{◌≤◌, ◌-◌, length, false}
-use Rattle.iri_percent.specs.inside.Pieces.{NoCandidate}
+use Rattle.iri_percent.proofs.Common.{◌≤◌, ◌-◌, length, false, NoCandidate}
 use Rattle.iri_percent.proofs.normal.find_near_percent.Given as goal
 
 abbrev pub invariant-bytes : goal.invariant-bytes

@@ -1,5 +1,4 @@
-use Rattle.std.proofs.Common.{true}
-use Rattle.iri_percent.specs.inside.Pieces.{NoCandidate}
+use Rattle.iri_percent.proofs.Common.{true, NoCandidate}
 use Rattle.iri_percent.proofs.normal.find_percent_or_capital.Given as goal
 
 abbrev pub invariant-loop-i : goal.invariant-loop-i

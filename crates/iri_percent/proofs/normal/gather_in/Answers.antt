@@ -1,8 +1,5 @@
-use Rattle.std.proofs.Common.{◌≡◌, ◌+◌, take, get_or, ap, sym, ◌∙◌, subst, arith}
-use Rattle.std.specs.Str.{IsUtf8}
+use Rattle.iri_percent.proofs.Common.{◌≡◌, ◌+◌, take, get_or, ap, sym, ◌∙◌, subst, arith, IsUtf8, take_rest, stays, Becomes}
 use Rattle.std.proofs.lemmas.Str.{IsUtf8-nil, IsUtf8-append}
-use Rattle.std.proofs.lemmas.List.{take_rest}
-use Rattle.iri_percent.specs.inside.Pieces.{stays, Becomes}
 use Rattle.iri_percent.proofs.Changes.{gathers, so_far, joined}
 use Rattle.iri_percent.proofs.normal.gather_in.Goals as goal
 

@@ -1,6 +1,4 @@
-use Rattle.std.proofs.Common.{◌≡◌, false, ◌-◌, ◌+◌, ◌≤◌, ◌<◌, length, take, get_or}
-use Rattle.std.specs.Str.{IsUtf8}
-use Rattle.iri_percent.specs.inside.Pieces.{stays, Gathered}
+use Rattle.iri_percent.proofs.Common.{◌≡◌, false, ◌-◌, ◌+◌, ◌≤◌, ◌<◌, length, take, get_or, IsUtf8, stays, Gathered}
 use Rattle.iri_percent.proofs.normal.gather_in.Given as goal
 
 -- what was written for the bytes so far, with a candidate after them

@@ -1,5 +1,4 @@
-use Rattle.std.proofs.Common.{◌≤◌, ◌-◌, length, false}
-use Rattle.iri_percent.specs.inside.Pieces.{NoCandidate}
+use Rattle.iri_percent.proofs.Common.{◌≤◌, ◌-◌, length, false, NoCandidate}
 use Rattle.iri_percent.proofs.normal.past_fours.Given as goal
 
 abbrev pub invariant-fours : goal.invariant-fours

@@ -1,7 +1,4 @@
-use Rattle.std.proofs.Common.{◌++◌, take, subst, sym, ap, ◌∙◌}
-use Rattle.iri_text.proofs.Compose.{shown_more}
-use Rattle.iri_percent.specs.Units.{whole_triplets}
-use Rattle.iri_percent.specs.inside.Pieces.{Becomes}
+use Rattle.iri_percent.proofs.Common.{◌++◌, take, subst, sym, ap, ◌∙◌, shown_more, whole_triplets, Becomes}
 use Rattle.iri_percent.proofs.Changes.{boundary, one_change}
 use Rattle.iri_percent.proofs.normal.show_normal.Goals as goal
 

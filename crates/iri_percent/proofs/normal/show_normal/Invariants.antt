@@ -1,9 +1,4 @@
-use Rattle.std.proofs.Common.{◌≡◌, ℕ, List, ◌++◌, true, length}
-use Rattle.std.specs.Str.{IsUtf8}
-use Rattle.iri_text.proofs.Compose.{HasShown}
-use Rattle.iri_percent.specs.Units.{whole_triplets}
-use Rattle.iri_percent.specs.Triplets.{normal}
-use Rattle.iri_percent.specs.inside.Pieces.{case_of}
+use Rattle.iri_percent.proofs.Common.{◌≡◌, ℕ, List, ◌++◌, true, length, IsUtf8, HasShown, whole_triplets, normal, case_of}
 use Rattle.iri_percent.proofs.normal.show_normal.Given as goal
 
 -- what went into the sink, and what is left

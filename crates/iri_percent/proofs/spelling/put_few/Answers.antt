@@ -1,5 +1,4 @@
-use Rattle.std.proofs.Common.{sym, subst, arith}
-use Rattle.std.specs.Str.{IsUtf8}
+use Rattle.iri_percent.proofs.Common.{sym, subst, arith, IsUtf8}
 use Rattle.iri_percent.proofs.Spelled.{triplets-utf8}
 use Rattle.iri_percent.proofs.spelling.put_few.Goals as goal
 

@@ -1,6 +1,4 @@
-use Rattle.std.proofs.Common.{ℕ, zero, suc, ◌<◌, ◌/◌, [], ◌∷◌, get_or, sym, ap, ◌∙◌, subst, arith}
-use Rattle.std.specs.Str.{IsUtf8}
-use Rattle.iri_percent.specs.Mapping.{capital_hex}
+use Rattle.iri_percent.proofs.Common.{ℕ, zero, suc, ◌<◌, ◌/◌, [], ◌∷◌, get_or, sym, ap, ◌∙◌, subst, arith, IsUtf8, capital_hex}
 use Rattle.iri_percent.proofs.Spelled.{triplets-utf8}
 use Rattle.iri_percent.proofs.spelling.put_one.Goals as goal
 

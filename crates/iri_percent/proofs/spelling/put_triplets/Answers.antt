@@ -1,7 +1,5 @@
-use Rattle.std.proofs.Common.{◌++◌, sym, ◌∙◌, subst}
-use Rattle.iri_text.specs.Shown.{Shows}
-use Rattle.iri_text.proofs.Compose.{shown_more, shown_then, shown_exit}
-use Rattle.iri_percent.specs.Mapping.{triplets}
+use Rattle.iri_percent.proofs.Common.{◌++◌, sym, ◌∙◌, subst, Shows, shown_more, shown_exit, triplets}
+use Rattle.iri_text.proofs.Compose.{shown_then}
 use Rattle.iri_percent.proofs.Spelled.{triplets_split}
 use Rattle.iri_percent.proofs.spelling.put_triplets.Goals as goal
 

@@ -1,6 +1,4 @@
-use Rattle.std.proofs.Common.{◌≡◌, ℕ, List, ◌++◌, length}
-use Rattle.iri_text.proofs.Compose.{HasShown}
-use Rattle.iri_percent.specs.Mapping.{triplets}
+use Rattle.iri_percent.proofs.Common.{◌≡◌, ℕ, List, ◌++◌, length, HasShown, triplets}
 use Rattle.iri_percent.proofs.spelling.put_triplets.Given as goal
 
 -- what went into the sink, and what is left

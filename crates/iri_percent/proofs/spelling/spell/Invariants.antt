@@ -1,5 +1,4 @@
-use Rattle.std.proofs.Common.{◌≡◌, ◌*◌, take, length}
-use Rattle.iri_percent.specs.Mapping.{triplets}
+use Rattle.iri_percent.proofs.Common.{◌≡◌, ◌*◌, take, length, triplets}
 use Rattle.iri_percent.proofs.spelling.spell.Given as goal
 
 -- the triplets of the octets so far stand at the start

@@ -1,5 +1,5 @@
-use Rattle.std.proofs.Common.{◌≡◌, ◌≤◌, ◌<◌, ◌+◌, ◌-◌, ◌*◌, ◌/◌, ◌%◌, get_or, arith, rules}
-use Rattle.iri_register.specs.inside.Counted.{width, total}
+use Rattle.std.proofs.Common.{◌≡◌, ◌-◌, ◌*◌, ◌/◌, arith}
+use Rattle.iri_register.specs.inside.Counted.{total}
 use Rattle.iri_register.proofs.TreeLemmas.{width_less, width_some, up_even, up_odd, before_small}
 use Rattle.iri_register.proofs.counts.before.Goals.{then-offset-eq1, else-offset-eq1}
 use Rattle.iri_register.proofs.counts.before.Goals as goal

@@ -1,5 +1,4 @@
-use Rattle.std.proofs.Common.{◌≡◌, ◌≤◌, ◌<◌, ◌+◌}
-use Rattle.iri_register.specs.inside.Counted.{total, width}
+use Rattle.iri_register.proofs.Common.{◌≡◌, ◌≤◌, ◌<◌, ◌+◌, total, width}
 use Rattle.iri_register.proofs.counts.before.Given as goal
 
 abbrev pub invariant-loop-level : goal.invariant-loop-level

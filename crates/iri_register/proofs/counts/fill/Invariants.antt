@@ -1,5 +1,4 @@
-use Rattle.std.proofs.Common.{◌≡◌, ◌≤◌, ◌<◌, ◌+◌, ℕ, get_or}
-use Rattle.iri_register.specs.inside.Counted.{IsTree}
+use Rattle.iri_register.proofs.Common.{◌≡◌, ◌≤◌, ◌<◌, ◌+◌, ℕ, get_or, IsTree}
 use Rattle.iri_register.proofs.counts.fill.Given as goal
 
 abbrev pub invariant-loop-slot : goal.invariant-loop-slot

@@ -1,5 +1,4 @@
-use Rattle.std.proofs.Common.{◌≡◌, ◌≤◌, ◌<◌, ◌+◌, ◌-◌, ◌*◌, get_or, sym, ◌∙◌, arith, rules}
-use Rattle.iri_register.specs.inside.Counted.{width, total}
+use Rattle.std.proofs.Common.{◌≤◌, ◌+◌, ◌*◌, arith}
 use Rattle.iri_register.proofs.TreeLemmas.{width_more, width_some, width_below, down_total, down_sum, one_more}
 use Rattle.iri_register.proofs.counts.slot_after.Goals as goal
 

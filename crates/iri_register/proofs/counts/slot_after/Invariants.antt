@@ -1,5 +1,4 @@
-use Rattle.std.proofs.Common.{◌≡◌, ◌≤◌, ◌<◌, ◌+◌, ◌-◌, get_or}
-use Rattle.iri_register.specs.inside.Counted.{total, width}
+use Rattle.iri_register.proofs.Common.{◌≡◌, ◌≤◌, ◌<◌, ◌+◌, ◌-◌, get_or, total, width}
 use Rattle.iri_register.proofs.counts.slot_after.Given as goal
 
 abbrev pub invariant-loop-level : goal.invariant-loop-level

@@ -1,5 +1,4 @@
-use Rattle.std.proofs.Common.{◌≡◌, ◌<◌, ◌+◌, None, Some, ap, sym, subst, ◌∙◌, length, arith, rules}
-use Rattle.iri_register.specs.Entries.{place, added}
+use Rattle.iri_register.proofs.Common.{◌≡◌, None, Some, ap, sym, ◌∙◌, length, arith, place}
 use Rattle.iri_register.proofs.SlotLemmas.{at_within, counted_small, total_is, place_live, length_listed, added_longer}
 use Rattle.iri_register.proofs.entries.add.Goals as goal
 

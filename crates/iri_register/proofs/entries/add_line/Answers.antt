@@ -1,6 +1,5 @@
-use Rattle.std.proofs.Common.{ap, sym, ◌∙◌}
-use Rattle.iri_register.specs.Listed.{has_lines}
-use Rattle.iri_register.proofs.SlotLemmas.{at_within, added_live, same_live, value_live, has_last, kept_same}
+use Rattle.iri_register.proofs.Common.{ap, ◌∙◌, has_lines}
+use Rattle.iri_register.proofs.SlotLemmas.{added_live, same_live, value_live, has_last, kept_same}
 use Rattle.iri_register.proofs.entries.add_line.Goals as goal
 
 pub returns-in-Ok-clause-lines : goal.returns-in-Ok-clause-lines

@@ -1,5 +1,4 @@
-use Rattle.std.proofs.Common.{◌≡◌, ◌<◌, ◌+◌, sym, ap, ◌∙◌, Some, length, arith, rules}
-use Rattle.iri_register.specs.Entries.{place}
+use Rattle.iri_register.proofs.Common.{sym, ap, ◌∙◌, Some, arith, place}
 use Rattle.iri_register.proofs.SlotLemmas.{at_within, counted_small, total_is, place_live}
 use Rattle.iri_register.proofs.entries.find.Goals as goal
 

@@ -1,8 +1,5 @@
-use Rattle.std.proofs.Common.{◌≡◌, ap, sym, subst, ◌∙◌, is_some, false, length, string_bytes, arith, rules}
-use Rattle.std.specs.Map.{lookup}
-use Rattle.iri_register.specs.Listed.{entries_of, has_lines}
-use Rattle.iri_register.specs.inside.Places.{is_text}
-use Rattle.iri_register.specs.inside.Slots.{IsKept}
+use Rattle.iri_register.proofs.Common.{◌≡◌, ap, sym, subst, ◌∙◌, is_some, false, length, string_bytes, arith, rules, lookup, entries_of}
+use Rattle.iri_register.proofs.Common.{has_lines, is_text, IsKept}
 use Rattle.iri_register.proofs.MapLemmas.{at_position}
 use Rattle.iri_register.proofs.KeyLemmas.{absent_live, dead_at, lookup_gone, slot_given, entries_dead, kept_dead, length_slot, on_ok}
 use Rattle.iri_register.proofs.entries.free_key.Goals as goal

@@ -1,7 +1,4 @@
-use Rattle.std.proofs.Common.{map, subst}
-use Rattle.std.specs.List.{IsDistinct}
-use Rattle.std.specs.Str.{bytes_eq}
-use Rattle.iri_register.specs.Entries.{Entry}
+use Rattle.iri_register.proofs.Common.{map, subst, IsDistinct, bytes_eq, Entry}
 use Rattle.iri_register.proofs.KeyLemmas.{once_live}
 use Rattle.iri_register.proofs.entries.len.Goals as goal
 

@@ -1,6 +1,4 @@
-use Rattle.std.proofs.Common.{ap, sym, ◌∙◌, Some, option_map}
-use Rattle.iri_register.specs.Entries.{Entry, entry_at}
-use Rattle.iri_register.specs.Listed.{entry_of}
+use Rattle.iri_register.proofs.Common.{ap, sym, ◌∙◌, Some, option_map, Entry, entry_at, entry_of}
 use Rattle.iri_register.proofs.entries.lines_at.Goals as goal
 
 pub returns-in-Some-get_index : goal.returns-in-Some-get_index

@@ -1,7 +1,5 @@
-use Rattle.std.proofs.Common.{◌≡◌, ◌<◌, ap, sym, subst, ◌∙◌, filter, length, arith, rules}
+use Rattle.iri_register.proofs.Common.{◌≡◌, ap, sym, subst, ◌∙◌, filter, length, arith, rules, entries_of, is_live, IsKept}
 use Rattle.indexmap.proofs.CallerLemmas.{filter-RetainsPairs}
-use Rattle.iri_register.specs.Listed.{entries_of, is_live}
-use Rattle.iri_register.specs.inside.Slots.{IsKept}
 use Rattle.iri_register.proofs.SlotLemmas.{live_within, kept_packed, packed_same}
 use Rattle.iri_register.proofs.entries.pack.Goals as goal
 

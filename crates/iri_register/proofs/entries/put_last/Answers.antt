@@ -1,9 +1,5 @@
-use Rattle.std.proofs.Common.{◌≡◌, ◌<◌, ◌+◌, ◌∷◌, [], ◌++◌, false, is_some, ap, sym, subst, ◌∙◌, get_or, length, take, drop, string_bytes, arith, rules}
-use Rattle.std.specs.Map.{lookup}
-use Rattle.iri_register.specs.Entries.{added}
-use Rattle.iri_register.specs.Listed.{entries_of, has_lines}
-use Rattle.iri_register.specs.inside.Places.{is_text}
-use Rattle.iri_register.specs.inside.Slots.{IsKept}
+use Rattle.iri_register.proofs.Common.{◌≡◌, ◌+◌, ◌∷◌, [], ◌++◌, false, is_some, ap, sym, subst, ◌∙◌, get_or, length, drop, string_bytes}
+use Rattle.iri_register.proofs.Common.{arith, lookup, added, entries_of, has_lines, is_text, IsKept}
 use Rattle.iri_register.proofs.SlotLemmas.{live_within, root_is, take_whole, insert_last, added_new, kept_more}
 use Rattle.iri_register.proofs.entries.put_last.Goals as goal
 

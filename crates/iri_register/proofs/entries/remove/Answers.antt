@@ -1,7 +1,5 @@
-use Rattle.std.proofs.Common.{◌≡◌, ◌<◌, ◌+◌, ◌-◌, ◌*◌, sym, ap, subst, ◌∙◌, Some, cond, length, get_or, take, drop, ◌++◌, arith, rules}
-use Rattle.iri_register.specs.Entries.{line_count, removed}
+use Rattle.iri_register.proofs.Common.{◌≡◌, ◌+◌, ◌-◌, sym, ap, subst, ◌∙◌, Some, length, get_or, drop, arith, line_count, removed, IsKept}
 use Rattle.iri_register.specs.Listed.{has_lines, listed}
-use Rattle.iri_register.specs.inside.Slots.{IsKept}
 use Rattle.indexmap.specs.IndexMap.{set_value_at}
 use Rattle.iri_register.proofs.SlotLemmas.{at_within, some_live, kept_less, take_whole, removed_live, count_live, count_none, removed_none}
 use Rattle.iri_register.proofs.entries.remove.Goals as goal

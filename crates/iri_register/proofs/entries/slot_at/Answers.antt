@@ -1,6 +1,5 @@
-use Rattle.std.proofs.Common.{◌≡◌, ◌<◌, get_or, ap, sym, subst, arith, rules}
-use Rattle.iri_register.proofs.SlotLemmas.{room_live, root_is, past_live, entry_in}
-use Rattle.iri_register.specs.inside.Slots.{IsKept}
+use Rattle.iri_register.proofs.Common.{get_or, ap, sym, subst, arith, IsKept}
+use Rattle.iri_register.proofs.SlotLemmas.{room_live, root_is, entry_in}
 use Rattle.iri_register.proofs.entries.slot_at.Goals as goal
 
 pub slot_after-requires-clause-within : goal.slot_after-requires-clause-within

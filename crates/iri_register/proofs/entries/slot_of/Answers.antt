@@ -1,5 +1,4 @@
-use Rattle.std.proofs.Common.{◌≡◌, ◌≢◌, ◌<◌, sym, ap, ◌∙◌, is_some, true≢false, cond, length, Some, arith, rules}
-use Rattle.iri_register.specs.inside.Slots.{flag_at}
+use Rattle.std.proofs.Common.{sym, ap, ◌∙◌, is_some, cond}
 use Rattle.iri_register.proofs.MapLemmas.{at_position}
 use Rattle.iri_register.proofs.SlotLemmas.{flag_entry, empty_none, empty_some, place_dead, place_absent, lookup_absent}
 use Rattle.iri_register.proofs.entries.slot_of.Goals as goal

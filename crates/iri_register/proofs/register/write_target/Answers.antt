@@ -1,7 +1,6 @@
-use Rattle.std.proofs.Common.{◌≡◌, ◌∙◌, ◌++◌, ap, string_bytes}
+use Rattle.iri_register.proofs.Common.{◌∙◌, ◌++◌, ap, base_text}
 use Rattle.iri_types.specs.SplitText.{split_text}
 use Rattle.iri_normal.specs.NormalForm.{canonical}
-use Rattle.iri_normal.specs.Resolver.{base_text}
 use Rattle.iri_register.proofs.register.write_target.Goals as goal
 
 pub returns-in-Ok-canonical_into-clause-text : goal.returns-in-Ok-canonical_into-clause-text

@@ -1,7 +1,5 @@
-use Rattle.std.proofs.Common.{◌≡◌, sym, ◌∙◌, ap, true}
-use Rattle.std.specs.Prelude.{slice_index, slice_set, string_bytes}
-use Rattle.std.specs.Char.{to_ascii_uppercase}
-use Rattle.iri_resolve.specs.Changes.{is_in_triplet, is_small_digit}
+use Rattle.iri_resolve.proofs.Common.{◌≡◌, sym, ◌∙◌, ap, true, slice_index, slice_set, string_bytes, to_ascii_uppercase, is_in_triplet}
+use Rattle.iri_resolve.proofs.Common.{is_small_digit}
 use Rattle.iri_resolve.proofs.Edits.{no_digit, digit_outside, digit}
 use Rattle.iri_resolve.proofs.ByteLaws.{digit_some, in_text, digit_low}
 use Rattle.iri_resolve.proofs.change.capital_digit.Goals as goal

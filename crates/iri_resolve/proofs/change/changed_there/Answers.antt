@@ -1,8 +1,4 @@
-use Rattle.std.proofs.Common.{Some, sym, subst}
-use Rattle.std.specs.Prelude.{string_bytes}
-use Rattle.iri_normal.specs.Resolver.{bytes_of}
-use Rattle.iri_resolve.specs.inside.ChangeOf.{change_of}
-use Rattle.iri_resolve.specs.inside.Reached.{WentThere}
+use Rattle.iri_resolve.proofs.Common.{Some, sym, subst, string_bytes, bytes_of, change_of, WentThere}
 use Rattle.iri_resolve.proofs.ReachedLemmas.{part-went}
 use Rattle.iri_resolve.proofs.change.changed_there.Goals as goal
 

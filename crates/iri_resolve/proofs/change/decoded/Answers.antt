@@ -1,9 +1,5 @@
-use Rattle.std.proofs.Common.{◌≡◌, ◌≤◌, ◌+◌, ◌*◌, ◌++◌, take, drop, length, sym, ap, subst, ◌∙◌, arith, append_assoc}
-use Rattle.std.specs.Prelude.{slice_index, string_bytes}
-use Rattle.std.specs.Char.{encode_utf8, len_utf8}
-use Rattle.std.proofs.lemmas.Str.{IsUtf8-string_bytes}
-use Rattle.iri_percent.specs.Units.{octets}
-use Rattle.iri_percent.specs.NormalLaws.{decoded}
+use Rattle.iri_resolve.proofs.Common.{◌≡◌, ◌≤◌, ◌+◌, ◌*◌, ◌++◌, take, drop, length, sym, ap, subst, ◌∙◌, arith, append_assoc, slice_index}
+use Rattle.iri_resolve.proofs.Common.{string_bytes, encode_utf8, len_utf8, IsUtf8-string_bytes, octets, decoded}
 use Rattle.iri_resolve.proofs.Edits.{not_decoded, is_decoded_to, place, after_place}
 use Rattle.iri_resolve.proofs.change.decoded.Goals as goal
 

@@ -1,8 +1,5 @@
-use Rattle.std.proofs.Common.{◌≡◌, ◌∙◌, sym, subst, ap}
-use Rattle.std.specs.Str.{IsUtf8}
-use Rattle.std.specs.Prelude.{slice_set}
-use Rattle.std.specs.String.{string_bytes, string_vec}
-use Rattle.std.proofs.lemmas.Str.{IsUtf8-string_bytes}
+use Rattle.iri_resolve.proofs.Common.{◌≡◌, ◌∙◌, sym, subst, ap, IsUtf8, slice_set, string_bytes, IsUtf8-string_bytes}
+use Rattle.std.specs.String.{string_vec}
 use Rattle.iri_resolve.proofs.Edits.{put-utf8}
 use Rattle.iri_resolve.proofs.change.put.Goals as goal
 

@@ -1,7 +1,4 @@
-use Rattle.std.proofs.Common.{sym, ◌∙◌, ap}
-use Rattle.std.specs.Prelude.{slice_index, string_bytes}
-use Rattle.std.specs.Char.{is_ascii_uppercase}
-use Rattle.iri_resolve.specs.Changes.{is_in_triplet}
+use Rattle.iri_resolve.proofs.Common.{sym, ◌∙◌, ap, slice_index, string_bytes, is_ascii_uppercase, is_in_triplet}
 use Rattle.iri_resolve.proofs.Edits.{no_host_letter, letter_inside, letter_outside}
 use Rattle.iri_resolve.proofs.change.small_host_letter.Goals as goal
 

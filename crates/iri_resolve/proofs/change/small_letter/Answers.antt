@@ -1,6 +1,4 @@
-use Rattle.std.proofs.Common.{◌≡◌, sym, ◌∙◌, ap, true}
-use Rattle.std.specs.Prelude.{slice_index, slice_set, string_bytes}
-use Rattle.std.specs.Char.{is_ascii_uppercase, to_ascii_lowercase}
+use Rattle.iri_resolve.proofs.Common.{◌≡◌, sym, ◌∙◌, ap, true, slice_index, slice_set, string_bytes, is_ascii_uppercase, to_ascii_lowercase}
 use Rattle.iri_resolve.proofs.Edits.{no_letter, letter}
 use Rattle.iri_resolve.proofs.ByteLaws.{capital_some, in_text, capital_low}
 use Rattle.iri_resolve.proofs.change.small_letter.Goals as goal

@@ -1,7 +1,5 @@
-use Rattle.std.proofs.Common.{sym, ap, ◌∙◌}
+use Rattle.iri_resolve.proofs.Common.{sym, ap, ◌∙◌, octets, decoded}
 use Rattle.std.proofs.lemmas.List.{take_rest}
-use Rattle.iri_percent.specs.Units.{octets}
-use Rattle.iri_percent.specs.NormalLaws.{decoded}
 use Rattle.iri_resolve.proofs.Edits.{after_end}
 use Rattle.iri_resolve.proofs.change.spelled_at.Goals as goal
 

@@ -1,11 +1,7 @@
-use Rattle.std.proofs.Common.{◌≡◌, ◌+◌, length, sym, ◌∙◌, ap, arith, subst}
+use Rattle.iri_resolve.proofs.Common.{◌+◌, length, sym, ◌∙◌, ap, arith, subst, eqb-true, normal_nil, normal, whole_triplets}
+use Rattle.iri_resolve.proofs.Common.{component_steps}
 use Rattle.std.proofs.lemmas.List.{nil_from_length, take_rest}
-use Rattle.std.proofs.lemmas.Bool.{eqb-true}
-use Rattle.iri_percent.proofs.NormalLaws.{normal_nil}
-use Rattle.iri_percent.specs.Triplets.{normal}
-use Rattle.iri_percent.specs.Units.{whole_triplets}
 use Rattle.iri_percent.specs.inside.Pieces.{case_of}
-use Rattle.iri_resolve.specs.NormalSteps.{component_steps}
 use Rattle.iri_resolve.proofs.ComponentLemmas.{prefix-is, something, walk-ended, walk-stopped, walked-on}
 use Rattle.iri_resolve.proofs.Going.{Going, done-err, going}
 use Rattle.iri_resolve.proofs.component_steps.push_component.Goals as goal

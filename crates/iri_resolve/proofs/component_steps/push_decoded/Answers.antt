@@ -1,5 +1,4 @@
-use Rattle.iri_text.proofs.Compose.{shows_exit, shows_then}
-use Rattle.iri_resolve.specs.NormalSteps.{letter_steps}
+use Rattle.iri_resolve.proofs.Common.{shows_exit, shows_then, letter_steps}
 use Rattle.iri_resolve.proofs.component_steps.push_decoded.Goals as goal
 
 pub returns-in_err-push : goal.returns-in_err-push

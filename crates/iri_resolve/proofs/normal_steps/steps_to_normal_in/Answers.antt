@@ -1,7 +1,5 @@
-use Rattle.std.proofs.Common.{◌++◌, ◌∙◌, ap}
+use Rattle.iri_resolve.proofs.Common.{◌++◌, ◌∙◌, ap, steps_of, replayed_in}
 use Rattle.iri_normal.specs.Slices.{slices}
-use Rattle.iri_resolve.specs.NormalSteps.{steps_of}
-use Rattle.iri_resolve.specs.Steps.{replayed_in}
 use Rattle.iri_resolve.proofs.SchemeSteps.{normal_in-leads}
 use Rattle.iri_resolve.proofs.normal_steps.steps_to_normal_in.Goals as goal
 

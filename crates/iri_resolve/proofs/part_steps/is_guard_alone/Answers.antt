@@ -1,9 +1,5 @@
-use Rattle.std.proofs.Common.{◌&&◌, sym, ◌∙◌, ap}
-use Rattle.std.specs.Prelude.{not}
+use Rattle.iri_resolve.proofs.Common.{◌&&◌, sym, ◌∙◌, ap, not, is_empty, starts_with_slash, now_of, is_two_dots}
 use Rattle.iri_grammar.specs.Cut.{before}
-use Rattle.iri_grammar.specs.Parts.{is_empty, starts_with_slash}
-use Rattle.iri_grammar.specs.OptionalSlices.{now_of}
-use Rattle.iri_normal.specs.DotRemoval.{is_two_dots}
 use Rattle.iri_normal.specs.Dots.{has_dot_segment, is_dot_segment}
 use Rattle.iri_resolve.proofs.GuardLemmas.{one-segment, two-segments, more-segments}
 use Rattle.iri_resolve.proofs.part_steps.is_guard_alone.Goals as goal

@@ -1,18 +1,8 @@
-use Rattle.std.proofs.Common.{◌++◌, length, refl, sym, ◌∙◌, ap, subst}
-use Rattle.iri_grammar.specs.Authority.{FitsAuthority, is_authority, userinfo_text}
-use Rattle.iri_grammar.specs.Components.{if_there, is_userinfo}
-use Rattle.iri_grammar.specs.Host.{is_host}
-use Rattle.iri_grammar.specs.OptionalSlices.{now_of}
+use Rattle.iri_resolve.proofs.Common.{◌++◌, length, refl, sym, ◌∙◌, ap, subst, FitsAuthority, is_authority, userinfo_text, if_there}
+use Rattle.iri_resolve.proofs.Common.{is_userinfo, is_host, now_of, normal_userinfo, whole_triplets, part_whole, reads, userinfo-whole}
+use Rattle.iri_resolve.proofs.Common.{shows_exit, shows_then, Shows}
 use Rattle.iri_grammar.specs.Spans.{span_parts}
-use Rattle.iri_percent.specs.NormalHost.{normal_userinfo}
-use Rattle.iri_percent.specs.Units.{whole_triplets}
-use Rattle.iri_percent.proofs.Authorities.{part_whole}
-use Rattle.iri_percent.proofs.MapKinds.{authority-reads as reads}
-use Rattle.iri_percent.proofs.WholeLaws.{userinfo-whole}
-use Rattle.iri_text.proofs.Compose.{shows_exit, shows_then}
-use Rattle.iri_text.specs.Shown.{Shows}
-use Rattle.iri_resolve.specs.NormalSteps.{authority_steps, host_steps, port_steps, steps_there, triplet_steps}
-use Rattle.iri_resolve.specs.declared.step.Part.TheVariants.{Authority}
+use Rattle.iri_resolve.specs.NormalSteps.{authority_steps, host_steps, port_steps, steps_there}
 use Rattle.iri_resolve.proofs.NormalStepLemmas.{authority-pushed}
 use Rattle.iri_resolve.proofs.part_steps.push_authority.Goals as goal
 

@@ -1,6 +1,4 @@
-use Rattle.std.proofs.Common.{◌∙◌, ap}
-use Rattle.iri_percent.specs.Units.{whole_triplets}
-use Rattle.iri_percent.proofs.WholeLaws.{host-whole}
+use Rattle.iri_resolve.proofs.Common.{◌∙◌, ap, whole_triplets, host-whole}
 use Rattle.iri_resolve.proofs.part_steps.push_host.Goals as goal
 
 pub is_ascii_host-lower-requires : goal.is_ascii_host-lower-requires

@@ -1,10 +1,5 @@
-use Rattle.std.proofs.Common.{◌++◌, ◌∙◌, ap, subst}
-use Rattle.iri_percent.proofs.WholeLaws.{path-whole}
-use Rattle.iri_text.proofs.Compose.{shows_exit, shows_then}
-use Rattle.iri_text.specs.Shown.{Shows}
+use Rattle.iri_resolve.proofs.Common.{◌++◌, ◌∙◌, ap, subst, path-whole, shows_exit, shows_then, Shows, Path, dots_steps, loses_dots}
 use Rattle.iri_resolve.specs.NormalSteps.{triplet_steps}
-use Rattle.iri_resolve.specs.declared.step.Part.TheVariants.{Path}
-use Rattle.iri_resolve.specs.inside.GuardAlone.{dots_steps, loses_dots}
 use Rattle.iri_resolve.proofs.NormalStepLemmas.{path-pushed}
 use Rattle.iri_resolve.proofs.part_steps.push_path.Goals as goal
 

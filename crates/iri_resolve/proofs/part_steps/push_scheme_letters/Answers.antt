@@ -1,6 +1,5 @@
-use Rattle.std.proofs.Common.{◌<◌, ◌+◌, ◌++◌, length, ◌∙◌, ap, arith, sym}
-use Rattle.std.specs.Prelude.{drop, slice_index}
-use Rattle.iri_resolve.specs.NormalSteps.{scheme_letter_steps, scheme_steps}
+use Rattle.iri_resolve.proofs.Common.{◌<◌, ◌+◌, ◌++◌, length, ◌∙◌, ap, arith, sym, drop, slice_index, scheme_steps}
+use Rattle.iri_resolve.specs.NormalSteps.{scheme_letter_steps}
 use Rattle.iri_resolve.proofs.Going.{all_gone, going, going_on, gone_wrong}
 use Rattle.iri_resolve.proofs.NormalStepLemmas.{next-letter, no-letters}
 use Rattle.iri_resolve.proofs.part_steps.push_scheme_letters.Goals as goal

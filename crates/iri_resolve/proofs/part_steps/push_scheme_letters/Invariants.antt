@@ -1,5 +1,4 @@
-use Rattle.std.specs.Prelude.{drop}
-use Rattle.iri_resolve.specs.NormalSteps.{scheme_steps}
+use Rattle.iri_resolve.proofs.Common.{drop, scheme_steps}
 use Rattle.iri_resolve.proofs.Going.{Going}
 use Rattle.iri_resolve.proofs.part_steps.push_scheme_letters.Given as goal
 

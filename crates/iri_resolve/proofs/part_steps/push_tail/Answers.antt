@@ -1,7 +1,4 @@
-use Rattle.iri_grammar.specs.Components.{is_fragment, is_query}
-use Rattle.iri_grammar.specs.OptionalSlices.{now_of}
-use Rattle.iri_percent.proofs.Authorities.{part_whole}
-use Rattle.iri_percent.proofs.WholeLaws.{fragment-whole, query-whole}
+use Rattle.iri_resolve.proofs.Common.{is_fragment, is_query, now_of, part_whole, fragment-whole, query-whole}
 use Rattle.iri_resolve.proofs.part_steps.push_tail.Goals as goal
 
 pub push_triplets-requires : goal.push_triplets-requires

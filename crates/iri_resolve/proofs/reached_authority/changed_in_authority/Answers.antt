@@ -1,7 +1,4 @@
-use Rattle.std.proofs.Common.{Some, false, sym, subst}
-use Rattle.iri_resolve.specs.Steps.{in_userinfo_or_host}
-use Rattle.iri_resolve.specs.inside.ChangeOf.{change_of}
-use Rattle.iri_resolve.specs.inside.Reached.{IsReadThere, ReadOnThere}
+use Rattle.iri_resolve.proofs.Common.{Some, false, sym, subst, in_userinfo_or_host, change_of, IsReadThere, ReadOnThere}
 use Rattle.iri_resolve.proofs.ReachedLemmas.{on-there, nothing-there}
 use Rattle.iri_resolve.proofs.reached_authority.changed_in_authority.Goals as goal
 

@@ -1,14 +1,6 @@
-use Rattle.std.proofs.Common.{◌-◌, ◌<◌, ◌≤◌, ◌∙◌, ap, subst}
-use Rattle.std.specs.Prelude.{string_bytes}
-use Rattle.std.proofs.lemmas.Bool.{lt-ltb, le-ltb}
-use Rattle.iri_percent.proofs.Authorities.{part_whole}
-use Rattle.iri_percent.proofs.WholeLaws.{host-whole, userinfo-whole}
-use Rattle.iri_grammar.specs.Components.{is_userinfo}
-use Rattle.iri_normal.specs.Resolver.{bytes_of}
-use Rattle.iri_resolve.specs.inside.ChangeOf.{change_of}
+use Rattle.iri_resolve.proofs.Common.{◌-◌, ◌<◌, ◌≤◌, ◌∙◌, ap, subst, string_bytes, lt-ltb, le-ltb, part_whole, host-whole, userinfo-whole}
+use Rattle.iri_resolve.proofs.Common.{is_userinfo, bytes_of, change_of, authority_of, host_start}
 use Rattle.iri_resolve.proofs.ChangeOf.{change-keeps}
-use Rattle.iri_resolve.specs.inside.Reached.{authority_of}
-use Rattle.iri_resolve.specs.Steps.{host_start}
 use Rattle.iri_resolve.proofs.ReachedLemmas.{userinfo-on, host-on}
 use Rattle.iri_resolve.proofs.reached_authority.changed_in_parts.Goals as goal
 

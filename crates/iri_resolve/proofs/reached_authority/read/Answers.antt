@@ -1,10 +1,5 @@
-use Rattle.std.proofs.Common.{sym, ◌∙◌, ap, subst}
-use Rattle.iri_grammar.specs.Authority.{FitsAuthority}
+use Rattle.iri_resolve.proofs.Common.{sym, ◌∙◌, ap, subst, FitsAuthority, is_ascii_host, whole_triplets, host-whole, reads}
 use Rattle.iri_grammar.specs.Spans.{span_parts}
-use Rattle.iri_percent.specs.NormalHost.{is_ascii_host}
-use Rattle.iri_percent.specs.Units.{whole_triplets}
-use Rattle.iri_percent.proofs.WholeLaws.{host-whole}
-use Rattle.iri_percent.proofs.MapKinds.{authority-reads as reads}
 use Rattle.iri_resolve.proofs.ReachedLemmas.{authority-same}
 use Rattle.iri_resolve.proofs.reached_authority.read.Goals as goal
 

@@ -1,7 +1,4 @@
-use Rattle.std.proofs.Common.{Some, sym, ◌∙◌, ap}
-use Rattle.iri_grammar.specs.Authority.{recompose_authority}
-use Rattle.iri_grammar.proofs.AuthorityLaws.{authority_recomposed}
-use Rattle.iri_grammar.specs.OptionalSlices.{now_of}
+use Rattle.iri_resolve.proofs.Common.{Some, sym, ◌∙◌, ap, recompose_authority, authority_recomposed, now_of}
 use Rattle.iri_resolve.proofs.reached_authority.read_there.Goals as goal
 
 pub returns-clause-text : goal.returns-clause-text

@@ -1,6 +1,4 @@
-use Rattle.std.proofs.Common.{Some, false, sym, subst}
-use Rattle.iri_resolve.specs.Steps.{with_small_letter_in_host}
-use Rattle.iri_resolve.specs.inside.Reached.{IsReadThere, ReadOnThere}
+use Rattle.iri_resolve.proofs.Common.{Some, false, sym, subst, with_small_letter_in_host, IsReadThere, ReadOnThere}
 use Rattle.iri_resolve.proofs.ReachedLemmas.{on-there, nothing-there}
 use Rattle.iri_resolve.proofs.reached_authority.small_letter_in_authority.Goals as goal
 

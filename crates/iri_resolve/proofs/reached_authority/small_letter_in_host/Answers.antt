@@ -1,10 +1,5 @@
-use Rattle.std.proofs.Common.{◌<◌, ◌≤◌, ◌-◌, ap, ◌∙◌, subst}
-use Rattle.std.specs.Prelude.{string_bytes}
-use Rattle.std.proofs.lemmas.Bool.{lt-ltb, le-ltb}
-use Rattle.iri_percent.proofs.WholeLaws.{host-whole}
-use Rattle.iri_resolve.specs.Changes.{with_small_host_letter}
-use Rattle.iri_resolve.specs.Steps.{host_start}
-use Rattle.iri_resolve.specs.inside.Reached.{authority_of}
+use Rattle.iri_resolve.proofs.Common.{◌<◌, ◌≤◌, ◌-◌, ap, ◌∙◌, subst, string_bytes, lt-ltb, le-ltb, host-whole, with_small_host_letter}
+use Rattle.iri_resolve.proofs.Common.{host_start, authority_of}
 use Rattle.iri_resolve.proofs.ReachedLemmas.{letter-on, letter-before, letter-past}
 use Rattle.iri_resolve.proofs.reached_authority.small_letter_in_host.Goals as goal
 

@@ -1,8 +1,5 @@
-use Rattle.std.proofs.Common.{Some, None, true, false, sym, ◌∙◌, ap, subst}
-use Rattle.iri_grammar.specs.OptionalSlices.{now_of}
-use Rattle.iri_resolve.specs.NormalSteps.{is_port_dropped}
-use Rattle.iri_resolve.specs.inside.Reached.{IsReadThere, ReadOnThere}
-use Rattle.iri_resolve.specs.Steps.{without_dropped_port}
+use Rattle.iri_resolve.proofs.Common.{Some, None, true, false, sym, ◌∙◌, ap, subst, now_of, is_port_dropped, IsReadThere, ReadOnThere}
+use Rattle.iri_resolve.proofs.Common.{without_dropped_port}
 use Rattle.iri_resolve.proofs.ReachedLemmas.{dropped-on, dropped-stays, nothing-there}
 use Rattle.iri_resolve.proofs.reached_authority.without_dropped_port.Goals as goal
 

@@ -1,6 +1,5 @@
-use Rattle.std.proofs.Common.{Some, None, true, false, sym, ◌∙◌, ap, subst}
-use Rattle.iri_resolve.specs.inside.Reached.{IsReadThere, ReadOnThere, is_port_empty}
-use Rattle.iri_resolve.specs.Steps.{without_empty_port}
+use Rattle.iri_resolve.proofs.Common.{Some, None, true, false, sym, ◌∙◌, ap, subst, IsReadThere, ReadOnThere, is_port_empty}
+use Rattle.iri_resolve.proofs.Common.{without_empty_port}
 use Rattle.iri_resolve.proofs.ReachedLemmas.{empty-on, empty-stays, nothing-there}
 use Rattle.iri_resolve.proofs.reached_authority.without_empty_port.Goals as goal
 

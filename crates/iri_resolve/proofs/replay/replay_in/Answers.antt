@@ -1,5 +1,4 @@
-use Rattle.std.proofs.Common.{Some, sym, ◌∙◌, ap}
-use Rattle.iri_resolve.specs.inside.Reached.{parts_of}
+use Rattle.iri_resolve.proofs.Common.{Some, sym, ◌∙◌, ap, parts_of}
 use Rattle.iri_resolve.proofs.Replayed.{one_more, none_yet}
 use Rattle.iri_resolve.proofs.replay.replay_in.Goals as goal
 

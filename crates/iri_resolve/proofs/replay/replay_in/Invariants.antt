@@ -1,6 +1,4 @@
-use Rattle.std.proofs.Common.{◌≡◌, Some, take}
-use Rattle.iri_resolve.specs.Steps.{replayed_in}
-use Rattle.iri_resolve.specs.inside.Reached.{Holds, parts_of}
+use Rattle.iri_resolve.proofs.Common.{◌≡◌, Some, take, replayed_in, Holds, parts_of}
 use Rattle.iri_resolve.proofs.replay.replay_in.Given as goal
 
 abbrev pub invariant-loop-k : goal.invariant-loop-k

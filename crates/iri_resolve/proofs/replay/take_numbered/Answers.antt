@@ -1,6 +1,4 @@
-use Rattle.std.proofs.Common.{refl, sym, ◌∙◌, ap, subst}
-use Rattle.iri_resolve.specs.Steps.{step_in}
-use Rattle.iri_resolve.specs.inside.Reached.{Reaches, parts_of, went}
+use Rattle.iri_resolve.proofs.Common.{refl, sym, ◌∙◌, ap, subst, step_in, Reaches, parts_of, went}
 use Rattle.iri_resolve.proofs.ReachedLemmas.{stepped}
 use Rattle.iri_resolve.proofs.replay.take_numbered.Goals as goal
 

@@ -1,6 +1,4 @@
-use Rattle.std.proofs.Common.{Some, ◌∙◌, ap}
-use Rattle.iri_grammar.specs.OptionalSlices.{now_of}
-use Rattle.iri_percent.specs.SchemeRules.{dropped_port}
+use Rattle.iri_resolve.proofs.Common.{Some, ◌∙◌, ap, now_of, dropped_port}
 use Rattle.iri_resolve.proofs.ReachedLemmas.{dropped-reached}
 use Rattle.iri_resolve.proofs.take_step.default_port_step.Goals as goal
 

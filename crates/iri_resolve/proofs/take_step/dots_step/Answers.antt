@@ -1,9 +1,4 @@
-use Rattle.std.proofs.Common.{◌∙◌, ap}
-use Rattle.std.specs.Prelude.{string_bytes}
-use Rattle.std.proofs.lemmas.Result.{IfOk-weaker}
-use Rattle.iri_normal.specs.DotRemoval.{dots}
-use Rattle.iri_normal.specs.Guard.{guard}
-use Rattle.iri_resolve.specs.inside.Reached.{other_than}
+use Rattle.iri_resolve.proofs.Common.{◌∙◌, ap, string_bytes, IfOk-weaker, dots, guard, other_than}
 use Rattle.iri_percent.specs.declared.canon_mode.CanonMode.TheVariants.{Default}
 use Rattle.iri_resolve.proofs.ReachedLemmas.{dots-reached}
 use Rattle.iri_resolve.proofs.take_step.dots_step.Goals as goal

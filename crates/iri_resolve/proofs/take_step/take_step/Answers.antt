@@ -1,7 +1,4 @@
-use Rattle.std.proofs.Common.{sym, ◌∙◌, ap, subst}
-use Rattle.std.specs.Prelude.{IfOk}
-use Rattle.iri_resolve.specs.Steps.{step_in}
-use Rattle.iri_resolve.specs.inside.Reached.{Reaches, parts_of}
+use Rattle.iri_resolve.proofs.Common.{sym, ◌∙◌, ap, subst, IfOk, step_in, Reaches, parts_of}
 use Rattle.iri_resolve.proofs.ReachedLemmas.{letter-reached, host-reached, empty-reached, digit-placed, decode-placed}
 use Rattle.iri_resolve.proofs.take_step.take_step.Goals as goal
 

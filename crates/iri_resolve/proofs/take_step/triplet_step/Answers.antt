@@ -1,15 +1,6 @@
-use Rattle.std.proofs.Common.{refl, sym, subst}
-use Rattle.std.specs.Prelude.{IfOk}
-use Rattle.std.proofs.lemmas.Result.{IfOk-weaker}
-use Rattle.iri_grammar.specs.Components.{is_query, is_fragment}
-use Rattle.iri_percent.proofs.Authorities.{part_whole}
-use Rattle.iri_percent.proofs.WholeLaws.{path-whole, query-whole, fragment-whole}
-use Rattle.iri_normal.specs.Resolver.{bytes_of}
-use Rattle.std.specs.Prelude.{string_bytes}
-use Rattle.iri_resolve.specs.Steps.{at_place, in_userinfo_or_host}
-use Rattle.iri_resolve.specs.inside.ChangeOf.{change_of}
-use Rattle.iri_resolve.specs.inside.Reached.{Reaches, parts_of}
-use Rattle.iri_resolve.specs.declared.step.Part.TheVariants.{Authority, Path, Query, Fragment}
+use Rattle.iri_resolve.proofs.Common.{refl, sym, subst, IfOk, IfOk-weaker, is_query, is_fragment, part_whole, path-whole, query-whole}
+use Rattle.iri_resolve.proofs.Common.{fragment-whole, bytes_of, string_bytes, at_place, in_userinfo_or_host, change_of, Reaches, parts_of}
+use Rattle.iri_resolve.proofs.Common.{Authority, Path, Query, Fragment}
 use Rattle.iri_resolve.proofs.ReachedLemmas.{authority-reached, path-reached, query-reached, fragment-reached}
 use Rattle.iri_resolve.proofs.take_step.triplet_step.Goals as goal
 

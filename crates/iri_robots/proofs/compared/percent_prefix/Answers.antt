@@ -1,10 +1,9 @@
 use Rattle.std.proofs.Common.{sym, ◌∙◌}
 use Rattle.iri_robots.proofs.Forms.{prefix_stray, stray_short, stray_first, stray_second}
-use Rattle.iri_robots.proofs.compared.percent_prefix.Goals as goal
 use Rattle.iri_robots.proofs.compared.percent_prefix.Goals.{then-text-lt3-via-then-text-lt3}
 use Rattle.iri_robots.proofs.compared.percent_prefix.Goals.{then-text-lt3-via-else-text-lt3+then-not-is_ascii_hexdigit}
 use Rattle.iri_robots.proofs.compared.percent_prefix.Goals.{then-text-lt3-via-else-text-lt3+else-not-is_ascii_hexdigit+then-not-is_ascii_hexdigit-2}
-use Rattle.iri_robots.proofs.compared.percent_prefix.Goals.{}
+use Rattle.iri_robots.proofs.compared.percent_prefix.Goals as goal
 
 pub returns-then-text-lt3 : goal.returns-then-text-lt3
 returns-then-text-lt3 c =

@@ -1,5 +1,4 @@
-use Rattle.std.proofs.Common.{rules, arith}
-use Rattle.std.specs.Prelude.{slice_index}
+use Rattle.std.proofs.Common.{rules, arith, slice_index}
 use Rattle.iri_robots.proofs.Forms.{prefix_past, low_stays}
 use Rattle.iri_robots.proofs.compared.prefix_of.Goals as goal
 

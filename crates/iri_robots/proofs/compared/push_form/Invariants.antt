@@ -1,5 +1,4 @@
-use Rattle.std.proofs.Common.{◌≡◌, ◌++◌, length, string_bytes}
-use Rattle.iri_robots.specs.Compared.{compared}
+use Rattle.iri_robots.proofs.Common.{◌≡◌, ◌++◌, length, string_bytes, compared}
 use Rattle.iri_robots.proofs.compared.push_form.Given as goal
 
 -- what is written, and what is left

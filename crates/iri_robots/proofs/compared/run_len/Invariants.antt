@@ -1,6 +1,4 @@
-use Rattle.std.proofs.Common.{◌≡◌, ◌+◌, drop}
-use Rattle.iri_grammar.specs.Runs.{run_of}
-use Rattle.iri_robots.specs.inside.Prefixes.{stays}
+use Rattle.iri_robots.proofs.Common.{◌≡◌, ◌+◌, drop, run_of, stays}
 use Rattle.iri_robots.proofs.compared.run_len.Given as goal
 
 -- what is left counts on

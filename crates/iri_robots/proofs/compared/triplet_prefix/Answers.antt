@@ -1,6 +1,5 @@
-use Rattle.std.proofs.Common.{get_or, sym, ◌∙◌, subst}
-use Rattle.std.specs.Char.{to_ascii_uppercase}
-use Rattle.iri_robots.specs.inside.Prefixes.{IsPrefix}
+use Rattle.iri_robots.proofs.Common.{sym, ◌∙◌, subst, to_ascii_uppercase, IsPrefix}
+use Rattle.std.proofs.Common.{get_or}
 use Rattle.iri_robots.specs.declared.compared.Written.TheVariants.{Triplet}
 use Rattle.iri_robots.proofs.Forms.{prefix_decoded, prefix_kept}
 use Rattle.iri_robots.proofs.compared.triplet_prefix.Goals as goal

@@ -1,6 +1,4 @@
-use Rattle.std.proofs.Common.{◌≡◌, ◌+◌, length}
-use Rattle.iri_robots.specs.Compared.{compared}
-use Rattle.iri_robots.specs.Patterns.{escapes}
+use Rattle.iri_robots.proofs.Common.{◌≡◌, ◌+◌, length, compared, escapes}
 use Rattle.iri_robots.specs.inside.EscapeScans.{begun_then}
 use Rattle.iri_robots.proofs.escape.has_more_escapes.Given as goal
 

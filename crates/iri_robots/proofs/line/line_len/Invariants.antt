@@ -1,5 +1,4 @@
-use Rattle.std.proofs.Common.{◌≡◌, ◌+◌, drop}
-use Rattle.iri_grammar.specs.Runs.{run_of}
+use Rattle.iri_robots.proofs.Common.{◌≡◌, ◌+◌, drop, run_of}
 use Rattle.iri_robots.specs.Files.{is_in_line}
 use Rattle.iri_robots.proofs.line.line_len.Given as goal
 

@@ -1,7 +1,5 @@
-use Rattle.std.proofs.Common.{◌∙◌, cond, ap, sym}
+use Rattle.iri_robots.proofs.Common.{◌∙◌, cond, ap, sym, before, OtherLine, line_of_text, without_byte_order_mark}
 use Rattle.std.proofs.lemmas.Str.{is_utf8-from_IsUtf8}
-use Rattle.iri_grammar.specs.Cut.{before}
-use Rattle.iri_robots.specs.FileLines.{OtherLine, line_of_text, without_byte_order_mark}
 use Rattle.iri_robots.proofs.Lines.{not_text}
 use Rattle.iri_robots.proofs.line.read_line.Goals as goal
 

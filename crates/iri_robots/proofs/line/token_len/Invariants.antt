@@ -1,6 +1,5 @@
-use Rattle.std.proofs.Common.{◌≡◌, ◌+◌, drop}
+use Rattle.iri_robots.proofs.Common.{◌≡◌, ◌+◌, drop, is_token_char}
 use Rattle.std.specs.List.{prefix_len}
-use Rattle.iri_robots.specs.FileLines.{is_token_char}
 use Rattle.iri_robots.proofs.line.token_len.Given as goal
 
 abbrev pub invariant-loop-i : goal.invariant-loop-i

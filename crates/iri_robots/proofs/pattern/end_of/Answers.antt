@@ -1,5 +1,4 @@
-use Rattle.std.proofs.Common.{◌-◌, length, sym, ◌∙◌}
-use Rattle.std.proofs.lemmas.List.{take_rest}
+use Rattle.iri_robots.proofs.Common.{◌-◌, length, sym, ◌∙◌, take_rest}
 use Rattle.iri_robots.proofs.Places.{end_for}
 use Rattle.iri_robots.proofs.pattern.end_of.Goals as goal
 

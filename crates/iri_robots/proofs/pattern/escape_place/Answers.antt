@@ -1,5 +1,4 @@
-use Rattle.std.proofs.Common.{sym, ◌∙◌}
-use Rattle.std.proofs.lemmas.List.{take_rest}
+use Rattle.iri_robots.proofs.Common.{sym, ◌∙◌, take_rest}
 use Rattle.iri_robots.proofs.Places.{sticks_none, sticks_more, sticks_all, no_value}
 use Rattle.iri_robots.proofs.pattern.escape_place.Goals as goal
 

@@ -1,6 +1,5 @@
-use Rattle.std.proofs.Common.{length, sym, ◌∙◌, refl}
+use Rattle.iri_robots.proofs.Common.{length, sym, ◌∙◌, refl, take_rest}
 use Rattle.std.proofs.lemmas.Bool.{false≢true}
-use Rattle.std.proofs.lemmas.List.{take_rest}
 use Rattle.iri_robots.proofs.Moves.{star_here, star_stops}
 use Rattle.iri_robots.proofs.Parts.{some_left, star_moves}
 use Rattle.iri_robots.proofs.Places.{nothing_left}

@@ -1,5 +1,4 @@
-use Rattle.std.proofs.Common.{◌↔◌, ◌+◌, ◌∷◌, length}
-use Rattle.iri_robots.specs.inside.Fits.{Fits}
+use Rattle.iri_robots.proofs.Common.{◌↔◌, ◌+◌, ◌∷◌, length, Fits}
 use Rattle.iri_robots.proofs.pattern.fits_after_star.Given as goal
 
 abbrev pub invariant-loop-found : goal.invariant-loop-found

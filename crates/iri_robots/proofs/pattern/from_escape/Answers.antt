@@ -1,5 +1,4 @@
-use Rattle.std.proofs.Common.{true}
-use Rattle.std.proofs.lemmas.List.{take_rest}
+use Rattle.iri_robots.proofs.Common.{true, take_rest}
 use Rattle.iri_robots.proofs.Places.{missing_at, kept_at, smaller_at, kept_both, not_kept}
 use Rattle.iri_robots.proofs.pattern.from_escape.Goals as goal
 

@@ -1,5 +1,4 @@
-use Rattle.std.proofs.Common.{sym, ◌∙◌}
-use Rattle.std.proofs.lemmas.List.{take_rest}
+use Rattle.iri_robots.proofs.Common.{sym, ◌∙◌, take_rest}
 use Rattle.iri_robots.proofs.Places.{plain_none, plain_more, no_value}
 use Rattle.iri_robots.proofs.pattern.plain_len.Goals as goal
 

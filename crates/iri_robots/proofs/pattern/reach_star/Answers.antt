@@ -1,8 +1,7 @@
-use Rattle.std.proofs.Common.{length, sym, ◌∙◌}
-use Rattle.std.proofs.lemmas.List.{take_rest}
+use Rattle.iri_robots.proofs.Common.{length, sym, ◌∙◌, take_rest}
 use Rattle.iri_robots.proofs.Parts.{some_left, star_reached, part_taken, no_longer, reached_end, stuck_here}
-use Rattle.iri_robots.proofs.pattern.reach_star.Goals as goal
 use Rattle.iri_robots.proofs.pattern.reach_star.Goals.{else-anchored-via-then-anchored+else-not-is_empty, else-anchored-via-else-anchored}
+use Rattle.iri_robots.proofs.pattern.reach_star.Goals as goal
 
 pub returns-then-pattern-eq42 : goal.returns-then-pattern-eq42
 returns-then-pattern-eq42 c =

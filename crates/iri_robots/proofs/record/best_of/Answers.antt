@@ -1,7 +1,5 @@
-use Rattle.std.proofs.Common.{◌++◌, ◌∷◌, [], subst}
+use Rattle.iri_robots.proofs.Common.{◌++◌, ◌∷◌, [], subst, IsBestOf, rules_left}
 use Rattle.iri_robots.specs.Stored.{rule_text}
-use Rattle.iri_robots.specs.inside.BestRule.{IsBestOf}
-use Rattle.iri_robots.specs.inside.RulesLeft.{rules_left}
 use Rattle.iri_robots.proofs.Runs.{judged_more}
 use Rattle.iri_robots.proofs.record.best_of.Goals as goal
 

@@ -1,6 +1,4 @@
-use Rattle.std.proofs.Common.{◌≡◌, ◌↔◌, true, subst}
-use Rattle.iri_robots.specs.Allowed.{IsAllowed}
-use Rattle.iri_robots.specs.inside.RulesLeft.{rules_left}
+use Rattle.iri_robots.proofs.Common.{◌≡◌, ◌↔◌, true, subst, IsAllowed, rules_left}
 use Rattle.iri_robots.proofs.record.is_allowed.Goals as goal
 
 pub returns : goal.returns

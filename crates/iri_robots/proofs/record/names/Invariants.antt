@@ -1,5 +1,4 @@
-use Rattle.std.proofs.Common.{◌≡◌, drop}
-use Rattle.iri_robots.specs.Stored.{record_texts}
+use Rattle.iri_robots.proofs.Common.{◌≡◌, drop, record_texts}
 use Rattle.iri_robots.specs.Records.{is_named}
 use Rattle.iri_robots.proofs.record.names.Given as goal
 

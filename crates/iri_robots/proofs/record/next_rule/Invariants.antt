@@ -1,5 +1,4 @@
-use Rattle.std.proofs.Common.{◌≡◌, ◌≤◌, length}
-use Rattle.iri_robots.specs.inside.RulesLeft.{rules_left}
+use Rattle.iri_robots.proofs.Common.{◌≡◌, ◌≤◌, length, rules_left}
 use Rattle.iri_robots.proofs.record.next_rule.Given as goal
 
 abbrev pub invariant-records : goal.invariant-records

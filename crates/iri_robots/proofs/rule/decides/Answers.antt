@@ -1,6 +1,5 @@
-use Rattle.std.proofs.Common.{subst, sym, ◌∙◌}
+use Rattle.iri_robots.proofs.Common.{subst, sym, ◌∙◌, IsBestOf}
 use Rattle.std.specs.Cmp.Lexicographic.{other_text}
-use Rattle.iri_robots.specs.inside.BestRule.{IsBestOf}
 use Rattle.iri_robots.proofs.Verdicts.{best_decides}
 use Rattle.iri_robots.proofs.rule.decides.Goals as goal
 

@@ -1,6 +1,4 @@
-use Rattle.std.proofs.Common.{Some, ◌||◌, length, subst, sym, ap, ◌∙◌, refl, arith}
-use Rattle.iri_robots.specs.Records.{FileRule}
-use Rattle.iri_robots.specs.inside.BestRule.{IsBestOf}
+use Rattle.iri_robots.proofs.Common.{Some, ◌||◌, length, subst, sym, ap, ◌∙◌, refl, arith, FileRule, IsBestOf}
 use Rattle.iri_robots.proofs.Verdicts.{kept, best_kept, best_first, best_longer, best_tie}
 use Rattle.iri_robots.proofs.rule.judge.Goals as goal
 

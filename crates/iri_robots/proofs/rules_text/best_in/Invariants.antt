@@ -1,5 +1,4 @@
-use Rattle.std.proofs.Common.{length}
-use Rattle.iri_robots.specs.RuleLines.{rules_in}
+use Rattle.iri_robots.proofs.Common.{length, rules_in}
 use Rattle.iri_robots.proofs.Runs.{IsJudged}
 use Rattle.iri_robots.proofs.rules_text.best_in.Given as goal
 

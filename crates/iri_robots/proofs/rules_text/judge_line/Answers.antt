@@ -1,5 +1,4 @@
-use Rattle.std.proofs.Common.{◌++◌, sym, subst}
-use Rattle.iri_robots.specs.inside.BestRule.{IsBestOf}
+use Rattle.iri_robots.proofs.Common.{◌++◌, sym, subst, IsBestOf}
 use Rattle.iri_robots.proofs.rules_text.judge_line.Goals as goal
 
 pub returns-in-Some : goal.returns-in-Some

@@ -1,6 +1,4 @@
-use Rattle.std.proofs.Common.{◌≡◌, ◌↔◌, true, refl, subst}
-use Rattle.iri_robots.specs.Allowed.{IsAllowed}
-use Rattle.iri_robots.specs.RuleLines.{rules_in}
+use Rattle.iri_robots.proofs.Common.{◌≡◌, ◌↔◌, true, refl, subst, IsAllowed, rules_in}
 use Rattle.iri_robots.proofs.rules_text.lines_verdict.Goals as goal
 
 pub returns-then-decides : goal.returns-then-decides

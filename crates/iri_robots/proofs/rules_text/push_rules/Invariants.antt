@@ -1,6 +1,5 @@
-use Rattle.std.proofs.Common.{◌≡◌, ◌++◌, length, string_bytes}
+use Rattle.iri_robots.proofs.Common.{◌≡◌, ◌++◌, length, string_bytes, rules_left}
 use Rattle.iri_robots.specs.RuleLines.{rule_lines}
-use Rattle.iri_robots.specs.inside.RulesLeft.{rules_left}
 use Rattle.iri_robots.proofs.rules_text.push_rules.Given as goal
 
 -- what is written, and what is left

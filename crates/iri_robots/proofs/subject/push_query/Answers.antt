@@ -1,8 +1,6 @@
-use Rattle.std.proofs.Common.{◌≡◌, ◌++◌, ◌∷◌, [], sym, ap, ◌∙◌, subst, append_assoc, append-nil, string_bytes, arith}
+use Rattle.iri_robots.proofs.Common.{◌≡◌, ◌++◌, ◌∷◌, [], sym, ap, ◌∙◌, subst, append_assoc, append-nil, string_bytes, arith, encode_ascii}
+use Rattle.iri_robots.proofs.Common.{now_of, compared, query_text}
 use Rattle.std.specs.Prelude.{OnOk}
-use Rattle.std.proofs.lemmas.Str.{encode_ascii}
-use Rattle.iri_grammar.specs.OptionalSlices.{now_of}
-use Rattle.iri_robots.specs.Compared.{compared, query_text}
 use Rattle.iri_robots.proofs.Forms.{compared_nil, query_mark}
 use Rattle.iri_robots.proofs.subject.push_query.Goals as goal
 

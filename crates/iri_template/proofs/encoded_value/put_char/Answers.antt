@@ -1,5 +1,4 @@
-use Rattle.std.proofs.Common.{subst}
-use Rattle.iri_text.specs.Shown.{Shows}
+use Rattle.iri_template.proofs.Common.{subst, Shows}
 use Rattle.iri_template.proofs.PrefixChars.{encoded_one}
 use Rattle.iri_template.proofs.encoded_value.put_char.Goals as goal
 

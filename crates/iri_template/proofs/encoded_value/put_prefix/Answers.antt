@@ -1,8 +1,4 @@
-use Rattle.std.proofs.Common.{◌∙◌, refl, sym, subst, ap}
-use Rattle.std.specs.Str.{IsUtf8, chars}
-use Rattle.std.specs.Str.Iter.{chars_rest}
-use Rattle.iri_text.proofs.CharSteps.{first_char, no_chars}
-use Rattle.iri_template.specs.inside.Prefix.{prefix_step, char_text}
+use Rattle.iri_template.proofs.Common.{◌∙◌, refl, sym, subst, ap, IsUtf8, chars, chars_rest, first_char, no_chars, prefix_step, char_text}
 use Rattle.iri_text.specs.inside.Through.{after}
 use Rattle.iri_template.proofs.ThroughEach.{HasPutUpTo, up_to_none, up_to_more, up_to_exit, up_to_last, up_to_end}
 use Rattle.iri_template.proofs.PrefixChars.{none_left, none_after, some_left}

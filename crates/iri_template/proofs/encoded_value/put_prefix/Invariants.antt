@@ -1,6 +1,4 @@
-use Rattle.std.specs.Str.{IsUtf8, chars}
-use Rattle.std.specs.Str.Iter.{chars_rest}
-use Rattle.iri_template.specs.inside.Prefix.{prefix_step, char_text}
+use Rattle.iri_template.proofs.Common.{IsUtf8, chars, chars_rest, prefix_step, char_text}
 use Rattle.iri_template.proofs.ThroughEach.{HasPutUpTo}
 use Rattle.iri_template.proofs.encoded_value.put_prefix.Given as goal
 

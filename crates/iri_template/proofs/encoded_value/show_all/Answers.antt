@@ -1,7 +1,4 @@
-use Rattle.std.proofs.Common.{subst}
-use Rattle.iri_grammar.specs.Classes.{unreserved}
-use Rattle.iri_percent.specs.Encoding.{keeps, encoded}
-use Rattle.iri_text.specs.Shown.{Shows}
+use Rattle.iri_template.proofs.Common.{subst, unreserved, keeps, encoded, Shows}
 use Rattle.iri_template.proofs.encoded_value.show_all.Goals as goal
 
 pub returns : goal.returns

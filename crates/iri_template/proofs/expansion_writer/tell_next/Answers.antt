@@ -1,6 +1,4 @@
-use Rattle.std.proofs.Common.{◌≡◌, ◌||◌, false, [], ◌∷◌, Ok, Err}
-use Rattle.iri_template.specs.Led.{has_texts}
-use Rattle.iri_template.specs.Writings.{EndsAs}
+use Rattle.iri_template.proofs.Common.{◌≡◌, ◌||◌, false, [], ◌∷◌, Ok, Err, has_texts, EndsAs}
 use Rattle.iri_template.specs.inside.Checked.{state_texts, state_portion}
 use Rattle.iri_template.proofs.WriterEnds.{where_next, ends_mistyped, ends_written, goes_on_written, ends_stopped}
 use Rattle.iri_template.proofs.expansion_writer.tell_next.Goals as goal

@@ -1,10 +1,6 @@
-use Rattle.std.proofs.Common.{◌≡◌, ◌-◌, length, refl, sym, ◌∙◌, subst, arith, rules}
-use Rattle.std.specs.Str.{IsUtf8, IsCharBoundary}
-use Rattle.std.proofs.lemmas.Bool.Decides.{nat_tests}
-use Rattle.std.proofs.lemmas.Str.{IsCharBoundary-at_seam}
+use Rattle.iri_template.proofs.Common.{◌≡◌, ◌-◌, length, refl, sym, ◌∙◌, subst, arith, rules, IsUtf8, IsCharBoundary, nat_tests}
+use Rattle.iri_template.proofs.Common.{IsCharBoundary-at_seam, part_pieces, template_text}
 use Rattle.iri_template.specs.inside.PartEnds.{calls_of}
-use Rattle.iri_template.specs.inside.Parts.{part_pieces}
-use Rattle.iri_template.specs.Template.{template_text}
 use Rattle.iri_template.proofs.Prefixes.{prefix_range}
 use Rattle.iri_template.proofs.PartWalk.{ReachedUpTo, reached_none, reached_more, reached_refused, reached_end, names_in, names_left}
 use Rattle.iri_template.proofs.PartWalk.{none_in, part_cut}

@@ -1,7 +1,4 @@
-use Rattle.std.proofs.Common.{◌≡◌, ◌≤◌, length, None}
-use denote.Text.{Utf8}
-use denote.Shadow.{shadow}
-use Rattle.iri_template.specs.Fault.{text_fault}
+use Rattle.iri_template.proofs.Common.{◌≡◌, ◌≤◌, length, None, Utf8, shadow, text_fault}
 use Rattle.iri_template.proofs.PartWalk.{names_in, ReachedUpTo}
 use Rattle.iri_template.proofs.PortionWalk.{BothTold, HasMoved}
 use Rattle.iri_template.proofs.expansion_writer.write_expansion.Given as goal

@@ -1,5 +1,4 @@
-use Rattle.std.proofs.Common.{sym, ◌∙◌, ap}
-use Rattle.iri_grammar.specs.Pieces.{pieces}
+use Rattle.iri_template.proofs.Common.{sym, ◌∙◌, ap, pieces}
 use Rattle.iri_template.specs.inside.Parts.{part_fault}
 use Rattle.iri_template.proofs.VarSpecWalk.{varspecs_anywhere}
 use Rattle.iri_template.proofs.expansion_writer.write_part.Goals as goal

@@ -1,11 +1,5 @@
-use Rattle.std.proofs.Common.{◌≡◌, ◌+◌, ◌-◌, Some, length, map, ap, refl, sym, ◌∙◌, arith, rules}
-use Rattle.iri_grammar.specs.Cut.{before, after}
-use Rattle.iri_grammar.specs.Pieces.{pieces}
-use Rattle.iri_grammar.specs.OptionalSlices.{now_of}
-use Rattle.iri_grammar.proofs.Delimiters.{text_after}
-use Rattle.iri_template.specs.Fault.{varspecs_fault}
-use Rattle.iri_template.specs.Left.{varspecs_left}
-use Rattle.iri_template.specs.Reading.{varspec_of}
+use Rattle.iri_template.proofs.Common.{◌≡◌, ◌+◌, ◌-◌, Some, length, map, ap, refl, sym, ◌∙◌, arith, rules, before, after, pieces, now_of}
+use Rattle.iri_template.proofs.Common.{text_after, varspecs_fault, varspecs_left, varspec_of}
 use Rattle.iri_template.proofs.PortionWalk.{moved_none, moved_more, moved_all}
 use Rattle.iri_template.proofs.VarSpecWalk.{cut_len, bad_varspec, fine_left}
 use Rattle.iri_template.proofs.VarSpecPortions.{specs_in, specs_cut, up_to_none, up_to_more, up_to_end, up_to_refused}

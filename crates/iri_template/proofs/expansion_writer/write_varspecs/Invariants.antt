@@ -1,8 +1,4 @@
-use Rattle.std.proofs.Common.{◌≡◌, ◌≤◌, length, None}
-use denote.Text.{Utf8}
-use denote.Shadow.{shadow}
-use Rattle.iri_grammar.specs.Pieces.{pieces}
-use Rattle.iri_template.specs.Fault.{varspecs_fault}
+use Rattle.iri_template.proofs.Common.{◌≡◌, ◌≤◌, length, None, Utf8, shadow, pieces, varspecs_fault}
 use Rattle.iri_template.proofs.PortionWalk.{BothTold, HasMoved}
 use Rattle.iri_template.proofs.VarSpecPortions.{specs_in, WrittenUpTo}
 use Rattle.iri_template.proofs.expansion_writer.write_varspecs.Given as goal

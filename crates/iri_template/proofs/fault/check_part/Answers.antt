@@ -1,8 +1,4 @@
-use Rattle.std.proofs.Common.{◌∙◌, sym, ap}
-use Rattle.std.specs.Str.{chars}
-use Rattle.iri_template.specs.Fault.{first}
-use Rattle.iri_template.specs.inside.Parts.{part_pieces}
-use Rattle.iri_template.specs.TypeFaults.{type_fault_from}
+use Rattle.iri_template.proofs.Common.{◌∙◌, sym, ap, chars, first, part_pieces, type_fault_from}
 use Rattle.iri_template.proofs.FaultLemmas.{first_none}
 use Rattle.iri_template.proofs.PartWalk.{literals_have_no_type}
 use Rattle.iri_template.proofs.fault.check_part.Goals as goal

@@ -1,12 +1,5 @@
-use Rattle.std.proofs.Common.{◌≡◌, ◌+◌, ◌-◌, [], Some, None, map, length, ap, sym, ◌∙◌, arith}
-use Rattle.iri_grammar.specs.Cut.{before, after}
-use Rattle.iri_grammar.specs.Pieces.{pieces}
-use Rattle.iri_grammar.specs.OptionalSlices.{now_of}
-use Rattle.iri_grammar.proofs.Delimiters.{text_after}
-use Rattle.iri_template.specs.Fault.{first, varspecs_fault}
-use Rattle.iri_template.specs.Left.{varspecs_left}
-use Rattle.iri_template.specs.Reading.{varspec_of}
-use Rattle.iri_template.specs.TypeFaults.{varspecs_type_fault}
+use Rattle.iri_template.proofs.Common.{◌≡◌, ◌+◌, ◌-◌, [], Some, None, map, length, ap, sym, ◌∙◌, arith, before, after, pieces, now_of}
+use Rattle.iri_template.proofs.Common.{text_after, first, varspecs_fault, varspecs_left, varspec_of, varspecs_type_fault}
 use Rattle.iri_template.proofs.FaultLemmas.{first_none}
 use Rattle.iri_template.proofs.VarSpecWalk.{cut_len, more_varspecs, last_varspec, bad_varspec, types_spec}
 use Rattle.iri_template.proofs.fault.check_varspecs.Goals as goal

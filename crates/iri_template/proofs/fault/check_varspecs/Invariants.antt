@@ -1,10 +1,5 @@
-use Rattle.std.proofs.Common.{◌≡◌, ◌+◌, ◌-◌, ◌≤◌, map, length}
-use denote.Text.{Utf8}
-use denote.Shadow.{shadow}
-use Rattle.iri_grammar.specs.Pieces.{pieces}
-use Rattle.iri_template.specs.Fault.{first, varspecs_fault}
-use Rattle.iri_template.specs.Reading.{varspec_of}
-use Rattle.iri_template.specs.TypeFaults.{varspecs_type_fault}
+use Rattle.iri_template.proofs.Common.{◌≡◌, ◌+◌, ◌-◌, ◌≤◌, map, length, Utf8, shadow, pieces, first, varspecs_fault, varspec_of}
+use Rattle.iri_template.proofs.Common.{varspecs_type_fault}
 use Rattle.iri_template.proofs.fault.check_varspecs.Given as goal
 
 -- what is left has the faults of all

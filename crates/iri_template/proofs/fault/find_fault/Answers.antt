@@ -1,10 +1,5 @@
-use Rattle.std.proofs.Common.{◌≡◌, ◌-◌, ◌+◌, length, None, Some, sym, ◌∙◌, ap, arith, rules}
-use Rattle.std.specs.Str.{IsUtf8}
-use Rattle.std.proofs.lemmas.Bool.Decides.{nat_tests}
-use Rattle.iri_template.specs.Fault.{first, fault_from, text_fault}
-use Rattle.iri_template.specs.inside.Parts.{part_pieces}
-use Rattle.iri_template.specs.Reading.{pieces_of}
-use Rattle.iri_template.specs.TypeFaults.{type_fault_from, type_fault}
+use Rattle.iri_template.proofs.Common.{◌≡◌, ◌-◌, ◌+◌, length, None, Some, sym, ◌∙◌, ap, arith, rules, IsUtf8, nat_tests, first, fault_from}
+use Rattle.iri_template.proofs.Common.{text_fault, part_pieces, pieces_of, type_fault_from, type_fault}
 use Rattle.iri_template.proofs.FaultLemmas.{first_none, first_first}
 use Rattle.iri_template.proofs.PartWalk.{part_cut, types_cut, no_types_left}
 use Rattle.iri_template.proofs.Walks.{nothing_left, none_anywhere}

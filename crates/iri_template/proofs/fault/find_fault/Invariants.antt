@@ -1,9 +1,5 @@
-use Rattle.std.proofs.Common.{◌≡◌, ◌≤◌, ◌-◌, length, None}
-use denote.Text.{Utf8}
-use denote.Shadow.{shadow}
-use Rattle.iri_template.specs.Fault.{first, text_fault, fault_from}
-use Rattle.iri_template.specs.Reading.{pieces_of}
-use Rattle.iri_template.specs.TypeFaults.{type_fault_from, type_fault}
+use Rattle.iri_template.proofs.Common.{◌≡◌, ◌≤◌, ◌-◌, length, None, Utf8, shadow, first, text_fault, fault_from, pieces_of, type_fault_from}
+use Rattle.iri_template.proofs.Common.{type_fault}
 use Rattle.iri_template.proofs.fault.find_fault.Given as goal
 
 -- what is left has the faults of all

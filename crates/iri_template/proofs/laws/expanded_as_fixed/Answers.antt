@@ -1,9 +1,4 @@
-use Rattle.std.proofs.Common.{subst}
-use Rattle.iri_template.specs.Portions.{portions}
-use Rattle.iri_template.specs.Reading.{pieces_of}
-use Rattle.iri_template.specs.Tells.{always}
-use Rattle.iri_template.specs.Texts.{text}
-use Rattle.iri_template.specs.Writings.{EndsAs}
+use Rattle.iri_template.proofs.Common.{subst, portions, pieces_of, always, text, EndsAs}
 use Rattle.iri_template.proofs.FixedLemmas.{fixed_ends}
 use Rattle.iri_template.proofs.laws.expanded_as_fixed.Goals as goal
 

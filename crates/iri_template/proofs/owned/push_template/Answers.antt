@@ -1,9 +1,8 @@
-use Rattle.std.proofs.Common.{◌≡◌, ◌++◌, Result, Ok, Err, None, List, ℕ, ◌∙◌, ap}
+use Rattle.iri_template.proofs.Common.{◌≡◌, ◌++◌, Result, Ok, Err, None, List, ℕ, ◌∙◌, ap, text_fault}
 use Rattle.std.specs.Prelude.{if◌then◌else◌, is_ok}
 use Rattle.std.specs.String.{string_bytes}
 use Rattle.std.specs.declared.alloc.AllocError.{AllocError}
 use Rattle.std.proofs.lemmas.Str.{IsUtf8-string_bytes}
-use Rattle.iri_template.specs.Fault.{text_fault}
 use Rattle.iri_template.proofs.Grammar.{joined_templates}
 use Rattle.iri_template.proofs.owned.push_template.Goals as goal
 

@@ -1,5 +1,4 @@
-use Rattle.std.proofs.Common.{sym, ◌∙◌, ap, arith, ◌++◌}
-use Rattle.std.specs.Char.{encode_utf8}
+use Rattle.iri_template.proofs.Common.{sym, ◌∙◌, ap, arith, ◌++◌, encode_utf8}
 use Rattle.iri_template.proofs.Prefixes.{one_passed, nothing_passed}
 use Rattle.iri_template.proofs.part.past_literal.Goals as goal
 

@@ -1,10 +1,6 @@
+use Rattle.iri_template.proofs.Common.{◌==◌, nat_tests, IsCharBoundary-after_ascii, operator_at, Simple}
 use Rattle.std.proofs.Common.{◌≡◌, ◌<◌, ℕ, length, get_or, inl, inr, false, sym, ◌∙◌, ap, arith}
-use Rattle.std.specs.Prelude.{◌==◌}
 use Rattle.std.proofs.lemmas.Bool.{cases_lt}
-use Rattle.std.proofs.lemmas.Bool.Decides.{nat_tests}
-use Rattle.std.proofs.lemmas.Str.{IsCharBoundary-after_ascii}
-use Rattle.iri_template.specs.Reading.{operator_at}
-use Rattle.iri_template.specs.declared.operator.Operator.TheVariants.{Simple}
 use Rattle.iri_template.proofs.Grammar.{no_operator}
 use Rattle.iri_template.proofs.part.read_body.Goals as goal
 

@@ -1,9 +1,5 @@
-use Rattle.std.proofs.Common.{◌≡◌, ◌<◌, ℕ, List, [], ◌∷◌, length, Some, sym, ◌∙◌, ap, arith}
-use Rattle.std.proofs.lemmas.Str.{IsCharBoundary-after_ascii}
-use Rattle.iri_grammar.specs.Cut.{lacks}
-use Rattle.iri_grammar.specs.OptionalSlices.{now_of}
-use Rattle.iri_template.specs.Reading.{first_of, operator_of, after_operator}
-use Rattle.iri_template.specs.inside.Parts.{prefix_fault}
+use Rattle.iri_template.proofs.Common.{◌≡◌, ◌<◌, ℕ, List, [], ◌∷◌, length, Some, sym, ◌∙◌, ap, arith, IsCharBoundary-after_ascii, lacks}
+use Rattle.iri_template.proofs.Common.{now_of, first_of, operator_of, after_operator, prefix_fault}
 use Rattle.iri_template.proofs.FaultLemmas.{unmoved}
 use Rattle.iri_template.proofs.Prefixes.{first_get, body_cut, prefix_of_body, prefix_not_closed, no_delimiter, tail_drop}
 use Rattle.iri_template.proofs.part.read_expression.Goals as goal

@@ -1,7 +1,5 @@
-use Rattle.std.proofs.Common.{◌≡◌, ◌-◌, ◌≢◌, length, get_or, Some, sym, ◌∙◌, ap, subst, arith, length-append}
-use Rattle.std.specs.Str.{IsCharBoundary, encode_utf8_all}
-use Rattle.std.proofs.lemmas.Str.{IsCharBoundary-at_seam}
-use Rattle.iri_template.specs.Reading.{first_of}
+use Rattle.iri_template.proofs.Common.{◌≡◌, ◌-◌, ◌≢◌, length, get_or, Some, sym, ◌∙◌, ap, subst, arith, length-append, IsCharBoundary}
+use Rattle.iri_template.proofs.Common.{encode_utf8_all, IsCharBoundary-at_seam, first_of}
 use Rattle.iri_template.proofs.Prefixes.{first_get, literals_prefix, expression_prefix, expression_error, triplet_prefix, triplet_error}
 use Rattle.iri_template.proofs.Prefixes.{character_error}
 use Rattle.iri_template.proofs.part.read_part.Goals as goal

@@ -1,6 +1,4 @@
-use Rattle.std.proofs.Common.{get_or, sym, ◌∙◌, ap, arith}
-use Rattle.std.specs.Char.{is_ascii_hexdigit}
-use Rattle.std.proofs.lemmas.Str.{IsCharBoundary-after_ascii}
+use Rattle.iri_template.proofs.Common.{get_or, sym, ◌∙◌, ap, arith, is_ascii_hexdigit, IsCharBoundary-after_ascii}
 use Rattle.iri_grammar.proofs.Units.{hex_is_ascii}
 use Rattle.iri_template.proofs.part.read_triplet.Goals as goal
 

@@ -1,9 +1,5 @@
-use Rattle.std.proofs.Common.{◌≡◌, ◌*◌, ◌||◌, true, false, None, Some, length, sym, subst}
-use Rattle.std.specs.Prelude.{nat_le}
-use Rattle.std.specs.Char.{len_utf8}
+use Rattle.iri_template.proofs.Common.{◌≡◌, ◌*◌, ◌||◌, true, false, None, Some, length, sym, subst, nat_le, len_utf8, is_closed, IsUnit}
 use Rattle.iri_percent.specs.Units.{octets, first_char}
-use Rattle.iri_template.specs.inside.UnitSteps.{is_closed}
-use Rattle.iri_template.specs.inside.UnitViews.{IsUnit}
 use Rattle.iri_template.proofs.UnitLaws.{unit_of_char, unit_of_lone, open_triplet}
 use Rattle.iri_template.proofs.pending.first_triplets.Goals as goal
 

@@ -1,7 +1,4 @@
-use Rattle.std.proofs.Common.{◌≡◌, ◌<◌, ◌||◌, true, false, length, arith}
-use Rattle.std.specs.Prelude.{nat_le}
-use Rattle.std.proofs.lemmas.Bool.Decides.{nat_tests}
-use Rattle.iri_template.specs.inside.UnitSteps.{begins_triplet, is_closed}
+use Rattle.iri_template.proofs.Common.{◌≡◌, ◌<◌, ◌||◌, true, false, length, arith, nat_le, nat_tests, begins_triplet, is_closed}
 use Rattle.iri_template.proofs.UnitLaws.{empty_tells_none, unit_of_byte, open_byte}
 use Rattle.iri_template.proofs.pending.first_unit.Goals as goal
 

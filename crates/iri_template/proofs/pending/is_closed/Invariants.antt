@@ -1,5 +1,4 @@
-use Rattle.std.proofs.Common.{◌≡◌, length}
-use Rattle.iri_template.specs.inside.UnitSteps.{is_closed}
+use Rattle.iri_template.proofs.Common.{◌≡◌, length, is_closed}
 use Rattle.iri_template.proofs.pending.is_closed.Given as goal
 
 -- triplets were passed

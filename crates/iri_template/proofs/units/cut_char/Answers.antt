@@ -1,7 +1,5 @@
-use Rattle.std.proofs.Common.{◌≡◌, ℕ, List, ◌-◌, ◌++◌, length, refl, sym, ◌∙◌, ap, subst, arith, length-append}
-use Rattle.std.specs.Char.{encode_utf8}
-use Rattle.std.specs.Str.{IsCharBoundary}
-use Rattle.std.proofs.lemmas.Str.{IsCharBoundary-at_seam}
+use Rattle.iri_template.proofs.Common.{◌≡◌, ℕ, List, ◌-◌, ◌++◌, length, refl, sym, ◌∙◌, ap, subst, arith, length-append, encode_utf8}
+use Rattle.iri_template.proofs.Common.{IsCharBoundary, IsCharBoundary-at_seam}
 use Rattle.iri_grammar.proofs.Units.{char_shorter}
 use Rattle.iri_template.proofs.Prefixes.{prefix_range}
 use Rattle.iri_template.proofs.units.cut_char.Goals as goal

@@ -1,7 +1,4 @@
-use Rattle.std.proofs.Common.{◌-◌, ◌+◌, [], cond, Ok, Err, arith, subst}
-use Rattle.iri_text.specs.Shown.{Shows}
-use Rattle.iri_template.specs.inside.UnitSteps.{is_used_up}
-use Rattle.iri_template.specs.inside.UnitViews.{unit_as, IsUnit, TellsNone}
+use Rattle.iri_template.proofs.Common.{◌-◌, ◌+◌, [], cond, Ok, Err, arith, subst, Shows, is_used_up, unit_as, IsUnit, TellsNone}
 use Rattle.iri_template.proofs.Drains.{drained_none, drained_more, drained_exit, drained_end, drained_out}
 use Rattle.iri_template.proofs.units.drain.Goals as goal
 

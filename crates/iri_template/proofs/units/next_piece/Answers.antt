@@ -1,6 +1,4 @@
-use Rattle.std.proofs.Common.{◌≡◌, ◌<◌, ◌++◌, length, ◌∙◌, ap, arith, length-append}
-use Rattle.std.proofs.lemmas.Bool.Decides.{nat_tests}
-use Rattle.iri_grammar.specs.Cut.{before}
+use Rattle.iri_template.proofs.Common.{◌≡◌, ◌<◌, ◌++◌, length, ◌∙◌, ap, arith, length-append, nat_tests, before}
 use Rattle.iri_grammar.proofs.CutLaws.{joined_from}
 use Rattle.iri_template.proofs.units.next_piece.Goals as goal
 

@@ -1,10 +1,6 @@
-use Rattle.std.proofs.Common.{◌≡◌, ℕ, Option, ◌∷◌, [], true, false, length, sym, ◌∙◌, ap, subst, arith, refl, Result, Ok, Err}
-use Rattle.std.specs.Prelude.{OnOk}
-use Rattle.iri_text.specs.Shown.{Shows}
-use Rattle.iri_text.specs.declared.shown.show.Stop.{Stop}
-use Rattle.iri_text.proofs.Compose.{shows_then, shows_exit}
-use Rattle.iri_percent.specs.Units.{Plain}
-use Rattle.iri_template.specs.inside.UnitSteps.{is_part, fewer, step_units, told_units, written_units}
+use Rattle.iri_template.proofs.Common.{◌≡◌, ℕ, Option, ◌∷◌, [], true, false, length, sym, ◌∙◌, ap, subst, arith, refl, Result, Ok, Err}
+use Rattle.iri_template.proofs.Common.{OnOk, Shows, Stop, shows_then, shows_exit, Plain, is_part, fewer, step_units, told_units}
+use Rattle.iri_template.proofs.Common.{written_units}
 use Rattle.iri_template.proofs.Drains.{ends_pending, part_short, on_ok}
 use Rattle.iri_template.proofs.units.put_char.Goals as goal
 

@@ -1,11 +1,8 @@
-use Rattle.std.proofs.Common.{◌≡◌, ℕ, false, cond, List, Option, ◌∙◌, sym, subst, ap, length}
-use Rattle.std.specs.Str.{IsUtf8, chars}
-use Rattle.std.specs.Str.Iter.{chars_rest}
-use Rattle.iri_text.proofs.CharSteps.{first_char, no_chars}
+use Rattle.iri_template.proofs.Common.{◌≡◌, ℕ, false, cond, List, Option, ◌∙◌, sym, subst, ap, length, IsUtf8, chars, chars_rest}
+use Rattle.iri_template.proofs.Common.{first_char, no_chars, fewer, step_units, step_pending, is_used_up, next_state, unit_step}
+use Rattle.iri_template.proofs.Common.{unit_step_text, Units}
 use Rattle.iri_template.proofs.ThroughEach.{HasPutUpTo, up_to_none, up_to_more, up_to_exit, up_to_last, up_to_end}
 use Rattle.iri_text.specs.inside.Through.{after}
-use Rattle.iri_template.specs.inside.UnitSteps.{fewer, step_units, step_pending, is_used_up, next_state, unit_step, unit_step_text}
-use Rattle.iri_template.specs.declared.units.Units.{Units}
 use Rattle.iri_template.proofs.UnitLaws.{used_up}
 use Rattle.iri_template.proofs.units.put_chars.Goals as goal
 

@@ -1,8 +1,5 @@
-use Rattle.std.proofs.Common.{◌≤◌, length}
-use Rattle.std.specs.Str.{IsUtf8, chars}
-use Rattle.std.specs.Str.Iter.{chars_rest}
+use Rattle.iri_template.proofs.Common.{◌≤◌, length, IsUtf8, chars, chars_rest, unit_step, unit_step_text}
 use Rattle.iri_template.proofs.ThroughEach.{HasPutUpTo}
-use Rattle.iri_template.specs.inside.UnitSteps.{unit_step, unit_step_text}
 use Rattle.iri_template.proofs.units.put_chars.Given as goal
 
 -- what the characters before those that are left settled was written

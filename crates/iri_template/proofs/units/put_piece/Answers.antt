@@ -1,5 +1,4 @@
-use Rattle.std.proofs.Common.{◌∙◌, sym, subst}
-use Rattle.iri_text.specs.Shown.{Shows}
+use Rattle.iri_template.proofs.Common.{◌∙◌, sym, subst, Shows}
 use Rattle.iri_template.proofs.Drains.{on_ok}
 use Rattle.iri_template.proofs.UnitLaws.{plain_run}
 use Rattle.iri_template.proofs.units.put_piece.Goals as goal

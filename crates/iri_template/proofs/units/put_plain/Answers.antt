@@ -1,7 +1,4 @@
-use Rattle.std.proofs.Common.{false, sym, subst}
-use Rattle.iri_text.specs.Shown.{Shows}
-use Rattle.iri_percent.specs.Units.{Plain}
-use Rattle.iri_template.specs.inside.UnitViews.{unit_as}
+use Rattle.iri_template.proofs.Common.{false, sym, subst, Shows, Plain, unit_as}
 use Rattle.iri_template.proofs.Drains.{one_unit, plain_unit}
 use Rattle.iri_template.proofs.units.put_plain.Goals as goal
 

@@ -1,10 +1,7 @@
-use Rattle.std.proofs.Common.{◌≡◌, ◌++◌, ◌∙◌, sym, ap, rules}
-use Rattle.std.specs.Str.{chars, IsUtf8}
+use Rattle.iri_template.proofs.Common.{◌≡◌, ◌++◌, ◌∙◌, sym, ap, rules, chars, IsUtf8, no_chars, unit_step, unit_step_text}
 use Rattle.std.proofs.lemmas.Str.{chars-append}
-use Rattle.iri_text.proofs.CharSteps.{no_chars}
 use Rattle.iri_text.specs.inside.Through.{after}
 use Rattle.iri_template.proofs.ThroughEach.{up_to_none, up_to_some, up_to_stop, up_to_end}
-use Rattle.iri_template.specs.inside.UnitSteps.{unit_step, unit_step_text}
 use Rattle.iri_template.proofs.units.put_text.Goals as goal
 
 pub pieces-init : goal.pieces-init

@@ -1,7 +1,5 @@
-use Rattle.std.proofs.Common.{◌≤◌, length}
-use Rattle.std.specs.Str.{IsUtf8, chars}
+use Rattle.iri_template.proofs.Common.{◌≤◌, length, IsUtf8, chars, unit_step, unit_step_text}
 use Rattle.iri_template.proofs.ThroughEach.{HasPutUpTo}
-use Rattle.iri_template.specs.inside.UnitSteps.{unit_step, unit_step_text}
 use Rattle.iri_template.proofs.units.put_text.Given as goal
 
 -- what the pieces before the rest settled was written

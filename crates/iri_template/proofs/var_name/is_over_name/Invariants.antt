@@ -1,6 +1,4 @@
-use Rattle.std.proofs.Common.{◌≡◌, length}
-use Rattle.iri_grammar.specs.Over.{over}
-use Rattle.iri_template.specs.Names.{is_name_char}
+use Rattle.iri_template.proofs.Common.{◌≡◌, length, over, is_name_char}
 use Rattle.iri_template.proofs.var_name.is_over_name.Given as goal
 
 -- what is left decides as the whole does

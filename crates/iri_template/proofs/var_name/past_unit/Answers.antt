@@ -1,13 +1,8 @@
-use Rattle.std.proofs.Common.{◌≡◌, ◌≢◌, ℕ, true, false, cond, ◌&&◌, List, [], ◌∷◌, length, drop, refl, sym, ◌∙◌, ap, arith, length-drop}
-use Rattle.std.specs.Prelude.{◌==◌}
-use Rattle.std.specs.Char.{is_ascii_hexdigit}
-use Rattle.std.proofs.lemmas.Bool.{and_parts, and_left, ne_eqb}
-use Rattle.std.proofs.lemmas.Bool.Decides.{nat_tests}
-use Rattle.std.proofs.lemmas.List.{take_rest, nil_from_length}
-use Rattle.iri_grammar.proofs.CutLaws.{by_test}
-use Rattle.iri_grammar.specs.Over.{over, over_from}
-use Rattle.iri_template.specs.Names.{is_name_char}
-use Rattle.iri_template.specs.inside.UnitSteps.{begins_triplet}
+use Rattle.iri_template.proofs.Common.{◌≡◌, ◌≢◌, ℕ, true, false, cond, ◌&&◌, List, [], ◌∷◌, length, drop, refl, sym, ◌∙◌, ap, arith}
+use Rattle.iri_template.proofs.Common.{length-drop, ◌==◌, is_ascii_hexdigit, ne_eqb, nat_tests, nil_from_length, by_test, over, over_from}
+use Rattle.iri_template.proofs.Common.{is_name_char, begins_triplet}
+use Rattle.std.proofs.lemmas.Bool.{and_parts, and_left}
+use Rattle.std.proofs.lemmas.List.{take_rest}
 use Rattle.iri_template.proofs.UnitLaws.{long_enough, and_more}
 use Rattle.iri_template.proofs.var_name.past_unit.Goals as goal
 

@@ -1,6 +1,4 @@
-use Rattle.std.proofs.Common.{◌-◌, length, rules, sym, ◌∙◌, ap, arith}
-use Rattle.std.specs.Prelude.{is_some}
-use Rattle.std.specs.Str.{IsUtf8}
+use Rattle.iri_template.proofs.Common.{◌-◌, length, rules, sym, ◌∙◌, ap, arith, is_some, IsUtf8}
 use Rattle.std.proofs.lemmas.Bool.{both_ways}
 use Rattle.iri_template.proofs.PartWalk.{part_cut}
 use Rattle.iri_template.proofs.PlacedNames.{found_some, over_none}

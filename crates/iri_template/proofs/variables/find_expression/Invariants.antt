@@ -1,9 +1,5 @@
-use Rattle.std.proofs.Common.{◌≡◌, ◌≤◌, ◌-◌, length, None}
-use denote.Text.{Utf8}
-use denote.Shadow.{shadow}
-use Rattle.iri_template.specs.Fault.{text_fault}
+use Rattle.iri_template.proofs.Common.{◌≡◌, ◌≤◌, ◌-◌, length, None, Utf8, shadow, text_fault, pieces_of}
 use Rattle.iri_template.specs.Places.{placed_names}
-use Rattle.iri_template.specs.Reading.{pieces_of}
 use Rattle.iri_template.proofs.variables.find_expression.Given as goal
 
 -- what is left has all the names

@@ -1,6 +1,4 @@
-use Rattle.std.proofs.Common.{◌≡◌, None, Some, refl, sym, ◌∙◌, ap, arith}
-use Rattle.iri_grammar.specs.Cut.{after}
-use Rattle.iri_grammar.specs.OptionalSlices.{now_of}
+use Rattle.iri_template.proofs.Common.{◌≡◌, None, Some, refl, sym, ◌∙◌, ap, arith, after, now_of}
 use Rattle.iri_template.proofs.PlacedNames.{taken_more, taken_last}
 use Rattle.iri_template.proofs.VarSpecWalk.{cut_len, bad_varspec}
 use Rattle.iri_template.proofs.variables.take_name.Goals as goal

@@ -1,6 +1,4 @@
-use Rattle.std.proofs.Common.{◌≡◌, ◌++◌, take, drop}
-use Rattle.iri_grammar.specs.Delimiters.{before_any, from_any}
-use Rattle.iri_template.specs.Reading.{ends_name}
+use Rattle.iri_template.proofs.Common.{◌≡◌, ◌++◌, take, drop, before_any, from_any, ends_name}
 use Rattle.iri_template.proofs.varspec.name_len.Given as goal
 
 -- what is left is cut where the whole is

@@ -1,6 +1,4 @@
-use Rattle.std.proofs.Common.{length, ap, arith, length-append}
-use Rattle.iri_grammar.specs.Cut.{before, after, delimited}
-use Rattle.iri_grammar.proofs.CutLaws.{joined}
+use Rattle.iri_template.proofs.Common.{length, ap, arith, length-append, before, after, delimited, joined}
 use Rattle.iri_template.proofs.varspec.read_first.Goals as goal
 
 pub read_varspec-requires : goal.read_varspec-requires

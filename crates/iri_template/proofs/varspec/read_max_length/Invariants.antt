@@ -1,6 +1,4 @@
-use Rattle.std.proofs.Common.{◌≡◌, ◌+◌, ◌<◌, ◌≤◌, drop}
-use Rattle.std.specs.Char.{is_ascii_digit}
-use Rattle.iri_grammar.specs.Runs.{run_of}
+use Rattle.iri_template.proofs.Common.{◌≡◌, ◌+◌, ◌<◌, ◌≤◌, drop, is_ascii_digit, run_of}
 use Rattle.iri_template.specs.VarSpecs.{number_from, number_of}
 use Rattle.iri_template.proofs.varspec.read_max_length.Given as goal
 

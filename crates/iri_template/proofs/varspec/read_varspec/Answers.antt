@@ -1,8 +1,5 @@
-use Rattle.std.proofs.Common.{◌≡◌, ℕ, ◌+◌, List, Option, None, length, take, drop, Some, sym, ◌∙◌, ap, arith}
-use Rattle.iri_grammar.specs.Delimiters.{from_any}
-use Rattle.iri_template.specs.Reading.{ends_name, name_of}
-use Rattle.iri_template.specs.Fault.{moved, name_fault, modifier_fault, varspec_fault}
-use Rattle.iri_template.specs.declared.error.Error.{Error}
+use Rattle.iri_template.proofs.Common.{◌≡◌, ℕ, ◌+◌, List, Option, None, length, take, drop, Some, sym, ◌∙◌, ap, arith, from_any, ends_name}
+use Rattle.iri_template.proofs.Common.{name_of, moved, name_fault, modifier_fault, varspec_fault, Error}
 use Rattle.iri_grammar.proofs.Ranges.{range_prefix}
 use Rattle.iri_template.proofs.VarSpecWalk.{good_name, bad_name}
 use Rattle.iri_template.proofs.varspec.read_varspec.Goals as goal

@@ -1,5 +1,4 @@
-use Rattle.std.proofs.Common.{arith, subst, sym}
-use Rattle.std.specs.Prelude.{◌-◌, length}
+use Rattle.std.proofs.Common.{arith, subst, sym, ◌-◌, length}
 use Rattle.iri_text.specs.Sink.{HasRoom}
 use Rattle.iri_text.specs.Memory.{memory_written, unless_failing}
 use Rattle.iri_text.proofs.laws.memory_sink_with_room.Goals as goal

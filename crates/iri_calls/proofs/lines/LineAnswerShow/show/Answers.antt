@@ -1,15 +1,9 @@
+use Rattle.iri_calls.proofs.Common.{Tests, bytes_fault, reference_fault, ErrorKind, canonical_in, base_text, answer_in, answer_by}
 use Rattle.std.proofs.Common.{◌≡◌, ◌++◌, ◌∷◌, [], ℕ, List, None, Some, codes, ap, sym, subst, ◌∙◌}
-use Rattle.iri_grammar.specs.Classes.{Tests}
 use Rattle.iri_grammar.specs.ErrorTexts.{description}
-use Rattle.iri_grammar.specs.Fault.{bytes_fault}
-use Rattle.iri_grammar.specs.WholeFault.{reference_fault}
-use Rattle.iri_grammar.specs.declared.error.ErrorKind.{ErrorKind}
 use Rattle.iri_percent.specs.declared.canon_mode.CanonMode.{CanonMode}
-use Rattle.iri_normal.specs.NormalForm.{canonical_in}
-use Rattle.iri_normal.specs.Resolver.{base_text}
 use Rattle.iri_text.specs.Shown.{Shows}
 use Rattle.iri_types.specs.SplitText.{split_text}
-use Rattle.iri_normal.specs.Answers.{answer_in, answer_by}
 use Rattle.iri_calls.proofs.lines.LineAnswerShow.show.Goals as goal
 
 good : (s : Tests) (m : CanonMode) (b line t : List ℕ) → bytes_fault (reference_fault s) line ≡ None → t ≡ line

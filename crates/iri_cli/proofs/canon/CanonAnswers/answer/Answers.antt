@@ -1,6 +1,4 @@
-use Rattle.std.specs.Vec.{vec_capacity}
-use Rattle.iri_text.specs.Sink.{sink_state}
-use Rattle.iri_normal.specs.Resolver.{base_text}
+use Rattle.iri_cli.proofs.Common.{vec_capacity, sink_state, base_text}
 use Rattle.iri_cli.proofs.CanonLemmas.{answers_line}
 use Rattle.iri_cli.proofs.canon.CanonAnswers.answer.Goals as goal
 

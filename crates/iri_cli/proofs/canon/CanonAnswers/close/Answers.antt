@@ -1,5 +1,4 @@
-use Rattle.std.proofs.Common.{ap}
-use Rattle.iri_cli.specs.run.Ending.{Rules}
+use Rattle.iri_cli.proofs.Common.{ap, Rules}
 use Rattle.iri_cli.proofs.CanonLemmas.{closes_nothing}
 use Rattle.iri_cli.proofs.canon.CanonAnswers.close.Goals as goal
 

@@ -1,6 +1,4 @@
-use Rattle.std.proofs.Common.{◌≤◌, arith, length}
-use Rattle.std.specs.Vec.{vec_capacity}
-use Rattle.iri_cli.specs.run.Limits.{answer_room, longest_line}
+use Rattle.iri_cli.proofs.Common.{◌≤◌, arith, length, vec_capacity, answer_room, longest_line}
 use Rattle.iri_cli.proofs.CanonLemmas.{canon_opened}
 use Rattle.iri_cli.proofs.canon.CanonAnswers.open.Goals as goal
 

@@ -1,5 +1,4 @@
-use Rattle.std.proofs.Common.{refl}
-use Rattle.iri_cli.specs.canon.Rules.{canon_rules_in}
+use Rattle.iri_cli.proofs.Common.{refl, canon_rules_in}
 use Rattle.iri_cli.proofs.BytesLemmas.{canonical_answers}
 use Rattle.iri_cli.proofs.RunLemmas.{never_two, never_six}
 use Rattle.iri_cli.proofs.canon.calls.canon_lines_in.Goals as goal

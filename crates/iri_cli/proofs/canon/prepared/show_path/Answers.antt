@@ -1,5 +1,4 @@
-use Rattle.std.proofs.Common.{◌≡◌, ◌∙◌, true, sym, subst}
-use Rattle.iri_grammar.specs.Classes.{path_char}
+use Rattle.iri_cli.proofs.Common.{◌≡◌, ◌∙◌, true, sym, subst, path_char}
 use Rattle.iri_grammar.specs.Components.{is_path}
 use Rattle.iri_normal.proofs.TargetLaws.{cut_over}
 use Rattle.iri_cli.proofs.canon.prepared.show_path.Goals as goal

@@ -1,14 +1,7 @@
-use Rattle.std.proofs.Common.{◌≡◌, ◌∙◌, [], ◌∷◌, ◌++◌, Ok, Err, arith, false, refl, sym, ap}
-use Rattle.std.specs.Prelude.{length, nat_lt, true}
-use Rattle.std.proofs.lemmas.Bool.Decides.{nat_tests}
-use Rattle.std.specs.Vec.{vec_capacity, with_items}
-use Rattle.iri_text.specs.Sink.{sink_state}
+use Rattle.iri_cli.proofs.Common.{◌≡◌, ◌∙◌, [], ◌∷◌, ◌++◌, Ok, Err, arith, false, refl, sym, ap, length, nat_lt, true, nat_tests}
+use Rattle.iri_cli.proofs.Common.{vec_capacity, with_items, sink_state, base_text, value_in, docs_answer, template_answer}
 use Rattle.iri_docs.specs.ErrorTexts.{description}
 use Rattle.iri_docs.specs.Held.{held}
-use Rattle.iri_normal.specs.Resolver.{base_text}
-use Rattle.iri_template.specs.Contexts.{value_in}
-use Rattle.iri_cli.specs.docs.Answers.{docs_answer}
-use Rattle.iri_cli.specs.expand.Answers.{template_answer}
 use Rattle.iri_cli.specs.docs.Rules.{docs_rules, takes_memory}
 use Rattle.iri_cli.proofs.MemoryLemmas.{answers_memory}
 use Rattle.iri_cli.proofs.DocsLemmas.{answers_docs, bad, docs_read}

@@ -1,8 +1,4 @@
-use Rattle.std.proofs.Common.{◌∙◌, ap, arith, false, refl, sym}
-use Rattle.std.specs.Vec.{vec_capacity, with_items}
-use Rattle.iri_text.specs.Sink.{sink_state}
-use Rattle.iri_normal.specs.Resolver.{base_text}
-use Rattle.iri_template.specs.Contexts.{value_in}
+use Rattle.iri_cli.proofs.Common.{◌∙◌, ap, arith, false, refl, sym, vec_capacity, with_items, sink_state, base_text, value_in}
 use Rattle.iri_cli.specs.run.Refused.{bad_line}
 use Rattle.iri_cli.specs.expand.Lines.{bad, changes, expands}
 use Rattle.iri_cli.specs.inside.Said.{change_of}

@@ -1,6 +1,4 @@
-use Rattle.std.proofs.Common.{◌≡◌, None, subst}
-use Rattle.std.specs.Vec.{vec_capacity}
-use Rattle.iri_cli.specs.canon.Answers.{refusal}
+use Rattle.iri_cli.proofs.Common.{◌≡◌, None, subst, vec_capacity, refusal}
 use Rattle.iri_cli.proofs.ExpandLemmas.{expand_opened}
 use Rattle.iri_cli.proofs.expand.ExpandAnswers.open.Goals as goal
 

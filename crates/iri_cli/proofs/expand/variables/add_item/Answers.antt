@@ -1,9 +1,7 @@
-use Rattle.std.proofs.Common.{◌≡◌, ◌∙◌, List, ℕ, ◌∷◌, ◌++◌, [], Result, Ok, Err, OnOk, ap}
-use Rattle.std.specs.declared.alloc.AllocError.{AllocError}
-use Rattle.std.specs.String.{string_bytes}
-use Rattle.iri_template.specs.HeldValues.{shown_value}
-use Rattle.iri_template.specs.ShownValues.{ShownValue, list, optional, undefined}
-use Rattle.iri_cli.specs.expand.Lines.{Values, adds_item, changed, items_of, with_value}
+use Rattle.iri_cli.proofs.Common.{◌≡◌, ◌∙◌, List, ℕ, ◌∷◌, ◌++◌, [], Result, Ok, Err, OnOk, ap, AllocError, string_bytes, shown_value}
+use Rattle.iri_cli.proofs.Common.{ShownValue, optional, undefined, Values, changed, with_value}
+use Rattle.iri_template.specs.ShownValues.{list}
+use Rattle.iri_cli.specs.expand.Lines.{adds_item, items_of}
 use Rattle.iri_cli.proofs.VariableLemmas.{with_value-again}
 use Rattle.iri_cli.proofs.expand.variables.add_item.Goals as goal
 

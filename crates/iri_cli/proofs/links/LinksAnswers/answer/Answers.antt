@@ -1,9 +1,6 @@
-use Rattle.std.proofs.Common.{◌≡◌, ◌∙◌, ap, false, refl, subst, sym, true}
+use Rattle.iri_cli.proofs.Common.{◌≡◌, ◌∙◌, ap, false, refl, subst, sym, true, sink_state, base_text, is_ok}
 use Rattle.iri_link.specs.Refusals.{RefusedBy}
 use Rattle.iri_link.specs.declared.error.LinkError.TheVariants.{Fault, Memory}
-use Rattle.iri_text.specs.Sink.{sink_state}
-use Rattle.iri_normal.specs.Resolver.{base_text}
-use Rattle.iri_cli.specs.canon.Rules.{is_ok}
 use Rattle.iri_cli.specs.links.Answers.{field_refusal, links_answer}
 use Rattle.iri_cli.specs.links.Memory.{takes_memory}
 use Rattle.iri_cli.specs.links.Rules.{links_rules}

@@ -1,9 +1,5 @@
-use Rattle.std.proofs.Common.{◌+◌, ◌∙◌, ap, refl, subst, sym}
-use Rattle.iri_text.specs.Sink.{sink_state}
-use Rattle.iri_normal.specs.Resolver.{base_text}
-use Rattle.iri_cli.specs.run.Answering.{AnswersLine}
+use Rattle.iri_cli.proofs.Common.{◌+◌, ◌∙◌, ap, refl, subst, sym, sink_state, base_text, AnswersLine, command_of, line_of}
 use Rattle.iri_cli.specs.register.Answers.{answer_to}
-use Rattle.iri_cli.specs.register.Lines.{command_of, line_of}
 use Rattle.iri_cli.specs.register.Memory.{takes_memory}
 use Rattle.iri_cli.specs.register.Rules.{register_rules}
 use Rattle.iri_cli.specs.inside.RegisterAt.{IsRegisterAt}

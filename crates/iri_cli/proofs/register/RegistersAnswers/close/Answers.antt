@@ -1,6 +1,4 @@
-use Rattle.std.proofs.Common.{◌∙◌, ap, sym}
-use Rattle.iri_cli.specs.register.Answers.{entry_lines}
-use Rattle.iri_cli.specs.run.Ending.{Rules}
+use Rattle.iri_cli.proofs.Common.{◌∙◌, ap, sym, entry_lines, Rules}
 use Rattle.iri_cli.proofs.PutLemmas.{puts_so}
 use Rattle.iri_cli.proofs.register.RegistersAnswers.close.Goals as goal
 

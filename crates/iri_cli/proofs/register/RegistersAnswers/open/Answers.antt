@@ -1,5 +1,4 @@
-use Rattle.std.proofs.Common.{◌≡◌, ◌∙◌, None, subst}
-use Rattle.iri_cli.specs.canon.Answers.{refusal}
+use Rattle.iri_cli.proofs.Common.{◌≡◌, ◌∙◌, None, subst, refusal}
 use Rattle.iri_cli.proofs.RegisterLemmas.{register_opened}
 use Rattle.iri_cli.proofs.register.RegistersAnswers.open.Goals as goal
 

@@ -1,16 +1,9 @@
-use Rattle.std.proofs.Common.{◌++◌, ◌∙◌, [], Ok, ap, false, refl, string_bytes, subst, sym, true}
+use Rattle.iri_cli.proofs.Common.{◌++◌, ◌∙◌, [], Ok, ap, false, refl, string_bytes, subst, sym, true, sink_state, base_text, record_texts}
+use Rattle.iri_cli.proofs.Common.{AnswersLine, told_of, answer_to, robots_rules, IsRobotsAt}
 use Rattle.std.specs.Option.{is_none}
-use Rattle.iri_text.specs.Sink.{sink_state}
-use Rattle.iri_normal.specs.Resolver.{base_text}
-use Rattle.iri_robots.specs.Stored.{record_texts}
-use Rattle.iri_cli.specs.run.Answering.{AnswersLine}
-use Rattle.iri_cli.specs.inside.Puts.{told_of}
 use Rattle.iri_cli.specs.run.Refused.{bad_line}
-use Rattle.iri_cli.specs.robots.Answers.{answer_to}
 use Rattle.iri_cli.specs.robots.Memory.{takes_memory}
-use Rattle.iri_cli.specs.robots.Rules.{robots_rules}
 use Rattle.iri_cli.specs.robots.Lines.{asks, bad, fed}
-use Rattle.iri_cli.specs.inside.RobotsAt.{IsRobotsAt}
 use Rattle.iri_cli.proofs.MemoryLemmas.{answers_memory}
 use Rattle.iri_cli.proofs.RobotsLemmas.{answers_line, feeds_record, never_memory, no_reply, replies, unfed}
 use Rattle.iri_cli.proofs.robots.CrawlsAnswers.answer.Goals as goal

@@ -1,12 +1,6 @@
-use Rattle.std.proofs.Common.{◌≡◌, ◌∙◌, None, ap, string_bytes, subst, sym}
-use Rattle.iri_grammar.specs.Split.{split_of}
-use Rattle.iri_robots.specs.Stored.{record_texts}
+use Rattle.iri_cli.proofs.Common.{◌≡◌, ◌∙◌, None, ap, string_bytes, subst, sym, split_of, record_texts, refusal, normal_base, robots_rules}
+use Rattle.iri_cli.proofs.Common.{begun, IsRobotsAt}
 use Rattle.iri_robots.specs.declared.robots.Robots.{Robots}
-use Rattle.iri_cli.specs.canon.Answers.{refusal}
-use Rattle.iri_cli.specs.robots.Answers.{normal_base}
-use Rattle.iri_cli.specs.robots.Rules.{robots_rules}
-use Rattle.iri_cli.specs.inside.Opening.{begun}
-use Rattle.iri_cli.specs.inside.RobotsAt.{IsRobotsAt}
 use Rattle.iri_cli.specs.inside.Sites.{IsSiteOf}
 use Rattle.iri_cli.proofs.RobotsLemmas.{robots_opened}
 use Rattle.iri_cli.proofs.robots.CrawlsAnswers.open.Goals as goal

@@ -1,11 +1,5 @@
-use Rattle.std.proofs.Common.{◌≢◌, ◌++◌, ℕ, Bool, List, [], Result, Err, arith, subst, sym}
-use Rattle.std.proofs.lemmas.List.{append-nil}
-use Rattle.iri_normal.specs.Resolver.{base_text}
-use Rattle.iri_text.specs.Sink.{Appends, KeepsRoom, sink_state}
-use Rattle.iri_text.proofs.Puts.{room-so, room-then}
-use Rattle.iri_cli.specs.run.Answering.{AnswersLine}
-use Rattle.iri_cli.specs.declared.run.answers.AnswerError.{AnswerError}
-use Rattle.iri_cli.specs.declared.run.answers.AnswerError.TheVariants.{SinkFailed}
+use Rattle.iri_cli.proofs.Common.{◌≢◌, ◌++◌, ℕ, Bool, List, [], Result, Err, arith, subst, sym, append-nil, base_text, Appends, KeepsRoom}
+use Rattle.iri_cli.proofs.Common.{sink_state, room-so, room-then, AnswersLine, AnswerError, SinkFailed}
 use Rattle.iri_cli.proofs.Answered.{whole_prefix}
 use Rattle.iri_cli.proofs.run.answering.answer_line.Goals as goal
 

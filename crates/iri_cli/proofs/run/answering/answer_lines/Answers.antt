@@ -1,6 +1,4 @@
-use Rattle.std.proofs.Common.{arith}
-use Rattle.iri_normal.specs.Resolver.{base_text}
-use Rattle.iri_text.proofs.Puts.{room-so}
+use Rattle.iri_cli.proofs.Common.{arith, base_text, room-so}
 use Rattle.iri_cli.proofs.Answered.{start_lines, one_line_more, line_fits, fails_at, finishes, stops_at, fails_first}
 use Rattle.iri_cli.proofs.Reading.{falls}
 use Rattle.iri_cli.proofs.run.answering.answer_lines.Goals as goal

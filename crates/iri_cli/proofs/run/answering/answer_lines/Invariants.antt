@@ -1,7 +1,4 @@
-use Rattle.std.proofs.Common.{◌+◌, ◌-◌, length}
-use Rattle.iri_normal.specs.Resolver.{base_text}
-use Rattle.iri_text.specs.Sink.{sink_state}
-use Rattle.iri_cli.specs.run.Answering.{Answering, IsReady}
+use Rattle.iri_cli.proofs.Common.{◌+◌, ◌-◌, length, base_text, sink_state, Answering, IsReady}
 use Rattle.iri_cli.proofs.Answered.{Goes}
 use Rattle.iri_cli.proofs.run.answering.answer_lines.Given as goal
 

@@ -1,5 +1,4 @@
-use Rattle.std.proofs.Common.{[], ◌∷◌, ◌++◌}
-use Rattle.iri_text.proofs.Puts.{puts-then, puts-exit}
+use Rattle.iri_cli.proofs.Common.{[], ◌∷◌, ◌++◌, puts-then, puts-exit}
 use Rattle.iri_cli.proofs.run.base.put_refusal.Goals as goal
 
 pub returns-in_err-put_all : goal.returns-in_err-put_all

@@ -1,5 +1,4 @@
-use Rattle.std.proofs.Common.{inr, refl}
-use Rattle.iri_text.proofs.Puts.{room-so}
+use Rattle.iri_cli.proofs.Common.{inr, refl, room-so}
 use Rattle.iri_cli.specs.declared.run.end.End.TheVariants.{SinkFailed}
 use Rattle.iri_cli.proofs.run.end.finish.Goals as goal
 

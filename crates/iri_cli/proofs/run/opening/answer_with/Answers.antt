@@ -1,10 +1,5 @@
-use Rattle.std.proofs.Common.{◌≡◌, ◌∙◌, Err, arith, subst, sym}
-use Rattle.std.specs.Vec.{vec_capacity}
-use Rattle.iri_normal.specs.Resolver.{base_text}
-use Rattle.iri_text.specs.Sink.{sink_state}
+use Rattle.iri_cli.proofs.Common.{◌≡◌, ◌∙◌, Err, arith, subst, sym, vec_capacity, base_text, sink_state, longest_line, outside_state, Ran}
 use Rattle.iri_cli.specs.inside.Opening.{Opens, begun}
-use Rattle.iri_cli.specs.run.Limits.{longest_line}
-use Rattle.iri_cli.specs.run.Run.{outside_state, Ran}
 use Rattle.iri_cli.proofs.BaseLine.{refuses}
 use Rattle.iri_cli.proofs.OpeningLemmas.{base_read, ends_in_memory, new_reader, ready, refusal_is}
 use Rattle.iri_cli.proofs.run.opening.answer_with.Goals as goal

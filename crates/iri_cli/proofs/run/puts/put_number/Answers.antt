@@ -1,5 +1,4 @@
-use Rattle.std.proofs.Common.{arith, refl, ◌<◌, ◌^◌}
-use Rattle.std.proofs.lemmas.Fmt.{length-decimal-le}
+use Rattle.iri_cli.proofs.Common.{arith, refl, ◌<◌, ◌^◌, length-decimal-le}
 use Rattle.iri_cli.proofs.run.puts.put_number.Goals as goal
 
 pub unreachable-requires : goal.unreachable-requires

@@ -1,6 +1,5 @@
-use Rattle.iri_cli.specs.generator.References.{gen_text}
+use Rattle.iri_cli.proofs.Common.{gen_text, rules_of, tests_of}
 use Rattle.iri_cli.specs.help.Notices.{notice_text}
-use Rattle.iri_cli.specs.run.Words.{rules_of, tests_of}
 use Rattle.iri_cli.proofs.WriterLemmas.{after_lines, after_made, after_none, after_text}
 use Rattle.iri_cli.proofs.run.to_writer.run_to_writer.Goals as goal
 

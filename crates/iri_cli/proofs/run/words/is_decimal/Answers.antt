@@ -1,5 +1,4 @@
-use Rattle.std.proofs.Common.{◌<◌, ◌≤◌, arith, decimal, length, refl}
-use Rattle.std.proofs.lemmas.Fmt.{length-decimal-le}
+use Rattle.iri_cli.proofs.Common.{◌<◌, ◌≤◌, arith, decimal, length, refl, length-decimal-le}
 use Rattle.iri_cli.proofs.run.words.is_decimal.Goals as goal
 
 pub returns-in-Err : goal.returns-in-Err

@@ -1,6 +1,4 @@
-use Rattle.std.proofs.Common.{◌≡◌, ◌∙◌, true, subst, sym}
-use Rattle.std.specs.Prelude.{◌&&◌, IfOk, is_some, string_bytes}
-use Rattle.iri_edit.specs.Builders.{given}
+use Rattle.iri_edit.proofs.Common.{◌≡◌, ◌∙◌, true, subst, sym, ◌&&◌, IfOk, is_some, string_bytes, given}
 use Rattle.iri_edit.proofs.BuiltLemmas.{normal-built, normal-iri}
 use Rattle.iri_edit.proofs.builder.Builder.normal_where_asked.Goals as goal
 

@@ -1,9 +1,5 @@
-use Rattle.std.proofs.Common.{◌++◌, ◌∙◌, refl, subst, sym}
-use Rattle.iri_grammar.specs.Cut.{delimited}
+use Rattle.iri_edit.proofs.Common.{◌++◌, ◌∙◌, refl, subst, sym, delimited, Shows, given, or_empty}
 use Rattle.iri_text.proofs.Compose.{shows_exit, shows_then}
-use Rattle.iri_text.specs.Shown.{Shows}
-use Rattle.iri_edit.specs.Builders.{given}
-use Rattle.iri_edit.specs.Built.{or_empty}
 use Rattle.iri_edit.specs.inside.Rules.{ended}
 use Rattle.iri_edit.proofs.ShownLemmas.{authority-given}
 use Rattle.iri_edit.proofs.builder.Builder.show_authority.Goals as goal

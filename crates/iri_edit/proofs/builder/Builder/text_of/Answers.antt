@@ -1,5 +1,4 @@
-use Rattle.std.proofs.Common.{◌≡◌, None, subst, sym}
-use Rattle.iri_edit.specs.Builders.{given}
+use Rattle.iri_edit.proofs.Common.{◌≡◌, None, subst, sym, given}
 use Rattle.iri_edit.proofs.BuiltLemmas.{built-fits, built-valid}
 use Rattle.iri_edit.proofs.KindLemmas.{IsWhole}
 use Rattle.iri_edit.proofs.builder.Builder.text_of.Goals as goal

@@ -1,7 +1,6 @@
-use Rattle.std.proofs.Common.{◌≡◌, None, subst, sym}
+use Rattle.iri_edit.proofs.Common.{◌≡◌, None, subst, sym, text}
 use Rattle.std.proofs.Math.Logic.{∥∥₁_elim}
 use Rattle.std.proofs.Props.{props}
-use Rattle.iri_types.specs.Texts.{text}
 use Rattle.iri_edit.specs.Shown.{masked_view}
 use Rattle.iri_edit.proofs.KindLemmas.{IsWhole}
 use Rattle.iri_edit.proofs.UserLemmas.{masked-valid}

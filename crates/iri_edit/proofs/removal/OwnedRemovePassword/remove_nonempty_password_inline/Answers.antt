@@ -1,6 +1,4 @@
-use Rattle.std.proofs.Common.{◌≡◌, ◌∙◌, [], None, subst, sym}
-use Rattle.iri_edit.specs.Password.{password_of}
-use Rattle.iri_edit.specs.inside.Places.{IsPasswordAt}
+use Rattle.iri_edit.proofs.Common.{◌≡◌, ◌∙◌, [], None, subst, sym, password_of, IsPasswordAt}
 use Rattle.iri_edit.proofs.KindLemmas.{IsWhole}
 use Rattle.iri_edit.proofs.SameLemmas.{with_password-same}
 use Rattle.iri_edit.proofs.SpliceLemmas.{password-spliced}

@@ -1,5 +1,4 @@
-use Rattle.std.proofs.Common.{sym, ap, ◌∙◌, arith}
-use Rattle.iri_grammar.specs.ClassTests.{ascii_test}
+use Rattle.iri_grammar.proofs.Common.{sym, ap, ◌∙◌, arith, ascii_test}
 use Rattle.iri_grammar.proofs.ClassLaws.{class_at_ascii, class_past_ascii}
 use Rattle.iri_grammar.proofs.class.Class.has.Goals as goal
 

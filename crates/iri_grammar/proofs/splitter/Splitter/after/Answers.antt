@@ -1,5 +1,4 @@
-use Rattle.std.proofs.Common.{◌∙◌, sym}
-use Rattle.std.proofs.lemmas.Bool.{eqb-true}
+use Rattle.iri_grammar.proofs.Common.{◌∙◌, sym, eqb-true}
 use Rattle.std.proofs.lemmas.List.{nil_from_length}
 use Rattle.iri_grammar.proofs.Scans.{left-fault, scanned, whole-fault}
 use Rattle.iri_grammar.proofs.splitter.Splitter.after.Goals as goal

@@ -1,5 +1,4 @@
-use Rattle.std.proofs.Common.{subst}
-use Rattle.iri_grammar.specs.Fault.{Answers}
+use Rattle.iri_grammar.proofs.Common.{subst, Answers}
 use Rattle.iri_grammar.proofs.Scans.{scheme-fault}
 use Rattle.iri_grammar.proofs.splitter.Splitter.from_bytes.Goals as goal
 

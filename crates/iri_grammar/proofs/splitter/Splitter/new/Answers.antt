@@ -1,6 +1,4 @@
-use Rattle.std.proofs.Common.{ap, subst, ◌∙◌}
-use Rattle.iri_grammar.specs.Fault.{Answers, bytes_fault}
-use Rattle.iri_grammar.specs.WholeFault.{reference_fault}
+use Rattle.iri_grammar.proofs.Common.{ap, subst, ◌∙◌, Answers, bytes_fault, reference_fault}
 use Rattle.iri_grammar.proofs.TextParts.{text_fault}
 use Rattle.iri_grammar.proofs.splitter.Splitter.new.Goals as goal
 

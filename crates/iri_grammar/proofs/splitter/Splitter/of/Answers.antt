@@ -1,5 +1,4 @@
-use Rattle.std.proofs.Common.{subst, sym}
-use Rattle.iri_grammar.specs.Parts.{Splits}
+use Rattle.iri_grammar.proofs.Common.{subst, sym, Splits}
 use Rattle.iri_grammar.proofs.FaultLaws.{splits_where_no_fault}
 use Rattle.iri_grammar.proofs.splitter.Splitter.of.Goals as goal
 

@@ -1,6 +1,4 @@
-use Rattle.std.proofs.Common.{◌∙◌, None, ap, subst}
-use Rattle.iri_grammar.specs.Fault.{Answers, bytes_fault}
-use Rattle.iri_grammar.specs.Split.{relative_split_of}
+use Rattle.iri_grammar.proofs.Common.{◌∙◌, None, ap, subst, Answers, bytes_fault, relative_split_of}
 use Rattle.iri_grammar.specs.inside.Scans.{fault_after}
 use Rattle.iri_grammar.proofs.TextParts.{text_fault}
 use Rattle.iri_grammar.proofs.splitter.Splitter.relative.Goals as goal

@@ -1,9 +1,4 @@
-use Rattle.std.proofs.Common.{◌++◌, ◌∙◌, ap, subst, arith}
-use Rattle.std.specs.Str.{IsUtf8}
-use Rattle.iri_grammar.specs.Classes.{path_char, query_char}
-use Rattle.iri_grammar.specs.Cut.{delimited}
-use Rattle.iri_grammar.specs.OptionalSlices.{now_of}
-use Rattle.iri_grammar.specs.inside.Runs.{HasNoUnit}
+use Rattle.iri_grammar.proofs.Common.{◌++◌, ◌∙◌, ap, subst, arith, IsUtf8, path_char, query_char, delimited, now_of, HasNoUnit}
 use Rattle.iri_grammar.specs.inside.Tails.{PartStops}
 use Rattle.iri_grammar.proofs.AuthorityTexts.{text_over-utf8}
 use Rattle.iri_grammar.proofs.SplitUnique.{part-utf8}

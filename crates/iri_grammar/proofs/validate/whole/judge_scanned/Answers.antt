@@ -1,7 +1,4 @@
-use Rattle.std.proofs.Common.{true, subst}
-use Rattle.std.proofs.lemmas.Bool.{not-true}
-use Rattle.iri_grammar.specs.Fault.{Answers}
-use Rattle.iri_grammar.specs.Splitters.{parts}
+use Rattle.iri_grammar.proofs.Common.{true, subst, not-true, Answers, parts}
 use Rattle.iri_grammar.proofs.PlainAuthorities.{plain-authorities}
 use Rattle.iri_grammar.proofs.PlainTails.{colon-fault, over-fault}
 use Rattle.iri_grammar.proofs.validate.whole.judge_scanned.Goals as goal

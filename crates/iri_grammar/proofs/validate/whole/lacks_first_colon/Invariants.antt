@@ -1,5 +1,4 @@
-use Rattle.std.proofs.Common.{◌≡◌, length}
-use Rattle.iri_grammar.specs.Cut.{before, lacks}
+use Rattle.iri_grammar.proofs.Common.{◌≡◌, length, before, lacks}
 use Rattle.iri_grammar.proofs.validate.whole.lacks_first_colon.Given as goal
 
 -- what is left decides as the whole does

@@ -1,11 +1,5 @@
+use Rattle.iri_grammar.proofs.Common.{IsSome, is_some, Answers, now_of, Parts, split_of, parts, reference_fault}
 use Rattle.std.proofs.Common.{◌≡◌, IfOk, Option, Some, None, Bor, List, ℕ, true, refl, subst, sym, ◌∙◌}
-use Rattle.std.specs.Prelude.{IsSome, is_some}
-use Rattle.iri_grammar.specs.Fault.{Answers}
-use Rattle.iri_grammar.specs.OptionalSlices.{now_of}
-use Rattle.iri_grammar.specs.Parts.{Parts}
-use Rattle.iri_grammar.specs.Split.{split_of}
-use Rattle.iri_grammar.specs.Splitters.{parts}
-use Rattle.iri_grammar.specs.WholeFault.{reference_fault}
 use Rattle.iri_grammar.proofs.FaultLaws.{no_missing_scheme, splits_where_no_fault}
 use Rattle.iri_grammar.proofs.validate.whole.scheme_in_place.Goals as goal
 

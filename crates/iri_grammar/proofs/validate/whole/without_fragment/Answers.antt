@@ -1,9 +1,5 @@
+use Rattle.iri_grammar.proofs.Common.{Answers, fragment_fault, part_fault, now_of, parts, parts_fault, UnexpectedFragment}
 use Rattle.std.proofs.Common.{◌≡◌, ◌∙◌, IfOk, Some, ap, subst, sym}
-use Rattle.iri_grammar.specs.Fault.{Answers, fragment_fault, part_fault}
-use Rattle.iri_grammar.specs.OptionalSlices.{now_of}
-use Rattle.iri_grammar.specs.Splitters.{parts}
-use Rattle.iri_grammar.specs.WholeFault.{parts_fault}
-use Rattle.iri_grammar.specs.declared.error.ErrorKind.TheVariants.{UnexpectedFragment}
 use Rattle.iri_grammar.specs.inside.Scans.{absolute_kind}
 use Rattle.iri_grammar.proofs.FaultLaws.{absolute-beside, absolute-from}
 use Rattle.iri_grammar.proofs.validate.whole.without_fragment.Goals as goal

@@ -1,9 +1,6 @@
-use Rattle.std.proofs.Common.{subst, string_bytes}
-use Rattle.std.specs.List.{flat_map}
+use Rattle.iri_link.proofs.Common.{subst, string_bytes, flat_map, param_of, written_param}
 use Rattle.iri_text.specs.Shown.{Shows}
 use Rattle.iri_text.proofs.Compose.{shows_then, shows_exit}
-use Rattle.iri_link.specs.Stored.{param_of}
-use Rattle.iri_link.specs.Written.{written_param}
 use Rattle.iri_link.proofs.WrittenTexts.{link_shown}
 use Rattle.iri_link.proofs.written.LinkShow.show.Goals as goal
 

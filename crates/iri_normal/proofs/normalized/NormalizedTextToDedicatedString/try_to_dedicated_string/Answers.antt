@@ -1,5 +1,4 @@
-use Rattle.std.proofs.Common.{◌≡◌, None, sym, subst}
-use Rattle.iri_normal.specs.Slices.{slices}
+use Rattle.iri_normal.proofs.Common.{◌≡◌, None, sym, subst, slices}
 use Rattle.iri_normal.proofs.ModeLemmas.{sound-fits, sound-valid}
 use Rattle.iri_normal.proofs.normalized.NormalizedTextToDedicatedString.try_to_dedicated_string.Goals as goal
 

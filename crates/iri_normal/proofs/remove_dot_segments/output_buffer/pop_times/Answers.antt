@@ -1,8 +1,4 @@
-use Rattle.std.proofs.Common.{◌-◌, ◌||◌, ◌∙◌, take, sym, ap, arith}
-use Rattle.std.proofs.lemmas.List.{length-take-le}
-use Rattle.std.specs.Prelude.{◌==◌}
-use Rattle.iri_normal.specs.Target.{ends_at_slash}
-use Rattle.iri_normal.specs.inside.Written.{popped_times}
+use Rattle.iri_normal.proofs.Common.{◌-◌, ◌||◌, ◌∙◌, take, sym, ap, arith, length-take-le, ◌==◌, ends_at_slash, popped_times}
 use Rattle.iri_normal.proofs.KeptLemmas.{ends-more, times-less, times-small}
 use Rattle.iri_normal.proofs.WrittenLemmas.{popped-ends}
 use Rattle.iri_normal.proofs.remove_dot_segments.output_buffer.pop_times.Goals as goal

@@ -1,7 +1,4 @@
-use Rattle.std.proofs.Common.{◌≡◌, ◌≤◌, ◌||◌, true, take, length}
-use Rattle.std.specs.Prelude.{◌==◌}
-use Rattle.iri_normal.specs.Target.{ends_at_slash}
-use Rattle.iri_normal.specs.inside.Written.{popped_times}
+use Rattle.iri_normal.proofs.Common.{◌≡◌, ◌≤◌, ◌||◌, true, take, length, ◌==◌, ends_at_slash, popped_times}
 use Rattle.iri_normal.proofs.remove_dot_segments.output_buffer.pop_times.Given as goal
 
 abbrev pub invariant-pops : goal.invariant-pops

@@ -1,7 +1,4 @@
-use Rattle.iri_grammar.specs.Parts.{is_empty}
-use Rattle.std.proofs.Common.{◌≡◌, ◌++◌, ◌||◌, ◌∙◌, take, sym, ap, subst, arith, true}
-use Rattle.iri_normal.specs.Target.{ends_at_slash}
-use Rattle.iri_normal.specs.inside.Written.{left, written}
+use Rattle.iri_normal.proofs.Common.{is_empty, ◌≡◌, ◌++◌, ◌||◌, ◌∙◌, take, sym, ap, subst, arith, true, ends_at_slash, left, written}
 use Rattle.iri_normal.proofs.NextLemmas.{left-next, next-ends, next-shorter, written-next}
 use Rattle.iri_normal.proofs.WrittenLemmas.{written-plain}
 use Rattle.iri_normal.proofs.remove_dot_segments.output_buffer.put.Goals as goal

@@ -1,7 +1,4 @@
-use Rattle.std.proofs.Common.{◌≡◌, ◌≤◌, ◌+◌, ◌||◌, true, take, length}
-use Rattle.iri_grammar.specs.Parts.{is_empty}
-use Rattle.iri_normal.specs.Target.{ends_at_slash}
-use Rattle.iri_normal.specs.inside.Written.{written}
+use Rattle.iri_normal.proofs.Common.{◌≡◌, ◌≤◌, ◌+◌, ◌||◌, true, take, length, is_empty, ends_at_slash, written}
 use Rattle.iri_normal.proofs.remove_dot_segments.output_buffer.put.Given as goal
 
 -- the rest after the buffer gives what the path gives

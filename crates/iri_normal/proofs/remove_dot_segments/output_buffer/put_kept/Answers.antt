@@ -1,11 +1,5 @@
-use Rattle.std.proofs.Common.{◌∷◌, ◌||◌, ◌∙◌, [], refl, ap, arith}
-use Rattle.std.specs.Prelude.{◌==◌}
-use Rattle.std.proofs.Math.Bool.{or-true}
-use Rattle.iri_grammar.specs.Parts.{is_empty}
-use Rattle.iri_grammar.specs.Pieces.{pieces}
-use Rattle.iri_normal.specs.inside.Kept.{kept}
-use Rattle.iri_normal.specs.Target.{ends_at_slash}
-use Rattle.iri_normal.specs.inside.Written.{popped_times, written}
+use Rattle.iri_normal.proofs.Common.{◌∷◌, ◌||◌, ◌∙◌, [], refl, ap, arith, ◌==◌, or-true, is_empty, pieces, kept, ends_at_slash}
+use Rattle.iri_normal.proofs.Common.{popped_times, written}
 use Rattle.iri_normal.proofs.KeptLemmas.{after-slash, buffer-some, put-ends}
 use Rattle.iri_normal.proofs.OutputLemmas.{first-slash}
 use Rattle.iri_normal.proofs.remove_dot_segments.output_buffer.put_kept.Goals as goal

@@ -1,7 +1,4 @@
-use Rattle.std.proofs.Common.{◌≡◌, ◌||◌, ◌∙◌, true, ap, sym, subst}
-use Rattle.iri_grammar.specs.Parts.{is_empty}
-use Rattle.iri_normal.specs.Target.{ends_at_slash}
-use Rattle.iri_normal.specs.inside.Written.{written}
+use Rattle.iri_normal.proofs.Common.{◌≡◌, ◌||◌, ◌∙◌, true, ap, sym, subst, is_empty, ends_at_slash, written}
 use Rattle.iri_normal.proofs.WrittenLemmas.{parts-end, written-parts}
 use Rattle.iri_normal.proofs.remove_dot_segments.output_buffer.put_path.Goals as goal
 

@@ -1,6 +1,4 @@
-use Rattle.std.proofs.Common.{◌≡◌, ◌+◌, drop, take, sym, subst, arith}
-use Rattle.std.proofs.lemmas.Grind.{common_steps}
-use Rattle.std.proofs.lemmas.Str.{lead_after_ascii}
+use Rattle.iri_normal.proofs.Common.{◌≡◌, ◌+◌, drop, take, sym, subst, arith, common_steps, lead_after_ascii}
 use Rattle.iri_normal.specs.inside.CutText.{IsCut}
 use Rattle.iri_normal.proofs.LongLemmas.{cut-there}
 use Rattle.iri_normal.proofs.remove_dot_segments.segments.cut_eighth.Goals as goal

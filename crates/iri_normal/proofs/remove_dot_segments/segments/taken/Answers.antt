@@ -1,9 +1,5 @@
-use Rattle.std.proofs.Common.{◌≡◌, ◌+◌, ◌-◌, cond, ◌∙◌, sym, ap, arith}
+use Rattle.iri_normal.proofs.Common.{◌≡◌, ◌+◌, ◌-◌, cond, ◌∙◌, sym, ap, arith, count_by, is_byte, pieces, taken}
 use Rattle.std.proofs.lemmas.List.Sums.{count_by-le-length}
-use Rattle.std.specs.List.{count_by}
-use Rattle.memchr.specs.Find.{is_byte}
-use Rattle.iri_grammar.specs.Pieces.{pieces}
-use Rattle.iri_normal.specs.inside.Kept.{taken}
 use Rattle.iri_normal.proofs.LongLemmas.{all-taken, taken-next}
 use Rattle.iri_normal.proofs.NextLemmas.{next-shorter}
 use Rattle.iri_normal.proofs.remove_dot_segments.segments.taken.Goals as goal

@@ -1,6 +1,4 @@
-use Rattle.std.proofs.Common.{◌≡◌, ◌≤◌, ◌+◌, ◌-◌, length}
-use Rattle.iri_grammar.specs.Pieces.{pieces}
-use Rattle.iri_normal.specs.inside.Kept.{taken}
+use Rattle.iri_normal.proofs.Common.{◌≡◌, ◌≤◌, ◌+◌, ◌-◌, length, pieces, taken}
 use Rattle.iri_normal.proofs.remove_dot_segments.segments.taken.Given as goal
 
 -- so many are taken back before what was read, and so many of it stay, before the rest takes some of these back

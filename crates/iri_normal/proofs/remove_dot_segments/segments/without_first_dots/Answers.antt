@@ -1,15 +1,9 @@
-use Rattle.std.proofs.Common.{◌≡◌, ◌++◌, [], ◌∷◌, ◌∙◌, true, subst, sym, ap, arith}
-use Rattle.iri_grammar.specs.Classes.{path_char}
-use Rattle.iri_grammar.specs.Cut.{before}
-use Rattle.iri_grammar.specs.OptionalSlices.{now_of}
-use Rattle.iri_grammar.proofs.PiecesLaws.{after_shorter}
+use Rattle.iri_normal.proofs.Common.{◌≡◌, ◌++◌, [], ◌∷◌, ◌∙◌, true, subst, sym, ap, arith, path_char, before, now_of, after_shorter}
+use Rattle.iri_normal.proofs.Common.{is_dot_segment, ends_at_slash, nothing_over}
 use Rattle.iri_grammar.proofs.Delimiters.{text_after}
-use Rattle.iri_normal.specs.Dots.{is_dot_segment}
-use Rattle.iri_normal.specs.Target.{ends_at_slash}
 use Rattle.iri_normal.proofs.EndedLemmas.{first_whole, rest-ends}
 use Rattle.iri_normal.proofs.LongLemmas.{first-path, gone-all, gone-dots}
 use Rattle.iri_normal.proofs.PieceLaws.{nothing-is_no_dot}
-use Rattle.iri_grammar.proofs.UnitRuns.{nothing_over}
 use Rattle.iri_normal.proofs.remove_dot_segments.segments.without_first_dots.Goals as goal
 
 pub dots-smaller : goal.dots-smaller

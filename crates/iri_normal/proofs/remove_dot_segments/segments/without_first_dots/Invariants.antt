@@ -1,9 +1,6 @@
-use Rattle.std.proofs.Common.{◌≡◌, ◌≤◌, [], true, length}
+use Rattle.iri_normal.proofs.Common.{◌≡◌, ◌≤◌, [], true, length, is_path, ends_at_slash, written}
 use denote.Text.{Utf8}
 use denote.Shadow.{shadow}
-use Rattle.iri_grammar.specs.Components.{is_path}
-use Rattle.iri_normal.specs.Target.{ends_at_slash}
-use Rattle.iri_normal.specs.inside.Written.{written}
 use Rattle.iri_normal.proofs.remove_dot_segments.segments.without_first_dots.Given as goal
 
 abbrev pub invariant-dots : goal.invariant-dots

@@ -1,9 +1,4 @@
-use Rattle.std.proofs.Common.{◌∙◌, ap, sym, subst}
-use Rattle.iri_grammar.specs.Parts.{is_empty, starts_with_slash}
-use Rattle.iri_grammar.specs.OptionalSlices.{now_of}
-use Rattle.iri_grammar.specs.Split.{split_of}
-use Rattle.iri_normal.specs.Prefix.{IsPrefix}
-use Rattle.iri_normal.specs.Resolver.{base_text}
+use Rattle.iri_normal.proofs.Common.{◌∙◌, ap, sym, subst, is_empty, starts_with_slash, now_of, split_of, IsPrefix, base_text}
 use Rattle.iri_normal.proofs.PlainReferences.{not-empty, rooted-before, merged-before}
 use Rattle.iri_normal.proofs.resolver.FixedBaseResolver.base_before.Goals as goal
 

@@ -1,8 +1,4 @@
-use Rattle.std.proofs.Common.{◌∙◌, ap, sym}
-use Rattle.iri_grammar.specs.OptionalSlices.{now_of}
-use Rattle.iri_grammar.specs.Split.{split_of}
-use Rattle.iri_grammar.specs.Splitters.{parts}
-use Rattle.iri_normal.specs.Resolver.{base_text}
+use Rattle.iri_normal.proofs.Common.{◌∙◌, ap, sym, now_of, split_of, parts, base_text}
 use Rattle.iri_normal.proofs.PlainReferences.{own-before}
 use Rattle.iri_normal.proofs.resolver.FixedBaseResolver.before.Goals as goal
 

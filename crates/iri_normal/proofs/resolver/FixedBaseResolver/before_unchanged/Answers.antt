@@ -1,11 +1,5 @@
-use Rattle.std.proofs.Common.{◌∙◌, false, ap, subst, sym}
-use Rattle.std.specs.Prelude.{MatchOption}
-use Rattle.iri_grammar.specs.Parts.{Fits, Parts}
-use Rattle.iri_grammar.specs.Seen.{may_have_dots}
-use Rattle.iri_grammar.specs.Split.{split_of}
-use Rattle.iri_types.specs.SplitText.{split_text}
-use Rattle.iri_normal.specs.Prefix.{prefix_in}
-use Rattle.iri_normal.specs.Resolver.{base_text}
+use Rattle.iri_normal.proofs.Common.{◌∙◌, false, ap, subst, sym, MatchOption, Fits, Parts, may_have_dots, split_of, split_text, prefix_in}
+use Rattle.iri_normal.proofs.Common.{base_text}
 use Rattle.iri_normal.specs.declared.unchanged.Before.{Before}
 use Rattle.iri_normal.specs.inside.Unchanged.{EndsCanonical, StandBefore}
 use Rattle.iri_normal.proofs.DotLemmas.{no_dots}

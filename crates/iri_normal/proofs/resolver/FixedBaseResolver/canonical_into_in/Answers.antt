@@ -1,17 +1,8 @@
-use Rattle.std.proofs.Common.{◌≡◌, ◌≤◌, ◌+◌, ◌++◌, ℕ, ◌∙◌, None, List, ap, arith, length, subst, sym, take, string_bytes, IsUtf8}
-use Rattle.std.proofs.Math.Logic.{∥∥₁_elim}
-use Rattle.std.proofs.Props.{props}
-use Rattle.std.proofs.Math.Seq.{take-append_seam}
-use Rattle.std.proofs.lemmas.List.{length-append}
+use Rattle.iri_normal.proofs.Common.{◌≡◌, ◌≤◌, ◌+◌, ◌++◌, ℕ, ◌∙◌, None, List, ap, arith, length, subst, sym, take, string_bytes, IsUtf8}
+use Rattle.iri_normal.proofs.Common.{∥∥₁_elim, props, take-append_seam, length-append, absolute-law, iri-law, reference-law, Tests, IsSpec}
+use Rattle.iri_normal.proofs.Common.{absolute_fault, iri_fault, reference_fault, split_text, CanonMode, canonical_in, base_text}
 use Rattle.std.proofs.lemmas.Str.{IsCharBoundary-from_take, IsUtf8-string_bytes}
 use Rattle.std.specs.String.Boundary.{IsSplitPoint}
-use Rattle.iri_grammar.proofs.FaultLaws.{absolute-law, iri-law, reference-law}
-use Rattle.iri_grammar.specs.Classes.{Tests, IsSpec}
-use Rattle.iri_grammar.specs.WholeFault.{absolute_fault, iri_fault, reference_fault}
-use Rattle.iri_types.specs.SplitText.{split_text}
-use Rattle.iri_percent.specs.declared.canon_mode.CanonMode.{CanonMode}
-use Rattle.iri_normal.specs.NormalForm.{canonical_in}
-use Rattle.iri_normal.specs.Resolver.{base_text}
 use Rattle.iri_normal.proofs.CanonLaws.{canonical_in-iri}
 use Rattle.iri_normal.proofs.resolver.FixedBaseResolver.canonical_into_in.Goals as goal
 

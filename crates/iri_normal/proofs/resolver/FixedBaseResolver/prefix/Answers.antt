@@ -1,9 +1,4 @@
-use Rattle.std.proofs.Common.{sym, ◌∙◌, ap}
-use Rattle.iri_grammar.specs.Parts.{Parts}
-use Rattle.iri_grammar.specs.Split.{split_of}
-use Rattle.iri_grammar.specs.OptionalSlices.{now_of}
-use Rattle.iri_types.specs.SplitText.{split_text}
-use Rattle.iri_normal.specs.Resolver.{base_text}
+use Rattle.iri_normal.proofs.Common.{sym, ◌∙◌, ap, Parts, split_of, now_of, split_text, base_text}
 use Rattle.iri_normal.proofs.PrefixLemmas.{prefix-kept}
 use Rattle.iri_normal.proofs.resolver.FixedBaseResolver.prefix.Goals as goal
 

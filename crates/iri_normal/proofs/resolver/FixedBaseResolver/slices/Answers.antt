@@ -1,9 +1,4 @@
-use Rattle.std.proofs.Common.{sym, subst}
-use Rattle.std.proofs.Math.Logic.{∥∥₁_elim}
-use Rattle.std.proofs.Props.{props}
-use Rattle.std.specs.Prelude.{IsSome}
-use Rattle.iri_grammar.specs.Parts.{Parts, Fits}
-use Rattle.iri_grammar.specs.Splitters.{parts}
+use Rattle.iri_normal.proofs.Common.{sym, subst, ∥∥₁_elim, props, IsSome, Parts, Fits, parts}
 use Rattle.iri_types.specs.inside.KindLaws.{absolute-scheme}
 use Rattle.iri_normal.proofs.TargetLaws.{target-fits}
 use Rattle.iri_normal.proofs.resolver.FixedBaseResolver.slices.Goals as goal

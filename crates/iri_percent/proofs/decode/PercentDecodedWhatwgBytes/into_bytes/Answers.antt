@@ -1,6 +1,4 @@
-use Rattle.std.proofs.Common.{◌++◌, ap, ◌∙◌}
-use Rattle.std.specs.List.{flat_map}
-use Rattle.iri_percent.specs.Decoding.{fragment_bytes}
+use Rattle.iri_percent.proofs.Common.{◌++◌, ap, ◌∙◌, flat_map, fragment_bytes}
 use Rattle.iri_percent.specs.FragmentViews.{fragments_left}
 use Rattle.iri_percent.proofs.DecodingLemmas.{fragments-joined, fragments-most}
 use Rattle.iri_percent.proofs.decode.PercentDecodedWhatwgBytes.into_bytes.Goals as goal

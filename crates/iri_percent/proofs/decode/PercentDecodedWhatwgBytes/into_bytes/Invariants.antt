@@ -1,6 +1,4 @@
-use Rattle.std.proofs.Common.{◌≡◌, ◌≤◌, ◌++◌, length}
-use Rattle.std.specs.List.{flat_map}
-use Rattle.iri_percent.specs.Decoding.{decoding, fragment_bytes}
+use Rattle.iri_percent.proofs.Common.{◌≡◌, ◌≤◌, ◌++◌, length, flat_map, decoding, fragment_bytes}
 use Rattle.iri_percent.specs.FragmentViews.{fragments_left}
 use Rattle.iri_percent.proofs.decode.PercentDecodedWhatwgBytes.into_bytes.Given as goal
 

@@ -1,6 +1,4 @@
-use Rattle.std.proofs.Common.{◌≡◌, ℕ, true, false, List, refl, sym, ap, ◌∙◌}
-use Rattle.std.specs.Str.{IsUtf8, is_utf8}
-use Rattle.std.proofs.lemmas.Str.{IsUtf8-from_is_utf8}
+use Rattle.iri_percent.proofs.Common.{◌≡◌, ℕ, true, false, List, refl, sym, ap, ◌∙◌, IsUtf8, is_utf8, IsUtf8-from_is_utf8}
 use Rattle.iri_percent.proofs.decode.PercentDecodedWhatwgBytes.into_string.Goals as goal
 
 not_utf8 : (bytes : List ℕ) → (IsUtf8 bytes → false ≡ true) → is_utf8 bytes ≡ false

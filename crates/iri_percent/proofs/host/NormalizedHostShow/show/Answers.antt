@@ -1,10 +1,5 @@
-use Rattle.std.proofs.Common.{◌≡◌, ap, sym, ◌∙◌, subst, true}
-use Rattle.std.specs.List.{list_all}
-use Rattle.iri_text.specs.Shown.{Shows}
-use Rattle.iri_percent.specs.Units.{whole_triplets}
-use Rattle.iri_percent.specs.Triplets.{normal}
-use Rattle.iri_percent.specs.NormalHost.{is_ascii_host, is_plain_byte}
-use Rattle.iri_percent.specs.inside.Pieces.{case_of}
+use Rattle.iri_percent.proofs.Common.{◌≡◌, ap, sym, ◌∙◌, subst, true, list_all, Shows, whole_triplets, normal, is_ascii_host, is_plain_byte}
+use Rattle.iri_percent.proofs.Common.{case_of}
 use Rattle.iri_percent.proofs.WholeLaws.{host-whole}
 use Rattle.iri_percent.proofs.Hosts.{plain_host, host_case}
 use Rattle.iri_percent.proofs.host.NormalizedHostShow.show.Goals as goal

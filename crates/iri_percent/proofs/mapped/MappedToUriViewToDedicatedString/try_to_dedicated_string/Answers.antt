@@ -1,6 +1,4 @@
-use Rattle.std.proofs.Common.{◌≡◌, None, ◌++◌, sym, ap, subst, ◌∙◌}
-use Rattle.iri_grammar.specs.Classes.{uri_tests}
-use Rattle.iri_percent.specs.Mapping.{mapped}
+use Rattle.iri_percent.proofs.Common.{◌≡◌, None, ◌++◌, sym, ap, subst, ◌∙◌, uri_tests, mapped}
 use Rattle.iri_percent.proofs.mapped.MappedToUriViewToDedicatedString.try_to_dedicated_string.Goals as goal
 
 pub from_valid-requires : goal.from_valid-requires

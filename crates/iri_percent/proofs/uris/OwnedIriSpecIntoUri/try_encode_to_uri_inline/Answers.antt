@@ -1,8 +1,5 @@
-use Rattle.std.proofs.Common.{sym, subst}
-use Rattle.std.specs.Str.{IsAscii}
+use Rattle.iri_percent.proofs.Common.{sym, subst, IsAscii, iri_tests, iri_is_spec}
 use Rattle.std.specs.String.{string_bytes}
-use Rattle.iri_grammar.specs.Classes.{iri_tests}
-use Rattle.iri_grammar.specs.inside.Laws.{iri_is_spec}
 use Rattle.iri_percent.proofs.MappedRuns.{mapped-of_ascii}
 use Rattle.iri_percent.proofs.uris.OwnedIriSpecIntoUri.try_encode_to_uri_inline.Goals as goal
 

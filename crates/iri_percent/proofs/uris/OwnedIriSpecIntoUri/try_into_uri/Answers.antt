@@ -1,8 +1,5 @@
-use Rattle.std.proofs.Common.{◌≡◌, None, sym, ap, subst, ◌∙◌}
+use Rattle.iri_percent.proofs.Common.{◌≡◌, None, sym, ap, subst, ◌∙◌, IsAscii, uri_tests, iri_tests, iri_is_spec}
 use Rattle.std.specs.String.{string_bytes}
-use Rattle.std.specs.Str.{IsAscii}
-use Rattle.iri_grammar.specs.Classes.{uri_tests, iri_tests}
-use Rattle.iri_grammar.specs.inside.Laws.{iri_is_spec}
 use Rattle.iri_percent.proofs.MappedRuns.{mapped-of_ascii}
 use Rattle.iri_percent.proofs.uris.OwnedIriSpecIntoUri.try_into_uri.Goals as goal
 

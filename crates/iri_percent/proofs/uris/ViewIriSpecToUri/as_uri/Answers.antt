@@ -1,6 +1,4 @@
-use Rattle.std.proofs.Common.{◌≡◌, None, subst}
-use Rattle.iri_grammar.specs.Classes.{uri_tests, iri_tests}
-use Rattle.iri_grammar.specs.inside.Laws.{iri_is_spec}
+use Rattle.iri_percent.proofs.Common.{◌≡◌, None, subst, uri_tests, iri_tests, iri_is_spec}
 use Rattle.iri_percent.proofs.MappedRuns.{mapped-of_ascii}
 use Rattle.iri_percent.proofs.uris.ViewIriSpecToUri.as_uri.Goals as goal
 

@@ -1,7 +1,6 @@
-use Rattle.std.proofs.Common.{rules, Ok}
+use Rattle.iri_register.proofs.Common.{rules, Ok, base_text}
 use Rattle.std.proofs.Math.Logic.{∥∥₁_elim}
 use Rattle.std.proofs.Props.{props}
-use Rattle.iri_normal.specs.Resolver.{base_text}
 use Rattle.iri_register.proofs.ShareLemmas.{adds_joined}
 use Rattle.iri_register.proofs.register.Links.add.Goals as goal
 

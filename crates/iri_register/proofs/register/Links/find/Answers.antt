@@ -1,8 +1,7 @@
-use Rattle.std.proofs.Common.{◌≡◌, ◌∙◌, [], rules, sym, Ok}
+use Rattle.iri_register.proofs.Common.{◌≡◌, ◌∙◌, [], rules, sym, Ok, base_text}
 use Rattle.std.proofs.lemmas.List.{nil_from_length}
 use Rattle.std.proofs.Math.Logic.{∥∥₁_elim}
 use Rattle.std.proofs.Props.{props}
-use Rattle.iri_normal.specs.Resolver.{base_text}
 use Rattle.iri_register.proofs.ShareLemmas.{finds_joined}
 use Rattle.iri_register.proofs.register.Links.find.Goals as goal
 

@@ -1,7 +1,5 @@
-use Rattle.std.proofs.Common.{◌∷◌, Some, ap, ◌∙◌}
-use Rattle.iri_grammar.specs.OptionalSlices.{now_of}
+use Rattle.iri_robots.proofs.Common.{◌∷◌, Some, ap, ◌∙◌, now_of, record_texts}
 use Rattle.iri_robots.specs.Files.{more_lines}
-use Rattle.iri_robots.specs.Stored.{record_texts}
 use Rattle.iri_robots.proofs.FileCuts.{stored, stored_all}
 use Rattle.iri_robots.proofs.robots.Robots.feed_file.Goals as goal
 

@@ -1,6 +1,5 @@
-use Rattle.std.proofs.Common.{◌≡◌, ◌++◌, length, string_bytes}
+use Rattle.iri_robots.proofs.Common.{◌≡◌, ◌++◌, length, string_bytes, record_texts}
 use Rattle.iri_robots.specs.Files.{file_records}
-use Rattle.iri_robots.specs.Stored.{record_texts}
 use Rattle.iri_robots.proofs.robots.Robots.feed_file.Given as goal
 
 -- what is stored, and what is left

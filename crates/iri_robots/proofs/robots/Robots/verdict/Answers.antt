@@ -1,8 +1,6 @@
-use Rattle.std.proofs.Common.{◌≡◌, ◌↔◌, ℕ, Bool, true, List, refl, subst}
+use Rattle.iri_robots.proofs.Common.{◌≡◌, ◌↔◌, ℕ, Bool, true, List, refl, subst, record_texts, IsAllowed}
 use Rattle.iri_robots.specs.declared.record.Record.{Record}
-use Rattle.iri_robots.specs.Stored.{record_texts}
 use Rattle.iri_robots.specs.Records.{rules_for}
-use Rattle.iri_robots.specs.Allowed.{IsAllowed}
 use Rattle.iri_robots.proofs.robots.Robots.verdict.Goals as goal
 
 same_texts : (b : Bool) (t t' : List ℕ) (l l' : List Record) (s s' : List ℕ) → t ≡ t' → l ≡ l' → s ≡ s'

@@ -1,7 +1,4 @@
-use Rattle.std.proofs.Common.{◌≡◌, true, false, length, sym, ◌∙◌, ap}
-use Rattle.std.specs.Prelude.{◌==◌}
-use Rattle.iri_template.specs.Expansion.{shown_text}
-use Rattle.iri_template.specs.inside.UnitSteps.{is_used_up}
+use Rattle.iri_template.proofs.Common.{◌≡◌, true, false, length, sym, ◌∙◌, ap, ◌==◌, shown_text, is_used_up}
 use Rattle.iri_template.proofs.PrefixChars.{none_of_none, value_decides}
 use Rattle.iri_template.proofs.encoded_value.EncodedValue.is_empty.Goals as goal
 

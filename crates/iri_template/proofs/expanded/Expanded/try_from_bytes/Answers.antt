@@ -1,11 +1,6 @@
-use Rattle.std.proofs.Common.{◌≡◌, ◌∙◌, ℕ, List, Option, Some, sym, ap}
-use Rattle.std.specs.Str.{IsUtf8}
-use Rattle.iri_template.specs.Fault.{fault, first, text_fault}
-use Rattle.iri_template.specs.Reading.{pieces_of}
-use Rattle.iri_template.specs.ShownValues.{ShownValue}
-use Rattle.iri_template.specs.TypeFaults.{expansion_fault, type_fault}
-use Rattle.iri_template.specs.declared.error.Error.{Error}
-use Rattle.iri_template.specs.declared.error.ErrorKind.TheVariants.{InvalidUtf8}
+use Rattle.iri_template.proofs.Common.{◌≡◌, ◌∙◌, ℕ, List, Option, Some, sym, ap, IsUtf8, fault, first, text_fault, pieces_of, ShownValue}
+use Rattle.iri_template.proofs.Common.{type_fault, Error, InvalidUtf8}
+use Rattle.iri_template.specs.TypeFaults.{expansion_fault}
 use Rattle.iri_template.proofs.FaultLemmas.{of_text, of_bytes}
 use Rattle.iri_template.proofs.expanded.Expanded.try_from_bytes.Goals as goal
 

@@ -1,12 +1,6 @@
-use Rattle.std.proofs.Common.{◌≡◌, None, Ok, Err, subst}
+use Rattle.iri_template.proofs.Common.{◌≡◌, None, Ok, Err, subst, portions, pieces_of, text, type_fault, EndsAs, by_purpose, untold}
 use Rattle.std.proofs.Math.Logic.{∥∥₁_elim}
 use Rattle.std.proofs.Props.{props}
-use Rattle.iri_template.specs.Portions.{portions}
-use Rattle.iri_template.specs.Reading.{pieces_of}
-use Rattle.iri_template.specs.Texts.{text}
-use Rattle.iri_template.specs.TypeFaults.{type_fault}
-use Rattle.iri_template.specs.Writings.{EndsAs}
-use Rattle.iri_template.specs.inside.ByPurpose.{by_purpose, untold}
 use Rattle.iri_template.proofs.FixedLemmas.{untold_adds, shows_all, shows_stop}
 use Rattle.iri_template.proofs.expanded.ExpandedShow.show.Goals as goal
 

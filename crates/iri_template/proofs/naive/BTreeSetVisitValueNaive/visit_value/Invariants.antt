@@ -1,6 +1,5 @@
-use Rattle.iri_template.specs.Events.{ListBegun, Item}
+use Rattle.iri_template.proofs.Common.{ListBegun, Item, InList}
 use Rattle.iri_template.proofs.VisitsEach.{HasHeardUpTo}
-use Rattle.iri_template.specs.declared.visitor.Phase.TheVariants.{InList}
 use Rattle.iri_template.proofs.naive.BTreeSetVisitValueNaive.visit_value.Given as goal
 
 -- the items before those that are left were told

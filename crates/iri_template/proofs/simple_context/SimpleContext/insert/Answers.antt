@@ -1,7 +1,6 @@
-use Rattle.std.proofs.Common.{◌≡◌, true, false, sym, ◌∙◌, ap, arith}
+use Rattle.iri_template.proofs.Common.{◌≡◌, true, false, sym, ◌∙◌, ap, arith, is_varname}
 use Rattle.std.specs.String.{string_bytes}
 use Rattle.std.proofs.lemmas.Map.Text.{text_keys}
-use Rattle.iri_template.specs.Names.{is_varname}
 use Rattle.iri_template.specs.Contexts.{is_undefined}
 use Rattle.iri_template.proofs.simple_context.SimpleContext.insert.Goals as goal
 

@@ -1,7 +1,4 @@
-use Rattle.iri_template.specs.Portions.{portions}
-use Rattle.iri_template.specs.Reading.{pieces_of}
-use Rattle.iri_template.specs.Texts.{text}
-use Rattle.iri_template.specs.Writings.{EndsAs}
+use Rattle.iri_template.proofs.Common.{portions, pieces_of, text, EndsAs}
 use Rattle.iri_template.proofs.PortionWalk.{calls_between, told_later}
 use Rattle.iri_template.proofs.template.UriTemplateStr.expand_dynamic.Goals as goal
 

@@ -1,6 +1,5 @@
-use Rattle.std.proofs.Common.{Some, sym, ◌∙◌, ap, subst}
-use Rattle.iri_template.specs.Fault.{Answers, fault, text_fault}
-use Rattle.iri_template.specs.declared.error.ErrorKind.TheVariants.{InvalidUtf8}
+use Rattle.iri_template.proofs.Common.{Some, sym, ◌∙◌, ap, subst, fault, text_fault, InvalidUtf8}
+use Rattle.iri_template.specs.Fault.{Answers}
 use Rattle.iri_template.proofs.FaultLemmas.{of_text, of_bytes}
 use Rattle.iri_template.proofs.template.UriTemplateStr.try_from_bytes.Goals as goal
 

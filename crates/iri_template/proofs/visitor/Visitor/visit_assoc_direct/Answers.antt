@@ -1,7 +1,5 @@
-use Rattle.std.proofs.Common.{◌+◌, refl, arith}
-use Rattle.std.proofs.lemmas.List.{drop_all}
+use Rattle.iri_template.proofs.Common.{◌+◌, refl, arith, drop_all, Done}
 use Rattle.iri_template.proofs.VisitsEach.{heard_exit_first, up_to_more, up_to_exit, up_to_end, next_at}
-use Rattle.iri_template.specs.declared.visitor.Phase.TheVariants.{Done}
 use Rattle.iri_template.proofs.visitor.Visitor.visit_assoc_direct.Goals as goal
 
 pub returns-in_err-visit_assoc : goal.returns-in_err-visit_assoc

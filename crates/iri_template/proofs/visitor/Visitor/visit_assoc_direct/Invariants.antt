@@ -1,7 +1,5 @@
-use Rattle.std.proofs.Common.{drop}
-use Rattle.iri_template.specs.Events.{PairsBegun, entry_of, pair_text}
+use Rattle.iri_template.proofs.Common.{drop, PairsBegun, entry_of, pair_text, InPairs}
 use Rattle.iri_template.proofs.VisitsEach.{HasHeardUpTo}
-use Rattle.iri_template.specs.declared.visitor.Phase.TheVariants.{InPairs}
 use Rattle.iri_template.proofs.visitor.Visitor.visit_assoc_direct.Given as goal
 
 -- the pairs before those that are left were told

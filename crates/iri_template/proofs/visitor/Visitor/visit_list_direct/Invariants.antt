@@ -1,7 +1,5 @@
-use Rattle.std.proofs.Common.{drop}
-use Rattle.iri_template.specs.Events.{ListBegun, Item}
+use Rattle.iri_template.proofs.Common.{drop, ListBegun, Item, InList}
 use Rattle.iri_template.proofs.VisitsEach.{HasHeardUpTo}
-use Rattle.iri_template.specs.declared.visitor.Phase.TheVariants.{InList}
 use Rattle.iri_template.proofs.visitor.Visitor.visit_list_direct.Given as goal
 
 -- the items before those that are left were told

@@ -1,6 +1,5 @@
-use Rattle.std.proofs.Common.{decimal, arith, sym, subst}
-use Rattle.std.specs.Str.{IsUtf8}
-use Rattle.std.proofs.lemmas.Str.{IsUtf8-from_ascii}
+use Rattle.iri_text.proofs.Common.{arith, sym, subst, IsUtf8, IsUtf8-from_ascii}
+use Rattle.std.proofs.Common.{decimal}
 use Rattle.std.proofs.lemmas.Str.Ascii.{IsAscii-cons}
 use Rattle.std.proofs.lemmas.Fmt.{IsAscii-decimal_wide}
 use Rattle.iri_text.proofs.Digits.{minus_shown}

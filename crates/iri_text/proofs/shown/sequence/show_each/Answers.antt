@@ -1,5 +1,4 @@
-use Rattle.std.proofs.Common.{subst}
-use Rattle.iri_text.specs.Shown.{Shows}
+use Rattle.iri_text.proofs.Common.{subst, Shows}
 use Rattle.iri_text.proofs.Compose.{shown_exit, flat_map_at}
 use Rattle.iri_text.proofs.shown.sequence.show_each.Goals as goal
 

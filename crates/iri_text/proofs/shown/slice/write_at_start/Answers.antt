@@ -1,5 +1,4 @@
-use Rattle.std.proofs.Common.{rules}
-use Rattle.std.proofs.lemmas.Str.{IsUtf8-had}
+use Rattle.iri_text.proofs.Common.{rules, IsUtf8-had}
 use Rattle.iri_text.proofs.shown.slice.write_at_start.Goals as goal
 
 pub returns-in-Ok-clause-utf8 : goal.returns-in-Ok-clause-utf8

@@ -1,5 +1,4 @@
-use Rattle.std.proofs.Common.{take, drop, subst, sym}
-use Rattle.std.specs.Prelude.{◌≤◌}
+use Rattle.std.proofs.Common.{take, drop, subst, sym, ◌≤◌}
 use Rattle.std.proofs.lemmas.Simd.{length-chunk}
 use Rattle.iri_text.proofs.LfBlocks.{block_within, first_delimiter, no_delimiter}
 use Rattle.iri_text.proofs.streams.reader.block_run.Goals as goal

@@ -1,6 +1,4 @@
-use Rattle.std.proofs.Common.{arith, ◌+◌, subst}
-use Rattle.std.proofs.lemmas.List.{take_all}
-use Rattle.iri_text.specs.Lines.{NoLf}
+use Rattle.iri_text.proofs.Common.{arith, ◌+◌, subst, take_all, NoLf}
 use Rattle.iri_text.proofs.Parts.{NoLf-take}
 use Rattle.iri_text.proofs.streams.reader.look_at.Goals as goal
 

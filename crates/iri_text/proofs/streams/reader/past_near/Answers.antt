@@ -1,5 +1,4 @@
-use Rattle.std.proofs.Common.{◌≡◌, ◌≤◌, ◌+◌, arith, length, subst, take}
-use Rattle.iri_text.specs.Lines.{NoLf}
+use Rattle.iri_text.proofs.Common.{◌≡◌, ◌≤◌, ◌+◌, arith, length, subst, take, NoLf}
 use Rattle.iri_text.proofs.LfBlocks.{passed}
 use Rattle.iri_text.proofs.streams.reader.past_near.Goals as goal
 

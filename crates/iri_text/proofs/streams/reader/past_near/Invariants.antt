@@ -1,5 +1,4 @@
-use Rattle.std.proofs.Common.{◌≤◌, ◌-◌, length, take}
-use Rattle.iri_text.specs.Lines.{NoLf}
+use Rattle.iri_text.proofs.Common.{◌≤◌, ◌-◌, length, take, NoLf}
 use Rattle.iri_text.proofs.streams.reader.past_near.Given as goal
 
 abbrev pub invariant-passed : goal.invariant-passed

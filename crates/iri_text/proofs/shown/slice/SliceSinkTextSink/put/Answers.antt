@@ -1,6 +1,4 @@
-use Rattle.std.proofs.Common.{sym, subst}
-use Rattle.std.specs.Str.{IsUtf8}
-use Rattle.std.proofs.lemmas.Str.{IsUtf8-append, IsUtf8-had}
+use Rattle.iri_text.proofs.Common.{sym, subst, IsUtf8, IsUtf8-append, IsUtf8-had}
 use Rattle.iri_text.proofs.shown.slice.SliceSinkTextSink.put.Goals as goal
 
 pub invariant_of-self-2-clause-utf8 : goal.invariant_of-self-2-clause-utf8

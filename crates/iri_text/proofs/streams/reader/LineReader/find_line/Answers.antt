@@ -1,14 +1,10 @@
-use Rattle.std.proofs.Common.{rules, ◌≡◌, ◌≤◌, ◌+◌, ◌-◌, ℕ, List, [], ◌∙◌, true, Ok, Err, inr, refl, sym, ap, subst, arith, slice_range}
-use Rattle.std.proofs.Common.{length, vec_capacity}
-use Rattle.iri_text.specs.declared.streams.reader.LineFault.TheVariants.{Source, LineTooLong, InputTooLong}
+use Rattle.iri_text.proofs.Common.{rules, ◌≡◌, ◌≤◌, ◌+◌, ◌-◌, ℕ, List, [], ◌∙◌, Ok, Err, inr, refl, sym, ap, subst, arith, slice_range}
+use Rattle.iri_text.proofs.Common.{length, Source, LineTooLong, InputTooLong, append-nil, NoLf, no_cr, Consumes, LineState}
+use Rattle.std.proofs.Common.{true, vec_capacity}
 use Rattle.iri_text.specs.View.{line_state}
 use Rattle.iri_text.specs.Reader.{done_by}
 use Rattle.iri_text.specs.Takings.{TakesWhileNoLf, NoCall, OneMore}
 use Rattle.iri_text.proofs.Moved.{more, still_at_end}
-use Rattle.std.proofs.lemmas.List.{append-nil}
-use Rattle.iri_text.specs.Lines.{NoLf, no_cr}
-use Rattle.iri_text.specs.Source.{Consumes}
-use Rattle.iri_text.specs.Line.{LineState}
 use Rattle.iri_text.proofs.Parts.{length-part, empty-part}
 use Rattle.iri_text.proofs.Steps.{answers, few, line_says, long_says, over_says, part-kept, next_sound, next_held, next_no_lf, kept_sound}
 use Rattle.iri_text.proofs.Steps.{part-prefix}

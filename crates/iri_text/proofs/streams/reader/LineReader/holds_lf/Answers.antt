@@ -1,6 +1,4 @@
-use Rattle.std.proofs.Common.{ap, subst, sym}
-use Rattle.iri_text.specs.Line.{LineState}
-use Rattle.iri_text.specs.Lines.{NoLf}
+use Rattle.iri_text.proofs.Common.{ap, subst, sym, LineState, NoLf}
 use Rattle.iri_text.proofs.Parts.{lf_told}
 use Rattle.iri_text.proofs.streams.reader.LineReader.holds_lf.Goals as goal
 
