@@ -33,9 +33,9 @@ function enumeration(header, name) {
     one.toLowerCase().replaceAll("_", "-").replace(/^(in|by|template)-/, ""), Number(number)]);
 }
 
-test("each call of the header but the run, which takes memory, and its numbers", () => {
+test("each call of the header but those that take memory, and its numbers", () => {
   const header = textOf("include/irikit.h"), code = textOf("web/irikit.mjs");
-  const calls = [...header.matchAll(/^uint\d+_t (irikit_\w+)\(/gm)].map(([, name]) => name).filter((name) => name !== "irikit_run");
+  const calls = [...header.matchAll(/^uint\d+_t (irikit_\w+)\(/gm)].map(([, name]) => name).filter((name) => !/^irikit_(run|robots_\w+)$/.test(name));
   assert.ok(calls.length > 20);
   for (const name of calls) assert.match(code, new RegExp(`\\.${name}\\b`));
   const tables = {
