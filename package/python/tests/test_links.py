@@ -156,7 +156,7 @@ class Many(unittest.TestCase):
         self.assertEqual(links.canonical_many(["%"] * 3), [None] * 3)
 
     def test_lines(self):
-        """docs/COMMANDS.md, canon: what a line is."""
+        """docs/COMMANDS.md, Input: what a line is."""
         links = Links("http://a/b")
         for lines, wanted in (
             (b"c\r\n\n%\n", b"ok http://a/c\nok http://a/b\nbad invalid path\n"), (b"", b""), (b"\n", b"ok http://a/b\n"),
