@@ -1,5 +1,6 @@
 //! Tests of `iri_text`, `iri_grammar`, `iri_types`, `iri_owned` and `iri_percent` over their public calls: sinks, sources, iterators, laws,
-//! refused memory. Rows of the standards are those of `iri_rows`. A crate with tests is proved twice, so they stand apart from the libraries.
+//! refused memory. Rows of the standards are those of `iri_text_rows`. A crate with tests is proved twice, so they stand apart from the
+//! libraries.
 #![tactic(auto)]
 
 #[cfg(test)]
