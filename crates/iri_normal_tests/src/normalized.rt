@@ -6,21 +6,21 @@ use iri_text::{Show, ToDedicatedString, ToStringFallible, write_to_slice};
 use iri_types::view::{RiAbsoluteStr, RiReferenceStr, RiRelativeStr, RiStr};
 use std::test::Fail;
 
-fn base<S: Spec>(text: &str) -> Result<RiAbsoluteStr<'_, S>, Fail> {
+pub(crate) fn base<S: Spec>(text: &str) -> Result<RiAbsoluteStr<'_, S>, Fail> {
     match RiAbsoluteStr::new(text) {
         Ok(view) => Ok(view),
         Err(_) => Err("a valid base is refused")?,
     }
 }
 
-fn reference<S: Spec>(text: &str) -> Result<RiReferenceStr<'_, S>, Fail> {
+pub(crate) fn reference<S: Spec>(text: &str) -> Result<RiReferenceStr<'_, S>, Fail> {
     match RiReferenceStr::new(text) {
         Ok(view) => Ok(view),
         Err(_) => Err("a valid reference is refused")?,
     }
 }
 
-fn iri<S: Spec>(text: &str) -> Result<RiStr<'_, S>, Fail> {
+pub(crate) fn iri<S: Spec>(text: &str) -> Result<RiStr<'_, S>, Fail> {
     match RiStr::new(text) {
         Ok(view) => Ok(view),
         Err(_) => Err("a valid IRI is refused")?,
