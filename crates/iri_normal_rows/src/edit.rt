@@ -9,7 +9,7 @@ use iri_edit::shown_removal::without_password;
 use iri_grammar::spec::Spec;
 use iri_owned::error::CreateError;
 use iri_owned::owned::{Owned, UriString};
-use iri_rows::answer::{displayed, spaced};
+use iri_rows::answer::displayed;
 use iri_rows::error::RowError;
 use iri_rows::field::Field;
 use iri_rows::{in_grammar, in_kind};
@@ -72,8 +72,7 @@ fn after_host<S: Spec, K: WholeKind>(
     if is_put {
         return Ok(text.into_string());
     }
-    let text = text.as_str();
-    Ok(spaced(alloc, &["kept", text])?)
+    Ok(format!(in alloc; "kept {}", text.as_str())?)
 }
 
 // `host GRAMMAR KIND TEXT HOST`: the text with another host, which the call gives back.
