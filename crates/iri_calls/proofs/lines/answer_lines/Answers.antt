@@ -1,4 +1,4 @@
-use Rattle.iri_calls.proofs.Common.{arith, ap, ◌∙◌, sym, subst, base_text, answer_in, ended, line_answer, batch}
+use Rattle.iri_calls.proofs.Common.{◌+◌, ◌<◌, length, arith, ap, ◌∙◌, sym, subst, base_text, answer_in, ended, line_answer, batch}
 use Rattle.std.proofs.Common.{rules}
 use Rattle.iri_calls.specs.inside.BufferText.{BufferPuts, BufferHalts}
 use Rattle.iri_calls.proofs.LineLemmas.{Going, going_init, going_end, going_end-bytes, going_short, going_short-bytes, going_next}
@@ -26,7 +26,8 @@ returns-in-Err g c =
     let line = c.in-Some in
     let h = subst (λ t. BufferHalts l.sink (answer_in g.S.Spec.tests c.args.mode (base_text c.args.resolver.now) t) c.show.new.sink)
     c.without_cr-line.ensures c.in-Err.ensures.stops_within in
-    let long = omega (arith, h.room, h.long, l.invariant.len, l.invariant.width) in
+    let long : length c.args.sink.now.buf.now < l.written + length (f line.raw.now) =
+    omega (arith, h.room, h.long, l.invariant.len, l.invariant.width) in
     record {
       same = search rules;
       batch = going_short f c.args.input.now c.args.sink.now l.rest.now l.written l.sink l.invariant line.raw.now line.after.now line.ensures.0 long
@@ -42,7 +43,8 @@ returns-then-count-room g c =
     let line = c.in-Some in
     let p = subst (λ t. BufferPuts l.sink (answer_in g.S.Spec.tests c.args.mode (base_text c.args.resolver.now) t) c.show.new.sink)
     c.without_cr-line.ensures c.in-Ok.ensures.appends in
-    let long = omega (arith, p.len, c.count-count.ensures, c.if-count-room.true, c.requires.room, l.invariant.len) in
+    let long : length c.args.sink.now.buf.now < l.written + length (f line.raw.now) =
+    omega (arith, p.len, c.count-count.ensures, c.if-count-room.true, c.requires.room, l.invariant.len) in
     record {
       same = search rules;
       batch = going_short f c.args.input.now c.args.sink.now l.rest.now l.written l.sink l.invariant line.raw.now line.after.now line.ensures.0 long
