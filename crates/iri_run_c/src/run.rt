@@ -1,7 +1,8 @@
 // The program's commands.
 ghost use Rattle.std.specs.Prelude.{◌≡◌};
+ghost use Rattle.iri_grammar.specs.Blanks.{space};
 ghost use Rattle.iri_grammar.specs.Pieces.{pieces};
-ghost use Rattle.iri_run_calls.specs.Told.{space, RunTold, TakesMemory};
+ghost use Rattle.iri_run_calls.specs.Told.{RunTold, TakesMemory};
 
 use std::alloc::Global;
 
