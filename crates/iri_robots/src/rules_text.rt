@@ -55,7 +55,7 @@ pub(crate) fn push_rules(lines: &mut String, rules: RulesLeft<'_>) -> Result<(),
 ///
 /// ```
 /// use iri::robots::rule_lines;
-/// let file = b"User-agent: *\nDisallow: /\n\nUser-agent: ExampleBot\nAllow: /ツ # all\n";
+/// let file = "User-agent: *\nDisallow: /\n\nUser-agent: ExampleBot\nAllow: /ツ # all\n".as_bytes();
 /// assert_eq!(rt; rule_lines(rt.alloc(), "examplebot", file)?.as_str(), "allow /%E3%83%84\n");
 /// ```
 pub fn rule_lines(alloc: Global, token: &str, file: &[u8]) -> Result<Text, RobotsError>
