@@ -537,21 +537,21 @@ uint8_t irikit_robots_allows(uint32_t grammar, const char *rules, size_t rules_l
 
 /* ---- Run ---- */
 
-/* What the program's run comes to. */
+/* The statuses of a run of the program. */
 enum irikit_run_status {
     IRIKIT_RUN_OK = 0,            /* the input was read to its end, and every answer is `ok` */
     IRIKIT_RUN_BAD_ANSWER = 1,    /* the input was read to its end, and an answer isn't `ok` */
     IRIKIT_RUN_NO_COMMAND = 2,    /* the words are no command */
     IRIKIT_RUN_BAD_BASE = 3,      /* the base, or what stands in its place, is refused */
     IRIKIT_RUN_SHORT = 5,         /* the output has no room: what was written is a prefix of it */
-    IRIKIT_RUN_MEMORY = 6,        /* allocation failed; never of words that are no command, of --help and of --version */
+    IRIKIT_RUN_MEMORY = 6,        /* allocation failed; never of words that are no command, of `--help` and of `--version` */
     IRIKIT_RUN_LONG_LINE = 7,     /* a line has more than 1,048,576 bytes */
     IRIKIT_RUN_LONG_INPUT = 8     /* the input has more than 1,073,741,824 bytes */
 };
 
-/* What the program `irikit` does with words and an input: canon, expand, register, links, docs, robots, gen, --help,
- * --version. It takes memory, and has given all of it back when it returns. It looks at the words first: those that are no command,
- * --help and --version take none.
+/* What the program `irikit` does with words and an input: canon, expand, register, links, docs, robots, gen, `--help`,
+ * `--version`. It takes memory, and has given all of it back when it returns. It looks at the words first: those that are no command,
+ * `--help` and `--version` take none.
  *
  * Takes: the words with one space between each two; the input; a buffer.
  * Writes: the output over the start of `out`; its length to `*told`, whatever the status is.

@@ -79,6 +79,16 @@ export class Refused extends Error {
   readonly place: number | null;
 }
 
+/** What has the module's bytes, as a `Response` and a `Blob` have them. */
+export interface HasBytes {
+  arrayBuffer(): Promise<ArrayBuffer>;
+}
+
+export type Source = ArrayBuffer | ArrayBufferView | HasBytes;
+
+/** Opens the library: from `irikit.wasm` beside this file, or from its bytes or what has them. */
+export function open(source?: Source | Promise<Source>): Promise<Kit>;
+
 /**
  * The library. A kit serves one call after the other, and keeps nothing but the last base or what else came first. A text for which
  * the engine gives no memory is a `RangeError`, and the next call is served as before.
@@ -200,7 +210,7 @@ export class Kit {
   replaceHost(text: Text, host: Text, grammar?: Grammar): string;
 
   /**
-   * The same of a registered name alone.
+   * A reference with this host in place of a registered name: `replaceHost`, but that an IP address stays.
    * @throws {Refused} as `replaceHost`, and where the reference's host is an IP literal or an IPv4 address
    */
   replaceRegName(text: Text, host: Text, grammar?: Grammar): string;
@@ -247,13 +257,3 @@ export class Kit {
   /** The words for a kind of fault of a template. */
   templateFaultWords(fault: TemplateFault): string;
 }
-
-/** What has the module's bytes, as a `Response` and a `Blob` have them. */
-export interface HasBytes {
-  arrayBuffer(): Promise<ArrayBuffer>;
-}
-
-export type Source = ArrayBuffer | ArrayBufferView | HasBytes;
-
-/** Opens the library: from `irikit.wasm` beside this file, or from its bytes or what has them. */
-export function open(source?: Source | Promise<Source>): Promise<Kit>;
