@@ -38,7 +38,7 @@ function showBase(field, place, write) {
   return true;
 }
 
-// What is shown of a link that isn't refused, and which earlier line comes to the same.
+// What is shown of a link that isn't refused, and which earlier line has the same canonical text.
 function good(answered, same) {
   const { link, text, parts, from, steps } = answered, { told, places } = replay(from, steps ?? [], steps ? inherited(link) : []);
   const notes = phrases(told);
@@ -80,7 +80,7 @@ function stand(list, i, key, make) {
   standing[i] = { key, made };
 }
 
-// What a list comes to, in words.
+// The counts of a list, in words.
 function tallied(count, different, refusals) {
   const links = count - refusals, refusedToo = refusals ? `, ${refusals} refused` : "";
   return `${links} link${links === 1 ? "" : "s"}, ${different} different${refusedToo}`;

@@ -19,7 +19,7 @@ function hrefOf(link, base) {
   }
 }
 
-// How a link that is refused comes to be one.
+// How a link that is refused becomes a valid one.
 function mendedBy(link, refusal, href) {
   const piece = refusal.range === null ? "" : link.slice(...refusal.range);
   if (/^[\0- ]/.test(piece) && (refusal.range[0] === 0 || /^[\0- ]*$/.test(link.slice(refusal.range[0])))) {
@@ -77,7 +77,7 @@ function octetsReason(name, ours, theirs, from) {
   return `writes ${written} for “${character}” in ${name === "userinfo" ? name : `a ${name}`}`;
 }
 
-// How a part comes to be another than that of the canonical text.
+// Why a part differs from that of the canonical text.
 function reasonOf(name, { parts, from }, { [name]: theirs = "" }, octetsOf) {
   const ours = parts[name] ?? "", isSpecial = SPECIAL.test(parts.scheme);
   if (name === "port") return PORTS[parts.scheme] === ours ? "drops the scheme’s default port" : "reads the port as a number";

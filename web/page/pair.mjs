@@ -1,4 +1,4 @@
-// Two links, whether they are one, and how each comes to its canonical text.
+// Two links, whether they are one, and how each becomes its canonical text.
 import { browserAnswer } from "./browser.mjs";
 import { foldedParts } from "./parts.mjs";
 import { answer, octetsOf } from "./reading.mjs";

@@ -55,7 +55,7 @@ function baseRefusal(text) {
   return fault === null ? null : refusal(text, fault, grammar === "iri" ? "an absolute IRI" : "an absolute URI");
 }
 
-// What a link comes to: its canonical text, its target and the steps from that to it, all of them in parts too; or why it is refused.
+// The result for a link: its canonical text, its target and the steps from that to it, all of them in parts too; or why it is refused.
 // Of a very long one the text stands for the target too, and the steps are null. The base is one.
 function answer(base, link) {
   return unlessRefused(() => {
@@ -66,7 +66,7 @@ function answer(base, link) {
   }, ({ fault }) => ({ link, refusal: notReference(link, fault) }));
 }
 
-// What a template comes to with values by name: its expansion, and the names that have no value; or why it is refused.
+// The result of a template with values by name: its expansion, and the names that have no value; or why it is refused.
 function expand(template, values) {
   return unlessRefused(() => {
     const names = [...new Set(kit.templateVariables(template))];

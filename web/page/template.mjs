@@ -22,7 +22,7 @@ function readVariables(text) {
   return { values };
 }
 
-// What a template comes to: its expansion and, on a page whose address is a base, the canonical text of that.
+// The result of a template: its expansion and, on a page whose address is a base, the canonical text of that.
 function shown(base, { text, lacking }) {
   const stations = [["expanded", element("div", "text", ...shownText(text))]];
   if (base !== null) {

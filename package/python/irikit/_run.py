@@ -4,7 +4,7 @@ from __future__ import annotations
 from ._library import declared, room, size_t
 from ._texts import Text, bytes_of
 
-# What a run comes to where an answer isn't `ok`, and where the output has no room; and the limits of a line and of the input.
+# The statuses of a run with an answer that isn't `ok`, and of one whose output has no room; and the limits of a line and of the input.
 BAD_ANSWER, SHORT = 1, 5
 LINE, INPUT = 1_048_576, 1_073_741_824
 

@@ -2,7 +2,7 @@
 use crate::ffi;
 use crate::grammar::at;
 
-/// What a run of the program comes to: its status.
+/// The status of a run of the program.
 #[derive(Debug, Clone, Copy, PartialEq, Eq, Hash)]
 #[non_exhaustive]
 pub enum Status {
