@@ -8,6 +8,12 @@ use std::fmt;
 
 /// Why a line is no document, in the order in which the faults are looked for. It is displayed in the words that answer
 /// the line.
+///
+/// ```
+/// use iri::docs::{DocError, read_document};
+/// let read = read_document(rt.alloc(), b"{\"template\":\"/{q}\",\"vars\":{\"q\":1.5}}");
+/// assert!(rt; matches!(read, Err(DocError::Float)));
+/// ```
 #[derive(Clone, Copy, Debug, PartialEq, Eq)]
 pub enum DocError {
     /// The line isn't UTF-8, or `serde_json` has no reading of it.

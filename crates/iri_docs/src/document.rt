@@ -6,6 +6,12 @@ ghost use Rattle.iri_docs.specs.Held.{held};
 use iri_template::simple_context::SimpleContext;
 
 /// A text that is to be a template, and values of its variables.
+///
+/// ```
+/// use iri::docs::read_document;
+/// let document = read_document(rt.alloc(), b"{\"template\":\"/{q}\",\"vars\":{\"q\":7}}")?;
+/// assert_eq!(rt; document.template(), "/{q}");
+/// ```
 #[derive(Debug, Drop)]
 pub struct Document {
     pub(crate) template: String,

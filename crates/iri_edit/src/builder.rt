@@ -47,6 +47,18 @@ pub struct Builder<'a> {
 }
 
 /// Why no text was built.
+///
+/// ```
+/// use iri::build::{BuildError, Builder};
+/// use iri::spec::UriSpec;
+/// use iri::validate::ErrorKind;
+/// let mut parts = Builder::new();
+/// parts.scheme("1a");
+/// match parts.build_iri::<UriSpec>(rt.alloc()) {
+///     Err(BuildError::Invalid(error)) => assert_eq!(rt; error.kind(), ErrorKind::InvalidScheme),
+///     _ => assert!(rt; false),
+/// }
+/// ```
 #[derive(Debug, Drop, thiserror::Error)]
 pub enum BuildError {
     /// The parts make no text of the kind: the first fault.

@@ -19,6 +19,13 @@ use std::marker::PhantomData;
 
 /// A view that is shown without its password: what is in the userinfo after its first `:` is left out (RFC 3986
 /// sections 3.2.1 and 7.5). It has no `Debug`, so that none shows the password.
+///
+/// ```
+/// use iri::edit::MaskPassword;
+/// use iri::types::UriStr;
+/// let masked = UriStr::new("http://me:secret@h/")?.mask_password();
+/// assert_eq!(rt; format!(in rt.alloc(); "fetching {masked}")?.as_str(), "fetching http://me:@h/");
+/// ```
 #[derive(Clone, Copy)]
 pub struct PasswordMasked<'a, V> {
     view: V,

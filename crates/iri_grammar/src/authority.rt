@@ -23,6 +23,14 @@ use memchr::memrchr;
 use std::str;
 
 /// The parts of an authority, as slices of its text (RFC 3986 section 3.2).
+///
+/// ```
+/// use iri::components::AuthoritySpan;
+/// let span = AuthoritySpan::cut("me@h:8");
+/// assert_eq!(rt; span.userinfo(), Some("me"));
+/// assert_eq!(rt; span.host(), "h");
+/// assert_eq!(rt; span.port(), Some("8"));
+/// ```
 #[derive(Clone, Copy, Debug)]
 pub struct AuthoritySpan<'a> {
     userinfo: Option<&'a str>,

@@ -31,6 +31,16 @@ use std::alloc::AllocError;
 use std::str;
 
 /// The five parts of a reference, as slices of its text (RFC 3986 section 3).
+///
+/// ```
+/// use iri::components::Splitter;
+/// use iri::spec::UriSpec;
+/// let parts = Splitter::new::<UriSpec>("//a:8/b?c")?;
+/// assert_eq!(rt; parts.authority(), Some("a:8"));
+/// assert_eq!(rt; parts.path(), "/b");
+/// assert_eq!(rt; parts.query(), Some("c"));
+/// assert_eq!(rt; parts.fragment(), None);
+/// ```
 #[derive(Debug)]
 pub struct Splitter<'a> {
     scheme: Option<&'a str>,

@@ -56,6 +56,14 @@ impl fmt::Display for LinkKind {
 }
 
 /// Why the value of a `Link` field is refused.
+///
+/// ```
+/// use iri::link::{LinkError, LinkKind, read_links};
+/// use iri::types::UriAbsoluteStr;
+/// let page = UriAbsoluteStr::new("http://a/")?;
+/// let read = read_links(rt.alloc(), page, b"<a> b");
+/// assert!(rt; matches!(read, Err(LinkError::Fault(LinkKind::NoParam, 4))));
+/// ```
 #[derive(Clone, Copy, Debug, PartialEq, Eq)]
 pub enum LinkError {
     /// The first fault from the left, and how many bytes stand before it.

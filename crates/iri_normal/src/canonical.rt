@@ -23,6 +23,13 @@ use std::alloc::Global;
 use thiserror::Error;
 
 /// Why there is no canonical text.
+///
+/// ```
+/// use iri::normalize::{CanonError, canonicalize};
+/// use iri::spec::UriSpec;
+/// assert!(rt; matches!(canonicalize::<UriSpec>(rt.alloc(), b"a/b", b"c"), Err(CanonError::BadBase(_))));
+/// assert!(rt; matches!(canonicalize::<UriSpec>(rt.alloc(), b"http://a/", b"%"), Err(CanonError::BadReference(_))));
+/// ```
 #[derive(Debug, Drop, Error)]
 pub enum CanonError {
     /// The base isn't UTF-8 or no absolute URI: its first fault.

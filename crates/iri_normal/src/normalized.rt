@@ -51,6 +51,13 @@ pub struct NormalizedText<'a, S: Spec, K: NormalKind> {
 pub type Normalized<'a, S> = NormalizedText<'a, S, Iri>;
 
 /// The same, as an `absolute-URI` of `S`.
+///
+/// ```
+/// use iri::prelude::{Normalize, ToDedicatedString};
+/// use iri::types::UriAbsoluteStr;
+/// let base = UriAbsoluteStr::new("HTTP://A/%7e")?.normalize();
+/// assert_eq!(rt; base.try_to_dedicated_string(rt.alloc())?.as_str(), "http://a/~");
+/// ```
 pub type NormalizedAbsolute<'a, S> = NormalizedText<'a, S, Absolute>;
 
 impl<S: Spec, K: NormalKind> Clone for NormalizedText<'_, S, K> {

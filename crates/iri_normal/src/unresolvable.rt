@@ -6,6 +6,14 @@ use std::fmt;
 /// There is no authority, and the path without its dot segments begins with two slashes, so that one would be read from
 /// it (RFC 3986 section 3.3). A normal form there is has `/.` before the path. A base's path that is taken whole is
 /// never refused so, since none of its dot segments is removed.
+///
+/// ```
+/// use iri::prelude::Normalize;
+/// use iri::types::UriStr;
+/// let link = UriStr::new("web+demo:/.//not-a-host/")?;
+/// let error = link.ensure_rfc3986_normalizable().err().ok_or("a fault")?;
+/// assert_eq!(rt; format!(in rt.alloc(); "{error}")?.as_str(), "unresolvable IRI");
+/// ```
 #[derive(Clone, Debug, Drop)]
 pub struct Unresolvable;
 

@@ -8,6 +8,11 @@ use std::fmt;
 use thiserror::Error;
 
 /// Why no owned text was made of a borrowed one.
+///
+/// ```
+/// use iri::types::{CreateError, UriString};
+/// assert!(rt; matches!(UriString::try_from_str(rt.alloc(), "a/b"), Err(CreateError::Invalid(_))));
+/// ```
 #[derive(Debug, Drop, Error)]
 pub enum CreateError {
     /// The text isn't in its production.

@@ -26,6 +26,12 @@ pub struct PercentDecodedWhatwgBytes<'a> {
 }
 
 /// Why decoded bytes are no string.
+///
+/// ```
+/// use iri::percent_encode::decode::{DecodeTextError, decode_whatwg_bytes};
+/// let decoded = decode_whatwg_bytes(b"%FF").into_string(rt.alloc());
+/// assert!(rt; matches!(decoded, Err(DecodeTextError::NotUtf8(_))));
+/// ```
 #[derive(Debug, Drop, Error)]
 pub enum DecodeTextError {
     /// The decoded bytes, which aren't UTF-8.

@@ -11,6 +11,14 @@ use crate::octets::first_octet;
 use memchr::memchr;
 
 /// A fragment of a text that is decoded.
+///
+/// ```
+/// use iri::percent_encode::decode::{DecodedFragment, decode_whatwg_bytes};
+/// let mut pieces = decode_whatwg_bytes(b"a%41%").bytes_fragments();
+/// assert_eq!(rt; pieces.next(), Some(DecodedFragment::Direct(b"a".as_slice())));
+/// assert_eq!(rt; pieces.next(), Some(DecodedFragment::DecodedByte(65)));
+/// assert_eq!(rt; pieces.next(), Some(DecodedFragment::StrayPercent));
+/// ```
 #[derive(Clone, Copy, Debug, PartialEq, Eq, Hash)]
 pub enum DecodedFragment<'a> {
     /// A run of bytes without `%`, as long as it can be.
@@ -23,6 +31,13 @@ pub enum DecodedFragment<'a> {
 
 /// The fragments of a text, from the left. Joined, they are the decoded bytes: the bytes of each run, the byte of each
 /// percent-encoded octet, and `%` for each stray one.
+///
+/// ```
+/// use iri::percent_encode::decode::decode_whatwg_bytes;
+/// let mut pieces = decode_whatwg_bytes(b"a%41").bytes_fragments();
+/// assert!(rt; pieces.next().is_some());
+/// assert_eq!(rt; pieces.not_yet_decoded(), b"%41".as_slice());
+/// ```
 #[derive(Clone, Debug, Drop)]
 pub struct PercentDecodedBytesFragments<'a> {
     rest: &'a [u8],

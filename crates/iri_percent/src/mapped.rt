@@ -20,6 +20,14 @@ use std::marker::PhantomData;
 /// A view that shows itself mapped to a URI (RFC 3987 section 3.1): each character past ASCII is written as the
 /// percent-encoded octets of its UTF-8, with capital hex digits; the rest stays. `V` is a view of any kind and any
 /// grammar.
+///
+/// ```
+/// use iri::convert::MappedToUri;
+/// use iri::format::ToDedicatedString;
+/// use iri::types::IriReferenceStr;
+/// let shown = MappedToUri::of(IriReferenceStr::new("/rosé")?);
+/// assert_eq!(rt; shown.try_to_dedicated_string(rt.alloc())?.as_str(), "/ros%C3%A9");
+/// ```
 #[derive(Clone, Copy, Debug)]
 pub struct MappedToUri<'a, V> {
     view: V,

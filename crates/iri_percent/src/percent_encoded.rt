@@ -34,9 +34,23 @@ pub struct PercentEncoded<T, S> {
 }
 
 /// A raw value that is encoded for a URI.
+///
+/// ```
+/// use iri::format::ToStringFallible;
+/// use iri::percent_encode::PercentEncodedForUri;
+/// let value = PercentEncodedForUri::unreserve("50% off/é");
+/// assert_eq!(rt; value.try_to_string(rt.alloc())?.as_str(), "50%25%20off%2F%C3%A9");
+/// ```
 pub type PercentEncodedForUri<T> = PercentEncoded<T, UriSpec>;
 
 /// A raw value that is encoded for an IRI.
+///
+/// ```
+/// use iri::format::ToStringFallible;
+/// use iri::percent_encode::PercentEncodedForIri;
+/// let value = PercentEncodedForIri::unreserve("50% off/é");
+/// assert_eq!(rt; value.try_to_string(rt.alloc())?.as_str(), "50%25%20off%2Fé");
+/// ```
 pub type PercentEncodedForIri<T> = PercentEncoded<T, IriSpec>;
 
 impl<T: Show, S: Spec> PercentEncoded<T, S> {

@@ -18,6 +18,17 @@ use std::alloc::{AllocError, Global};
 use thiserror::Error;
 
 /// Why steps can't be replayed.
+///
+/// ```
+/// use iri::resolve::FixedBaseResolver;
+/// use iri::steps::{ReplayError, Step, StepList, replay};
+/// use iri::types::{UriAbsoluteStr, UriReferenceStr};
+/// let page = FixedBaseResolver::new(UriAbsoluteStr::new("http://a/b")?);
+/// let target = page.target(rt.alloc(), UriReferenceStr::new("/g")?)?;
+/// let mut steps = StepList::new(rt.alloc());
+/// steps.push(Step::EmptyPort)?;
+/// assert!(rt; matches!(replay(rt.alloc(), &target, &steps), Err(ReplayError::Illegal(0))));
+/// ```
 #[derive(Debug, Drop, Error)]
 pub enum ReplayError {
     /// The step of this number, from 0 on, is the first that is no step from the parts reached.

@@ -14,6 +14,11 @@ pub enum Part {
 }
 
 /// A step. Positions count the bytes of the part's text.
+///
+/// ```
+/// use iri::steps::{Part, Step};
+/// assert_eq!(rt; format!(in rt.alloc(); "{}", Step::Decode(Part::Path, 1))?.as_str(), "decode path 1");
+/// ```
 #[derive(Clone, Copy, Debug, PartialEq, Eq)]
 pub enum Step {
     /// The capital at this place of the scheme becomes small.

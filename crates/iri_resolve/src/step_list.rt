@@ -6,6 +6,14 @@ use std::alloc::{AllocError, Global};
 use std::marker::Model;
 
 /// A list of steps, seen as that list.
+///
+/// ```
+/// use iri::steps::{Part, Step, StepList};
+/// let mut steps = StepList::new(rt.alloc());
+/// steps.push(Step::HexDigit(Part::Query, 2))?;
+/// assert_eq!(rt; steps.len(), 1);
+/// assert!(rt; matches!(steps.get(0), Some(Step::HexDigit(Part::Query, 2))));
+/// ```
 #[derive(Debug, Drop)]
 pub struct StepList {
     steps: Vec<Step>,

@@ -15,6 +15,11 @@ use std::alloc::{AllocError, Global};
 use thiserror::Error;
 
 /// Why there are no rules.
+///
+/// ```
+/// use iri::robots::{Robots, RobotsError};
+/// assert!(rt; matches!(Robots::new(rt.alloc(), "Bot/1.0"), Err(RobotsError::Token)));
+/// ```
 #[derive(Debug, Drop, Error)]
 pub enum RobotsError {
     /// The product token isn't one or more ASCII letters, `_` and `-`.

@@ -8,6 +8,11 @@ use std::fmt;
 use thiserror::Error as ThisError;
 
 /// Why no owned template was made of a borrowed text.
+///
+/// ```
+/// use iri::template::{CreateTemplateError, UriTemplateString};
+/// assert!(rt; matches!(UriTemplateString::try_from_str(rt.alloc(), "/{q"), Err(CreateTemplateError::Invalid(_))));
+/// ```
 #[derive(Debug, Drop, ThisError)]
 pub enum CreateTemplateError {
     /// The text is no template.
@@ -19,6 +24,14 @@ pub enum CreateTemplateError {
 }
 
 /// Why no owned template was made of another text, which it hands back.
+///
+/// ```
+/// use iri::template::UriTemplateString;
+/// let text = String::from_str(rt.alloc(), "/{q")?;
+/// let error = UriTemplateString::try_from_string(text).err().ok_or("a fault")?;
+/// assert_eq!(rt; error.validation_error().location(), 1);
+/// assert_eq!(rt; error.into_source().as_str(), "/{q");
+/// ```
 #[derive(Debug, Drop)]
 pub struct CreationError<T> {
     pub(crate) source: T,

@@ -6,6 +6,11 @@ ghost use Rattle.iri_template.specs.inside.InMemory.{in_memory};
 use std::fmt;
 
 /// What is wrong with a template, or with its expansion.
+///
+/// ```
+/// use iri::template::ErrorKind;
+/// assert_eq!(rt; ErrorKind::ExpressionNotClosed.description(), "expression not closed");
+/// ```
 #[derive(Clone, Copy, Debug, PartialEq, Eq)]
 pub enum ErrorKind {
     /// The sink that an expansion is written to stopped.
@@ -48,6 +53,13 @@ impl ErrorKind {
 }
 
 /// Why a template is refused, and where: the first fault, read from the left.
+///
+/// ```
+/// use iri::template::{ErrorKind, UriTemplateStr};
+/// let error = UriTemplateStr::new("/search{?q").err().ok_or("a fault")?;
+/// assert_eq!(rt; error.kind(), ErrorKind::ExpressionNotClosed);
+/// assert_eq!(rt; error.location(), 7);
+/// ```
 #[derive(Clone, Copy, Debug, PartialEq, Eq)]
 pub struct Error {
     pub(crate) kind: ErrorKind,

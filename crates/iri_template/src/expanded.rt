@@ -60,6 +60,15 @@ impl<S, C: Context> Clone for Expanded<'_, S, C> {
 impl<S, C: Context> Copy for Expanded<'_, S, C> {}
 
 /// Why an expansion was made no owned text of its kind.
+///
+/// ```
+/// use iri::spec::UriSpec;
+/// use iri::template::simple_context::SimpleContext;
+/// use iri::template::{ExpandedError, UriTemplateStr};
+/// let values = SimpleContext::new(rt.alloc());
+/// let expanded = UriTemplateStr::new("1a:b")?.expand::<UriSpec, SimpleContext>(&values)?;
+/// assert!(rt; matches!(expanded.try_into_reference(rt.alloc()), Err(ExpandedError::Invalid(_))));
+/// ```
 #[derive(Debug, Drop, thiserror::Error)]
 pub enum ExpandedError {
     /// It isn't in the production of that kind. It is handed out.

@@ -151,6 +151,20 @@ impl PairList {
 }
 
 /// The value of a variable (RFC 6570 section 2.3).
+///
+/// ```
+/// use iri::format::ToStringFallible;
+/// use iri::spec::UriSpec;
+/// use iri::template::UriTemplateStr;
+/// use iri::template::simple_context::{SimpleContext, TextList, Value};
+/// let mut labels = TextList::new(rt.alloc());
+/// assert!(rt; labels.push(String::from_str(rt.alloc(), "bug")?).is_ok());
+/// let mut values = SimpleContext::new(rt.alloc());
+/// let name = String::from_str(rt.alloc(), "labels")?;
+/// assert!(rt; values.insert(name, Value::List(labels)).is_ok());
+/// let expanded = UriTemplateStr::new("/issues{?labels*}")?.expand::<UriSpec, SimpleContext>(&values)?;
+/// assert_eq!(rt; expanded.try_to_string(rt.alloc())?.as_str(), "/issues?labels=bug");
+/// ```
 #[derive(Debug, Drop)]
 pub enum Value {
     /// None.

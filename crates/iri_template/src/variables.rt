@@ -12,6 +12,14 @@ use crate::varspec::read_first;
 use std::alloc::AllocError;
 
 /// The names of a template's variables, from left to right, each as often as it stands there.
+///
+/// ```
+/// use iri::template::UriTemplateStr;
+/// let mut names = UriTemplateStr::new("/{owner}{?q}")?.variables();
+/// assert_eq!(rt; names.next().ok_or("a name")?.as_str(), "owner");
+/// assert_eq!(rt; names.next().ok_or("a name")?.as_str(), "q");
+/// assert!(rt; names.next().is_none());
+/// ```
 #[derive(Debug, Drop)]
 pub struct UriTemplateVariables<'a> {
     // What is left of an expression.
