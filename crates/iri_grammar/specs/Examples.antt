@@ -1,5 +1,5 @@
 -- Worked examples of RFC 3986, computed.
-use Rattle.std.specs.Prelude.{◌≡◌, [], Some, None, codes, refl}
+use Rattle.std.specs.Prelude.{◌≡◌, ℕ, List, Option, [], Some, None, codes, refl}
 use lib.Utf8.{encode}
 use Rattle.std.specs.Str.{chars, is_utf8}
 use Rattle.iri_grammar.specs.Classes.{uri_tests, userinfo_char, reg_name_char, path_char, query_char, fragment_char, is_ascii_userinfo}
@@ -8,101 +8,52 @@ use Rattle.iri_grammar.specs.Over.{over_from}
 use Rattle.iri_grammar.specs.Components.{is_letter, is_scheme_char}
 use Rattle.iri_grammar.specs.Ipv6.{is_group}
 use Rattle.iri_grammar.specs.Authority.{authority_parts}
-use Rattle.iri_grammar.specs.Parts.{recompose}
+use Rattle.iri_grammar.specs.Parts.{Parts, recompose}
 use Rattle.iri_grammar.specs.Split.{split_of, relative_split_of}
 use Rattle.iri_grammar.specs.WholeFault.{fault_before_fragment, parts_fault, reference_fault, iri_fault, absolute_fault, relative_fault}
 use Rattle.iri_grammar.specs.declared.error.ErrorKind.TheVariants.{InvalidScheme, InvalidUserInfo, InvalidHost, InvalidPath, InvalidQuery}
 use Rattle.iri_grammar.specs.declared.error.ErrorKind.TheVariants.{InvalidFragment, UnexpectedFragment, UnexpectedRelative}
 
 -- ---- the parts
+abbrev five : (scheme authority : Option (List ℕ)) (path : List ℕ) (query fragment : Option (List ℕ)) → Parts
+five scheme authority path query fragment =
+    record { scheme = scheme; authority = authority; path = path; query = query; fragment = fragment }
+
 -- the two URIs of section 3
 two_uris :
-    (split_of (codes "foo://example.com:8042/over/there?name=ferret#nose")
-    ≡ record {
-      scheme = Some (codes "foo");
-      authority = Some (codes "example.com:8042");
-      path = codes "/over/there";
-      query = Some (codes "name=ferret");
-      fragment = Some (codes "nose");
-    })
-    × (split_of (codes "urn:example:animal:ferret:nose")
-    ≡ record {
-      scheme = Some (codes "urn");
-      authority = None;
-      path = codes "example:animal:ferret:nose";
-      query = None;
-      fragment = None;
-    })
+    (split_of (codes "foo://example.com:8042/over/there?name=ferret#nose") ≡ five (Some (codes "foo")) (Some (codes "example.com:8042")) (codes "/over/there") (Some (codes "name=ferret")) (Some (codes "nose")))
+    × (split_of (codes "urn:example:animal:ferret:nose") ≡ five (Some (codes "urn")) None (codes "example:animal:ferret:nose") None None)
 unfolding split_of is_letter is_scheme_char
 two_uris = (refl, refl)
 
 -- URIs of section 1.1.2
 example_uris :
-    (split_of (codes "ftp://ftp.is.co.za/rfc/rfc1808.txt")
-    ≡ record {
-      scheme = Some (codes "ftp");
-      authority = Some (codes "ftp.is.co.za");
-      path = codes "/rfc/rfc1808.txt";
-      query = None;
-      fragment = None;
-    })
-    × (split_of (codes "ldap://[2001:db8::7]/c=GB?objectClass?one")
-    ≡ record {
-      scheme = Some (codes "ldap");
-      authority = Some (codes "[2001:db8::7]");
-      path = codes "/c=GB";
-      query = Some (codes "objectClass?one");
-      fragment = None;
-    })
-    × (split_of (codes "mailto:John.Doe@example.com")
-    ≡ record { scheme = Some (codes "mailto"); authority = None; path = codes "John.Doe@example.com"; query = None; fragment = None })
-    × (split_of (codes "telnet://192.0.2.16:80/") ≡ record {
-      scheme = Some (codes "telnet");
-      authority = Some (codes "192.0.2.16:80");
-      path = codes "/";
-      query = None;
-      fragment = None;
-    })
+    (split_of (codes "ftp://ftp.is.co.za/rfc/rfc1808.txt") ≡ five (Some (codes "ftp")) (Some (codes "ftp.is.co.za")) (codes "/rfc/rfc1808.txt") None None)
+    × (split_of (codes "ldap://[2001:db8::7]/c=GB?objectClass?one") ≡ five (Some (codes "ldap")) (Some (codes "[2001:db8::7]")) (codes "/c=GB") (Some (codes "objectClass?one")) None)
+    × (split_of (codes "mailto:John.Doe@example.com") ≡ five (Some (codes "mailto")) None (codes "John.Doe@example.com") None None)
+    × (split_of (codes "telnet://192.0.2.16:80/") ≡ five (Some (codes "telnet")) (Some (codes "192.0.2.16:80")) (codes "/") None None)
 unfolding split_of is_letter is_scheme_char
 example_uris = (refl, refl, refl, refl)
 
 -- references of section 5.4
 references :
-    (split_of (codes "g:h") ≡ record { scheme = Some (codes "g"); authority = None; path = codes "h"; query = None; fragment = None })
-    × (split_of (codes "//g") ≡ record { scheme = None; authority = Some (codes "g"); path = []; query = None; fragment = None })
-    × (split_of (codes "?y") ≡ record { scheme = None; authority = None; path = []; query = Some (codes "y"); fragment = None })
-    × (split_of (codes "g?y#s") ≡ record {
-      scheme = None;
-      authority = None;
-      path = codes "g";
-      query = Some (codes "y");
-      fragment = Some (codes "s");
-    })
-    × (split_of [] ≡ record { scheme = None; authority = None; path = []; query = None; fragment = None })
-    × (split_of (codes "g;x=1/./y") ≡ record { scheme = None; authority = None; path = codes "g;x=1/./y"; query = None; fragment = None })
-    × (split_of (codes "g?y/../x") ≡ record {
-      scheme = None;
-      authority = None;
-      path = codes "g";
-      query = Some (codes "y/../x");
-      fragment = None;
-    })
-    × (split_of (codes "g#s/../x") ≡ record {
-      scheme = None;
-      authority = None;
-      path = codes "g";
-      query = None;
-      fragment = Some (codes "s/../x");
-    })
+    (split_of (codes "g:h") ≡ five (Some (codes "g")) None (codes "h") None None)
+    × (split_of (codes "//g") ≡ five None (Some (codes "g")) [] None None)
+    × (split_of (codes "?y") ≡ five None None [] (Some (codes "y")) None)
+    × (split_of (codes "g?y#s") ≡ five None None (codes "g") (Some (codes "y")) (Some (codes "s")))
+    × (split_of [] ≡ five None None [] None None)
+    × (split_of (codes "g;x=1/./y") ≡ five None None (codes "g;x=1/./y") None None)
+    × (split_of (codes "g?y/../x") ≡ five None None (codes "g") (Some (codes "y/../x")) None)
+    × (split_of (codes "g#s/../x") ≡ five None None (codes "g") None (Some (codes "s/../x")))
 unfolding split_of is_letter is_scheme_char
 references = (refl, refl, refl, refl, refl, refl, refl, refl)
 
 -- the first delimiter decides: a `?` after the `#` is the fragment's, and a `:` after `/`, `?` or `#` begins no scheme
 delimiters :
-    (split_of (codes "a#b?c") ≡ record { scheme = None; authority = None; path = codes "a"; query = None; fragment = Some (codes "b?c") })
-    × (split_of (codes "?a:b") ≡ record { scheme = None; authority = None; path = []; query = Some (codes "a:b"); fragment = None })
-    × (split_of (codes "./a:b") ≡ record { scheme = None; authority = None; path = codes "./a:b"; query = None; fragment = None })
-    × (split_of (codes "//a:b") ≡ record { scheme = None; authority = Some (codes "a:b"); path = []; query = None; fragment = None })
+    (split_of (codes "a#b?c") ≡ five None None (codes "a") None (Some (codes "b?c")))
+    × (split_of (codes "?a:b") ≡ five None None [] (Some (codes "a:b")) None)
+    × (split_of (codes "./a:b") ≡ five None None (codes "./a:b") None None)
+    × (split_of (codes "//a:b") ≡ five None (Some (codes "a:b")) [] None None)
 unfolding split_of is_letter is_scheme_char
 delimiters = (refl, refl, refl, refl)
 
@@ -131,7 +82,7 @@ unfolding split_of relative_split_of fault_before_fragment parts_fault authority
     is_ascii_query is_ascii_unreserved is_sub_delim is_group
 no_fault = (refl, refl, refl, refl, refl, refl, refl, refl)
 
--- a text with a fault in one part
+-- a text with a fault in one part, and texts with several, of which the first is told
 fault_of_each_part :
     (reference_fault uri_tests (codes "1a:b") ≡ Some InvalidPath)
     × (reference_fault uri_tests (codes "##") ≡ Some InvalidFragment)
@@ -141,21 +92,14 @@ fault_of_each_part :
     × (reference_fault uri_tests (codes "//a@b@c") ≡ Some InvalidHost)
     × (reference_fault uri_tests (codes "//[1::2::3]") ≡ Some InvalidHost)
     × (reference_fault uri_tests (codes "http:g") ≡ None)
-unfolding split_of relative_split_of fault_before_fragment parts_fault authority_parts over_from chars is_utf8 encode is_letter is_scheme_char
-    userinfo_char reg_name_char path_char query_char fragment_char is_ascii_userinfo is_ascii_reg_name is_ascii_path is_ascii_pchar
-    is_ascii_query is_ascii_unreserved is_sub_delim is_group
-fault_of_each_part = (refl, refl, refl, refl, refl, refl, refl, refl)
-
--- the first fault comes first
-first_of_two :
-    (reference_fault uri_tests (codes "//a b@[?%#%") ≡ Some InvalidUserInfo)
+    × (reference_fault uri_tests (codes "//a b@[?%#%") ≡ Some InvalidUserInfo)
     × (reference_fault uri_tests (codes "//[?%#%") ≡ Some InvalidHost)
     × (reference_fault uri_tests (codes "%?%#%") ≡ Some InvalidPath)
     × (reference_fault uri_tests (codes "?%#%") ≡ Some InvalidQuery)
 unfolding split_of relative_split_of fault_before_fragment parts_fault authority_parts over_from chars is_utf8 encode is_letter is_scheme_char
     userinfo_char reg_name_char path_char query_char fragment_char is_ascii_userinfo is_ascii_reg_name is_ascii_path is_ascii_pchar
     is_ascii_query is_ascii_unreserved is_sub_delim is_group
-first_of_two = (refl, refl, refl, refl)
+fault_of_each_part = (refl, refl, refl, refl, refl, refl, refl, refl, refl, refl, refl, refl)
 
 -- where a scheme must stand
 scheme_asked :

@@ -1,5 +1,5 @@
 -- Hosts and authorities, computed.
-use Rattle.std.specs.Prelude.{◌≡◌, true, false, [], Some, None, codes, refl}
+use Rattle.std.specs.Prelude.{◌≡◌, true, false, [], ◌∷◌, Some, None, codes, map, refl}
 use Rattle.iri_grammar.specs.Classes.{is_ascii_userinfo, is_ascii_reg_name, is_ascii_unreserved, is_sub_delim}
 use Rattle.iri_grammar.specs.Ipv4.{is_ipv4, is_hundreds}
 use Rattle.iri_grammar.specs.Ipv6.{is_group}
@@ -7,104 +7,37 @@ use Rattle.iri_grammar.specs.Ipv6Test.{is_ipv6}
 use Rattle.iri_grammar.specs.IpLiteral.{is_ipvfuture}
 use Rattle.iri_grammar.specs.Authority.{authority_parts}
 
--- IPv6 texts
-
-unspecified : is_ipv6 (codes "::") ≡ true
-unfolding is_group
-unspecified = refl
-
-loopback : is_ipv6 (codes "::1") ≡ true
-unfolding is_group
-loopback = refl
-
-nothing_after : is_ipv6 (codes "1::") ≡ true
-unfolding is_group
-nothing_after = refl
-
-seven_before : is_ipv6 (codes "1:2:3:4:5:6:7::") ≡ true
-unfolding is_group
-seven_before = refl
-
-eight_before : is_ipv6 (codes "1:2:3:4:5:6:7:8::") ≡ false
-unfolding is_group
-eight_before = refl
-
-full : is_ipv6 (codes "2001:db8:0:0:0:0:0:7") ≡ true
-unfolding is_group
-full = refl
-
-nine_groups : is_ipv6 (codes "1:2:3:4:5:6:7:8:9") ≡ false
-unfolding is_group
-nine_groups = refl
-
-two_doubles : is_ipv6 (codes "1::2::3") ≡ false
-unfolding is_group
-two_doubles = refl
-
-three_colons : is_ipv6 (codes ":::") ≡ false
-unfolding is_group
-three_colons = refl
-
-ipv4_after : is_ipv6 (codes "::1.2.3.4") ≡ true
+-- `::` stands for one group or more, at the start and at the end too; eight groups need none, and an IPv4 text counts as two
+ipv6_texts :
+    map is_ipv6 (codes "::" ∷ codes "::1" ∷ codes "1::" ∷ codes "1:2:3:4:5:6:7::" ∷ codes "2001:db8:0:0:0:0:0:7" ∷ codes "::1.2.3.4" ∷ [])
+    ≡ true ∷ true ∷ true ∷ true ∷ true ∷ true ∷ []
 unfolding is_group is_hundreds
-ipv4_after = refl
+ipv6_texts = refl
 
-ipv4_counts_two : is_ipv6 (codes "1:2:3:4:5:6:7:1.2.3.4") ≡ false
+-- nine groups, also with `::` for one; two `::`; three colons; nine groups with an IPv4 text; one that isn't last, is too short or
+-- has a leading zero; a group of five digits
+no_ipv6_texts :
+    map is_ipv6 (codes "1:2:3:4:5:6:7:8:9" ∷ codes "1:2:3:4:5:6:7:8::" ∷ codes "1::2::3" ∷ codes ":::" ∷ codes "1:2:3:4:5:6:7:1.2.3.4"
+    ∷ codes "1.2.3.4::" ∷ codes "::1.2.3" ∷ codes "::01.2.3.4" ∷ codes "12345::" ∷ [])
+    ≡ false ∷ false ∷ false ∷ false ∷ false ∷ false ∷ false ∷ false ∷ false ∷ []
 unfolding is_group is_hundreds
-ipv4_counts_two = refl
+no_ipv6_texts = refl
 
-ipv4_before : is_ipv6 (codes "1.2.3.4::") ≡ false
-unfolding is_group is_hundreds
-ipv4_before = refl
-
-three_numbers : is_ipv6 (codes "::1.2.3") ≡ false
-unfolding is_group is_hundreds
-three_numbers = refl
-
-leading_zero : is_ipv6 (codes "::01.2.3.4") ≡ false
-unfolding is_group is_hundreds
-leading_zero = refl
-
-five_digits : is_ipv6 (codes "12345::") ≡ false
-unfolding is_group
-five_digits = refl
-
--- IPvFuture
-future : is_ipvfuture (codes "v1.a") ≡ true
+-- an IPvFuture has a version
+ipvfuture_texts : map is_ipvfuture (codes "v1.a" ∷ codes "V1F.:" ∷ codes "v.a" ∷ []) ≡ true ∷ true ∷ false ∷ []
 unfolding is_ascii_userinfo is_ascii_reg_name is_ascii_unreserved is_sub_delim
-future = refl
+ipvfuture_texts = refl
 
-future_capital : is_ipvfuture (codes "V1F.:") ≡ true
-unfolding is_ascii_userinfo is_ascii_reg_name is_ascii_unreserved is_sub_delim
-future_capital = refl
-
-future_no_version : is_ipvfuture (codes "v.a") ≡ false
-unfolding is_ascii_userinfo is_ascii_reg_name is_ascii_unreserved is_sub_delim
-future_no_version = refl
-
--- IPv4 texts
-broadcast : is_ipv4 (codes "255.255.255.255") ≡ true
+-- the numbers of an IPv4 text are at most 255 and have no leading zero
+ipv4_texts : map is_ipv4 (codes "255.255.255.255" ∷ codes "255.255.255.256" ∷ codes "127.0.0.01" ∷ []) ≡ true ∷ false ∷ false ∷ []
 unfolding is_hundreds
-broadcast = refl
-
-past_broadcast : is_ipv4 (codes "255.255.255.256") ≡ false
-unfolding is_hundreds
-past_broadcast = refl
-
-octet_leading_zero : is_ipv4 (codes "127.0.0.01") ≡ false
-unfolding is_hundreds
-octet_leading_zero = refl
+ipv4_texts = refl
 
 -- the reading of an authority
-whole : authority_parts (codes "user:pw@[::1]:80")
-    ≡ record { userinfo = Some (codes "user:pw"); host = codes "[::1]"; port = Some (codes "80") }
+authorities :
+    (authority_parts (codes "user:pw@[::1]:80")
+    ≡ record { userinfo = Some (codes "user:pw"); host = codes "[::1]"; port = Some (codes "80") })
+    × (authority_parts (codes "[2001:db8::7]") ≡ record { userinfo = None; host = codes "[2001:db8::7]"; port = None })
+    × (authority_parts (codes "example.com:") ≡ record { userinfo = None; host = codes "example.com"; port = Some [] })
 unfolding authority_parts
-whole = refl
-
-no_port : authority_parts (codes "[2001:db8::7]") ≡ record { userinfo = None; host = codes "[2001:db8::7]"; port = None }
-unfolding authority_parts
-no_port = refl
-
-empty_port : authority_parts (codes "example.com:") ≡ record { userinfo = None; host = codes "example.com"; port = Some [] }
-unfolding authority_parts
-empty_port = refl
+authorities = (refl, refl, refl)
