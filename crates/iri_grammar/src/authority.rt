@@ -60,21 +60,31 @@ pub(crate) fn is_port(s: &str) -> bool
     all_digits(s.as_bytes())
 }
 
-// How many bytes at the start are ASCII characters of a name, and whether a capital letter is among them: one by one.
+// How many bytes at the start are ASCII characters of a name, perhaps with a port, and whether a capital letter is among them.
+#[derive(Clone, Copy)]
+struct NameLen {
+    len: usize,
+    capitals: bool,
+}
+
+// The characters of a name at the start, one by one.
 #[inline(always)]
-fn short_name_len(bytes: &[u8]) -> (usize, bool)
-    ensures len { result.0 ≡ name_len bytes.now }
-    ensures within { result.0 ≤ length bytes.now }
-    ensures capitals { result.1 ≡ not (is_small_name bytes.now) }
+fn short_name_len(bytes: &[u8]) -> NameLen
+    ensures len { result.len ≡ name_len bytes.now }
+    ensures within { result.len ≤ length bytes.now }
+    ensures capitals { result.capitals ≡ not (is_small_name bytes.now) }
 {
     let mut capitals = false;
     for (i, b) in bytes.iter().enumerate() {
         if !Class::RegName.has_byte(*b) {
-            return (i, capitals);
+            return NameLen { len: i, capitals };
         }
         capitals |= b.is_ascii_uppercase();
     }
-    (bytes.len(), capitals)
+    NameLen {
+        len: bytes.len(),
+        capitals,
+    }
 }
 
 // How many ASCII characters of a name are at the start; mostly there is none.
@@ -88,20 +98,23 @@ fn rest_of_name(bytes: &[u8]) -> usize
     }
 }
 
-// The same. Names in lower case are passed by 16 bytes at a time: web's lines take 1.3 instructions a byte fewer than by
-// `short_name_len` alone.
+// The characters of a name at the start. Those in lower case are passed by 16 bytes at a time: web's lines take 1.3 instructions a
+// byte fewer than by `short_name_len` alone.
 #[inline(always)]
-fn name_len(bytes: &[u8]) -> (usize, bool)
-    ensures len { result.0 ≡ name_len bytes.now }
-    ensures within { result.0 ≤ length bytes.now }
-    ensures capitals { result.1 ≡ not (is_small_name bytes.now) }
+fn name_len(bytes: &[u8]) -> NameLen
+    ensures len { result.len ≡ name_len bytes.now }
+    ensures within { result.len ≤ length bytes.now }
+    ensures capitals { result.capitals ≡ not (is_small_name bytes.now) }
 {
     if bytes.len() < 16 {
         return short_name_len(bytes);
     }
     let small = small_name_len(bytes);
     let rest = rest_of_name(&bytes[small..]);
-    (small + rest, rest != 0)
+    NameLen {
+        len: small + rest,
+        capitals: rest != 0,
+    }
 }
 
 // How many bytes a colon and digits after it have at the start; 0 where there are none.
@@ -118,30 +131,44 @@ fn port_len(bytes: &[u8]) -> usize
     }
 }
 
-// How many bytes a name in ASCII without percent-encoded octets has at the start, with a port that isn't empty, where one
-// follows; and whether a capital letter is among them.
+// A name in ASCII without percent-encoded octets at the start, with a port that isn't empty, where one follows.
 #[inline(always)]
-fn plain_len(bytes: &[u8]) -> (usize, bool)
-    ensures len { result.0 ≡ plain_len bytes.now }
-    ensures within { result.0 ≤ length bytes.now }
-    ensures capitals { result.1 ≡ not (is_small_name bytes.now) }
+fn plain_len(bytes: &[u8]) -> NameLen
+    ensures len { result.len ≡ plain_len bytes.now }
+    ensures within { result.len ≤ length bytes.now }
+    ensures capitals { result.capitals ≡ not (is_small_name bytes.now) }
 {
-    let (name, capitals) = name_len(bytes);
-    (name + port_len(&bytes[name..]), capitals)
+    let name = name_len(bytes);
+    NameLen {
+        len: name.len + port_len(&bytes[name.len..]),
+        capitals: name.capitals,
+    }
 }
 
 // Such a name and port, what follows them, and whether a capital letter may be among them.
+#[derive(Clone, Copy)]
+pub(crate) struct PlainCut<'a> {
+    pub authority: &'a str,
+    pub rest: &'a [u8],
+    pub capitals: bool,
+}
+
+// Bytes cut after the name and port at their start.
 #[inline(always)]
-pub(crate) fn cut_plain(s: &[u8]) -> (&str, &[u8], bool)
-    ensures whole { s.now ≡ result.0.now ++ result.1.now }
-    ensures chars { list_all (ascii_test Userinfo) result.0.now ≡ true }
-    ensures plain { is_plain_authority result.0.now ≡ true }
-    ensures capitals { result.2 ≡ false → list_all is_small result.0.now ≡ true }
-    ensures text { is_utf8 s.now ≡ is_utf8 result.1.now }
+pub(crate) fn cut_plain(s: &[u8]) -> PlainCut<'_>
+    ensures whole { s.now ≡ result.authority.now ++ result.rest.now }
+    ensures chars { list_all (ascii_test Userinfo) result.authority.now ≡ true }
+    ensures plain { is_plain_authority result.authority.now ≡ true }
+    ensures capitals { result.capitals ≡ false → list_all is_small result.authority.now ≡ true }
+    ensures text { is_utf8 s.now ≡ is_utf8 result.rest.now }
 {
-    let (end, capitals) = plain_len(s);
-    let name = unsafe { str::from_utf8_unchecked(&s[..end]) };
-    (name, &s[end..], capitals)
+    let plain = plain_len(s);
+    let authority = unsafe { str::from_utf8_unchecked(&s[..plain.len]) };
+    PlainCut {
+        authority,
+        rest: &s[plain.len..],
+        capitals: plain.capitals,
+    }
 }
 
 // The userinfo, where there is an `@`, and what follows it.

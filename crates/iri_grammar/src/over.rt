@@ -30,6 +30,6 @@ pub(crate) fn is_run(class: Class, s: &str) -> bool
 pub fn is_over<S: Spec>(class: Class, s: &str) -> bool
     ensures { result ≡ text_over (class_test S.tests class) s.now }
 {
-    let (_, rest, _) = cut_units::<S>(class, s.as_bytes());
+    let rest = cut_units::<S>(class, s.as_bytes()).rest;
     rest.is_empty()
 }

@@ -212,7 +212,7 @@ fn text_before_end(s: &[u8]) -> Option<(&str, &[u8])>
     }
 }
 
-// The same, and what was noted of the first.
+// What comes before the end of an authority, the rest from it on, and what was noted of the first.
 #[inline(always)]
 fn cut_before_end(s: &[u8]) -> Option<AuthorityCut<'_>>
     ensures { MatchOption result (is_utf8 s.now ≡ false)
@@ -220,12 +220,12 @@ fn cut_before_end(s: &[u8]) -> Option<AuthorityCut<'_>>
         × (r.rest.now ≡ from_any ends_authority s.now) × KeepsAuthorityNotes r × (is_utf8 s.now ≡ is_utf8 r.rest.now)) }
 {
     // Most are a name and perhaps a port: one look, and no search for the end.
-    let (prefix, rest, capitals) = cut_plain(s);
-    if ends_at_start(rest) {
+    let plain = cut_plain(s);
+    if ends_at_start(plain.rest) {
         return Some(AuthorityCut {
-            authority: Some(prefix),
-            rest,
-            capitals,
+            authority: Some(plain.authority),
+            rest: plain.rest,
+            capitals: plain.capitals,
             other: false,
         });
     }
@@ -293,7 +293,7 @@ impl<'a> Splitter<'a> {
         Splitter::from_bytes::<S>(text.as_bytes())
     }
 
-    /// The same of bytes that are the UTF-8 of a reference of `S`.
+    /// The split of bytes that are the UTF-8 of a reference of `S`, in one scan of them.
     ///
     /// # Errors
     ///

@@ -37,20 +37,36 @@ fn after_first(s: &[u8], delimiter: u8) -> Option<&[u8]>
 }
 
 // The characters of a part after its delimiter, the rest, and whether no percent-encoded octet was found.
+#[derive(Clone, Copy)]
+struct PartCut<'a> {
+    part: Option<&'a str>,
+    rest: &'a [u8],
+    bare: bool,
+}
+
+// Bytes cut after a part that a delimiter begins, where it stands.
 #[inline(always)]
-fn cut_part<S: Spec>(delimiter: u8, class: Class, s: &[u8]) -> (Option<&str>, &[u8], bool)
-    ensures whole { s.now ≡ delimited delimiter (now_of result.0) ++ result.1.now }
-    ensures over { if_there (text_over (class_test S.tests class)) (now_of result.0) ≡ true }
+fn cut_part<S: Spec>(delimiter: u8, class: Class, s: &[u8]) -> PartCut<'_>
+    ensures whole { s.now ≡ delimited delimiter (now_of result.part) ++ result.rest.now }
+    ensures over { if_there (text_over (class_test S.tests class)) (now_of result.part) ≡ true }
     ensures stops { delimiter < 128 → IsUtf8 s.now
-        → PartStops (class_test S.tests class) delimiter (now_of result.0) result.1.now }
-    ensures bare { result.2 ≡ true → if_there (lacks percent_sign) (now_of result.0) ≡ true }
+        → PartStops (class_test S.tests class) delimiter (now_of result.part) result.rest.now }
+    ensures bare { result.bare ≡ true → if_there (lacks percent_sign) (now_of result.part) ≡ true }
 {
     match after_first(s, delimiter) {
         Some(s) => {
-            let (part, rest, bare) = cut_units::<S>(class, s);
-            (Some(part), rest, bare)
+            let cut = cut_units::<S>(class, s);
+            PartCut {
+                part: Some(cut.units),
+                rest: cut.rest,
+                bare: cut.bare,
+            }
         }
-        None => (None, s, true),
+        None => PartCut {
+            part: None,
+            rest: s,
+            bare: true,
+        },
     }
 }
 
@@ -61,17 +77,17 @@ impl<'a> Tail<'a> {
         ensures scan { ScansTail S.tests s.now result }
         ensures notes { KeepsNotes result }
     {
-        let (path, rest, bare_path) = cut_units::<S>(Class::Path, s);
-        let (query, rest, bare_query) = cut_part::<S>(b'?', Class::Query, rest);
-        let (fragment, rest, bare_fragment) = cut_part::<S>(b'#', Class::Fragment, rest);
+        let path = cut_units::<S>(Class::Path, s);
+        let query = cut_part::<S>(b'?', Class::Query, path.rest);
+        let fragment = cut_part::<S>(b'#', Class::Fragment, query.rest);
         Tail {
-            path,
-            query,
-            fragment,
-            rest,
-            path_triplets: !bare_path,
-            query_triplets: !bare_query,
-            fragment_triplets: !bare_fragment,
+            path: path.units,
+            query: query.part,
+            fragment: fragment.part,
+            rest: fragment.rest,
+            path_triplets: !path.bare,
+            query_triplets: !query.bare,
+            fragment_triplets: !fragment.bare,
         }
     }
 }

@@ -148,10 +148,10 @@ fn wide_len(bytes: &[u8]) -> usize
     }
 }
 
-// The same, where the grammar takes all of these characters.
+// The length of the first character, where it is one of these and the grammar takes all of them; 0 says nothing.
 #[tactic(auto, using(crate::proofs::UnitRuns::no_units))]
 #[inline(always)]
-fn told_len<S: Spec>(class: Class, bytes: &[u8]) -> usize
+fn allowed_wide_len<S: Spec>(class: Class, bytes: &[u8]) -> usize
     ensures units { AreUnits (class_test S.tests class) bytes.now result }
     ensures bare { lacks percent_sign (take result bytes.now) ≡ true }
 {
@@ -162,117 +162,153 @@ fn told_len<S: Spec>(class: Class, bytes: &[u8]) -> usize
     }
 }
 
-// How many bytes at the start are units of one kind: ASCII characters of the class, percent-encoded octets, or one character past
-// ASCII; and whether they are no percent-encoded octets. 0 where there is no unit but perhaps another character past ASCII.
+// How many bytes at the start are units, and whether none of them is a percent-encoded octet.
+#[derive(Clone, Copy)]
+struct UnitsLen {
+    len: usize,
+    bare: bool,
+}
+
+// Units of one kind: ASCII characters of the class, percent-encoded octets, or one character past ASCII that its first bytes tell.
+// None where there is no unit but perhaps another character past ASCII.
 #[inline(always)]
-fn near_units_len<S: Spec>(class: Class, bytes: &[u8]) -> (usize, bool)
-    ensures units { AreUnits (class_test S.tests class) bytes.now result.0 }
-    ensures stops { result.0 ≡ 0 → LacksNearUnit (class_test S.tests class) bytes.now }
-    ensures bare { result.1 ≡ true → lacks percent_sign (take result.0 bytes.now) ≡ true }
+fn one_kind_in_bytes<S: Spec>(class: Class, bytes: &[u8]) -> UnitsLen
+    ensures units { AreUnits (class_test S.tests class) bytes.now result.len }
+    ensures stops { result.len ≡ 0 → LacksNearUnit (class_test S.tests class) bytes.now }
+    ensures bare { result.bare ≡ true → lacks percent_sign (take result.len bytes.now) ≡ true }
 {
     match bytes {
-        [] => (0, true),
+        [] => UnitsLen { len: 0, bare: true },
         [b, ..] => {
             if class.has_byte(*b) {
-                return (run_len(class, bytes), true);
+                return UnitsLen {
+                    len: run_len(class, bytes),
+                    bare: true,
+                };
             }
             if *b == b'%' {
-                return (triplets_len(bytes), false);
+                return UnitsLen {
+                    len: triplets_len(bytes),
+                    bare: false,
+                };
             }
-            (told_len::<S>(class, bytes), true)
+            UnitsLen {
+                len: allowed_wide_len::<S>(class, bytes),
+                bare: true,
+            }
         }
     }
 }
 
-// The same of a text, and one other character.
+// Units of one kind, or one other character.
 #[inline(always)]
-fn same_units_len<S: Spec>(class: Class, s: &str) -> (usize, bool)
-    ensures units { AreUnits (class_test S.tests class) s.now result.0 }
-    ensures stops { result.0 ≡ 0 → HasNoUnit (class_test S.tests class) s.now }
-    ensures bare { result.1 ≡ true → lacks percent_sign (take result.0 s.now) ≡ true }
+fn one_kind_in_text<S: Spec>(class: Class, s: &str) -> UnitsLen
+    ensures units { AreUnits (class_test S.tests class) s.now result.len }
+    ensures stops { result.len ≡ 0 → HasNoUnit (class_test S.tests class) s.now }
+    ensures bare { result.bare ≡ true → lacks percent_sign (take result.len s.now) ≡ true }
 {
-    let (len, bare) = near_units_len::<S>(class, s.as_bytes());
-    if len != 0 {
-        return (len, bare);
+    let near = one_kind_in_bytes::<S>(class, s.as_bytes());
+    if near.len != 0 {
+        return near;
     }
-    (char_len::<S>(class, s), true)
+    UnitsLen {
+        len: char_len::<S>(class, s),
+        bare: true,
+    }
 }
 
-// How many bytes at the start of a text are units of the class, and whether none of them is a percent-encoded octet.
-fn text_units_len<S: Spec>(class: Class, s: &str) -> (usize, bool)
-    ensures units { AreUnits (class_test S.tests class) s.now result.0 }
-    ensures stops { HasNoUnit (class_test S.tests class) (drop result.0 s.now) }
-    ensures bare { result.1 ≡ true → lacks percent_sign (take result.0 s.now) ≡ true }
+// All units at the start of a text.
+fn units_in_text<S: Spec>(class: Class, s: &str) -> UnitsLen
+    ensures units { AreUnits (class_test S.tests class) s.now result.len }
+    ensures stops { HasNoUnit (class_test S.tests class) (drop result.len s.now) }
+    ensures bare { result.bare ≡ true → lacks percent_sign (take result.len s.now) ≡ true }
 {
     let mut i = 0;
     let mut bare = true;
     'units: loop {
-        let (len, same_bare) = same_units_len::<S>(class, &s[i..]);
-        if len == 0 {
-            return (i, bare);
+        let next = one_kind_in_text::<S>(class, &s[i..]);
+        if next.len == 0 {
+            return UnitsLen { len: i, bare };
         }
-        bare &= same_bare;
-        i += len;
+        bare &= next.bare;
+        i += next.len;
     }
 }
 
-// The same of bytes, of which it is found whether they are a text.
+// All units at the start of bytes of which it is found whether they are a text.
+#[tactic(auto, using(crate::proofs::UnitRuns::no_units))]
 #[inline(never)]
-fn decoded_units_len<S: Spec>(class: Class, bytes: &[u8]) -> (usize, bool)
-    ensures units { AreUnits (class_test S.tests class) bytes.now result.0 }
-    ensures stops { IsUtf8 bytes.now → HasNoUnit (class_test S.tests class) (drop result.0 bytes.now) }
-    ensures bare { result.1 ≡ true → lacks percent_sign (take result.0 bytes.now) ≡ true }
+fn units_in_decoded<S: Spec>(class: Class, bytes: &[u8]) -> UnitsLen
+    ensures units { AreUnits (class_test S.tests class) bytes.now result.len }
+    ensures stops { IsUtf8 bytes.now → HasNoUnit (class_test S.tests class) (drop result.len bytes.now) }
+    ensures bare { result.bare ≡ true → lacks percent_sign (take result.len bytes.now) ≡ true }
 {
     match str::from_utf8(bytes) {
-        Ok(s) => text_units_len::<S>(class, s),
-        Err(_) => (0, true),
+        Ok(s) => units_in_text::<S>(class, s),
+        Err(_) => UnitsLen { len: 0, bare: true },
     }
 }
 
-// The same of bytes that begin with no near unit: only past ASCII one can be there.
+// All units at the start of bytes that begin with no unit of one kind that their first bytes tell: only past ASCII one can be there.
+#[tactic(auto, using(crate::proofs::UnitRuns::no_units, crate::proofs::UnitRuns::near_stops))]
 #[inline(always)]
-fn far_units_len<S: Spec>(class: Class, bytes: &[u8]) -> (usize, bool)
+fn units_past_ascii<S: Spec>(class: Class, bytes: &[u8]) -> UnitsLen
     requires { LacksNearUnit (class_test S.tests class) bytes.now }
-    ensures units { AreUnits (class_test S.tests class) bytes.now result.0 }
-    ensures stops { IsUtf8 bytes.now → HasNoUnit (class_test S.tests class) (drop result.0 bytes.now) }
-    ensures bare { result.1 ≡ true → lacks percent_sign (take result.0 bytes.now) ≡ true }
+    ensures units { AreUnits (class_test S.tests class) bytes.now result.len }
+    ensures stops { IsUtf8 bytes.now → HasNoUnit (class_test S.tests class) (drop result.len bytes.now) }
+    ensures bare { result.bare ≡ true → lacks percent_sign (take result.len bytes.now) ≡ true }
 {
     if !begins_past_ascii(bytes) {
-        return (0, true);
+        return UnitsLen { len: 0, bare: true };
     }
-    decoded_units_len::<S>(class, bytes)
+    units_in_decoded::<S>(class, bytes)
 }
 
-// The same of any bytes. So a text is decoded from its first character on that no first byte tells.
+// All units at the start of any bytes. So a text is decoded from its first character on that no first byte tells.
 #[inline(always)]
-fn units_len<S: Spec>(class: Class, bytes: &[u8]) -> (usize, bool)
-    ensures units { AreUnits (class_test S.tests class) bytes.now result.0 }
-    ensures stops { IsUtf8 bytes.now → HasNoUnit (class_test S.tests class) (drop result.0 bytes.now) }
-    ensures bare { result.1 ≡ true → lacks percent_sign (take result.0 bytes.now) ≡ true }
+fn units_in_bytes<S: Spec>(class: Class, bytes: &[u8]) -> UnitsLen
+    ensures units { AreUnits (class_test S.tests class) bytes.now result.len }
+    ensures stops { IsUtf8 bytes.now → HasNoUnit (class_test S.tests class) (drop result.len bytes.now) }
+    ensures bare { result.bare ≡ true → lacks percent_sign (take result.len bytes.now) ≡ true }
 {
     let mut i = 0;
     let mut bare = true;
     'units: loop {
-        let (len, same_bare) = near_units_len::<S>(class, &bytes[i..]);
-        if len == 0 {
-            let (rest, rest_bare) = far_units_len::<S>(class, &bytes[i..]);
-            return (i + rest, bare & rest_bare);
+        let next = one_kind_in_bytes::<S>(class, &bytes[i..]);
+        if next.len == 0 {
+            let rest = units_past_ascii::<S>(class, &bytes[i..]);
+            return UnitsLen {
+                len: i + rest.len,
+                bare: bare & rest.bare,
+            };
         }
-        bare &= same_bare;
-        i += len;
+        bare &= next.bare;
+        i += next.len;
     }
 }
 
-// The longest start of whole units of the class, which is a text, what follows it, and whether there is no percent-encoded octet
-// in the first.
+// The longest start of whole units, which is a text, what follows it, and whether no percent-encoded octet is in the first.
+#[derive(Clone, Copy)]
+pub(crate) struct UnitsCut<'a> {
+    pub units: &'a str,
+    pub rest: &'a [u8],
+    pub bare: bool,
+}
+
+// Bytes cut after the units of the class at their start.
+#[tactic(auto, using(crate::proofs::UnitRuns::units_text))]
 #[inline(always)]
-pub(crate) fn cut_units<S: Spec>(class: Class, bytes: &[u8]) -> (&str, &[u8], bool)
-    ensures whole { bytes.now ≡ result.0.now ++ result.1.now }
-    ensures over { text_over (class_test S.tests class) result.0.now ≡ true }
-    ensures stops { IsUtf8 bytes.now → HasNoUnit (class_test S.tests class) result.1.now }
-    ensures bare { result.2 ≡ true → lacks percent_sign result.0.now ≡ true }
+pub(crate) fn cut_units<S: Spec>(class: Class, bytes: &[u8]) -> UnitsCut<'_>
+    ensures whole { bytes.now ≡ result.units.now ++ result.rest.now }
+    ensures over { text_over (class_test S.tests class) result.units.now ≡ true }
+    ensures stops { IsUtf8 bytes.now → HasNoUnit (class_test S.tests class) result.rest.now }
+    ensures bare { result.bare ≡ true → lacks percent_sign result.units.now ≡ true }
 {
-    let (end, bare) = units_len::<S>(class, bytes);
-    let units = unsafe { str::from_utf8_unchecked(&bytes[..end]) };
-    (units, &bytes[end..], bare)
+    let UnitsLen { len, bare } = units_in_bytes::<S>(class, bytes);
+    let units = unsafe { str::from_utf8_unchecked(&bytes[..len]) };
+    UnitsCut {
+        units,
+        rest: &bytes[len..],
+        bare,
+    }
 }

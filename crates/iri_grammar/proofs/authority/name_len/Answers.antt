@@ -10,23 +10,13 @@ overflow_add-result c =
     let rest = c.rest_of_name-rest.ensures ∙ (ap name_len (take_rest t c.small_name_len-small.result) ∙ ap (λ n. name_len (drop n t)) small) in
     omega (arith, small, rest, (small_run t).whole, run_of_le (ascii_test RegName) t)
 
-pub returns-clause-len : goal.returns-clause-len
-returns-clause-len c =
+pub returns : goal.returns
+returns c =
     let t = c.args.bytes.now in
     let small = c.small_name_len-small.ensures.len in
     let rest = c.rest_of_name-rest.ensures ∙ (ap name_len (take_rest t c.small_name_len-small.result) ∙ ap (λ n. name_len (drop n t)) small) in
-    omega (arith, small, rest, (small_run t).whole)
-
-pub returns-clause-within : goal.returns-clause-within
-returns-clause-within c =
-    let t = c.args.bytes.now in
-    let small = c.small_name_len-small.ensures.len in
-    let rest = c.rest_of_name-rest.ensures ∙ (ap name_len (take_rest t c.small_name_len-small.result) ∙ ap (λ n. name_len (drop n t)) small) in
-    omega (arith, small, rest, (small_run t).whole, run_of_le (ascii_test RegName) t)
-
-pub returns-clause-capitals : goal.returns-clause-capitals
-returns-clause-capitals c =
-    let t = c.args.bytes.now in
-    let small = c.small_name_len-small.ensures.len in
-    let rest = c.rest_of_name-rest.ensures ∙ (ap name_len (take_rest t c.small_name_len-small.result) ∙ ap (λ n. name_len (drop n t)) small) in
-    ap not (ap (λ r. r == 0) rest ∙ sym (small_run t).small)
+    record {
+      len = omega (arith, small, rest, (small_run t).whole);
+      within = omega (arith, small, rest, (small_run t).whole, run_of_le (ascii_test RegName) t);
+      capitals = ap not (ap (λ r. r == 0) rest ∙ sym (small_run t).small);
+    }

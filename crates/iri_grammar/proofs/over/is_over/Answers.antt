@@ -7,4 +7,4 @@ returns g c =
     let cut = c.cut_units in
     let p = class_test g.S.Spec.tests c.args.class in
     c.is_empty.ensures ∙ sym (ap (text_over p) (sym c.as_bytes.ensures.value ∙ cut.ensures.whole)
-    ∙ cut_decides p cut.result.0.now cut.result.1.now cut.ensures.over (cut.ensures.stops c.as_bytes.ensures.utf8))
+    ∙ cut_decides p cut.result.units.now cut.result.rest.now cut.ensures.over (cut.ensures.stops c.as_bytes.ensures.utf8))

@@ -4,10 +4,10 @@ use Rattle.iri_grammar.proofs.splitter.cut_before_end.Goals as goal
 
 pub returns-then-ends_at_start : goal.returns-then-ends_at_start
 returns-then-ends_at_start c =
-    let cut = c.cut_plain-capitals in
-    let r = cut.result.1.now in
+    let cut = c.cut_plain-plain in
+    let r = cut.result.rest.now in
     let e : ends_at_start r ≡ true = sym c.ends_at_start.ensures ∙ c.if-ends_at_start.true in
-    let n = name-ends cut.result.0.now r cut.ensures.chars e in (
+    let n = name-ends cut.result.authority.now r cut.ensures.chars e in (
       ap Some (n.0 ∙ ap (before_any ends_authority) (sym cut.ensures.whole)),
       n.1 ∙ ap (from_any ends_authority) (sym cut.ensures.whole),
       (cut.ensures.capitals, λ _. cut.ensures.plain),

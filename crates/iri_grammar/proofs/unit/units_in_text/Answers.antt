@@ -1,7 +1,7 @@
 use Rattle.iri_grammar.proofs.Common.{◌≡◌, true, subst, take, arith, and_parts, IsCharBoundary-from_take, class_test, AreUnits, HasNoUnit}
 use Rattle.iri_grammar.proofs.Common.{lacks}
 use Rattle.iri_grammar.proofs.UnitRuns.{lacks_onward, no_units, units_onward, units_text}
-use Rattle.iri_grammar.proofs.unit.text_units_len.Goals as goal
+use Rattle.iri_grammar.proofs.unit.units_in_text.Goals as goal
 
 pub units-init : goal.units-init
 units-init g c = (no_units (class_test g.S.Spec.tests c.args.class) c.args.s.now, λ h. h)
@@ -14,22 +14,22 @@ range_from-requires g c _ =
 pub overflow_add-i : goal.overflow_add-i
 overflow_add-i g c =
     let p = class_test g.S.Spec.tests c.args.class in
-    let len = c.same_units_len-len.result.0 in
+    let len = c.one_kind_in_text-next.result.len in
     let w = units_onward p c.args.s.now c.units.i len c.units.invariant.0
-    (subst (λ x. AreUnits p x len) c.range_from.ensures.value c.same_units_len-len.ensures.units) in
+    (subst (λ x. AreUnits p x len) c.range_from.ensures.value c.one_kind_in_text-next.ensures.units) in
     omega (arith, w.within)
 
 pub units-preserved : goal.units-preserved
 units-preserved g c =
     let p = class_test g.S.Spec.tests c.args.class in
     let t = c.args.s.now in
-    let len = c.same_units_len-len.result.0 in
+    let len = c.one_kind_in_text-next.result.len in
     let here = c.range_from.ensures.value in (
-      units_onward p t c.units.i len c.units.invariant.0 (subst (λ x. AreUnits p x len) here c.same_units_len-len.ensures.units),
-      λ h. let both = and_parts c.units.bare c.same_units_len-len.result.1 h in
-          lacks_onward t c.units.i len (c.units.invariant.1 both.0) (subst (λ x. lacks 37 (take len x) ≡ true) here (c.same_units_len-len.ensures.bare both.1)),
+      units_onward p t c.units.i len c.units.invariant.0 (subst (λ x. AreUnits p x len) here c.one_kind_in_text-next.ensures.units),
+      λ h. let both = and_parts c.units.bare c.one_kind_in_text-next.result.bare h in
+          lacks_onward t c.units.i len (c.units.invariant.1 both.0) (subst (λ x. lacks 37 (take len x) ≡ true) here (c.one_kind_in_text-next.ensures.bare both.1)),
     )
 
-pub returns-then-len-eq0-clause-stops : goal.returns-then-len-eq0-clause-stops
-returns-then-len-eq0-clause-stops g c =
-    subst (HasNoUnit (class_test g.S.Spec.tests c.args.class)) c.range_from.ensures.value (c.same_units_len-len.ensures.stops c.if-len-eq0.true)
+pub returns-then-next-eq0-clause-stops : goal.returns-then-next-eq0-clause-stops
+returns-then-next-eq0-clause-stops g c =
+    subst (HasNoUnit (class_test g.S.Spec.tests c.args.class)) c.range_from.ensures.value (c.one_kind_in_text-next.ensures.stops c.if-next-eq0.true)
