@@ -5,6 +5,8 @@ use Rattle.iri_grammar.proofs.Common.{userinfo_char, reg_name_char, is_ascii_use
 use Rattle.iri_grammar.proofs.Common.{before, after, lacks, delimited, is_userinfo, is_port, if_there, is_end, is_ip_literal, is_ipv6}
 use Rattle.iri_grammar.proofs.Common.{is_ipvfuture, is_host, is_reg_name, recompose_authority, userinfo_text, authority_parts, userinfo_of}
 use Rattle.iri_grammar.proofs.Common.{after_userinfo, host_of, port_of, is_authority}
+use Rattle.iri_grammar.proofs.Common.{inl, inr}
+use Rattle.std.proofs.lemmas.Bool.{or_cases}
 use Rattle.iri_grammar.proofs.CutLaws.{both, joined, before-delimited, after-delimited, lacks-append, lacks-other, all-lacks}
 use Rattle.iri_grammar.specs.Authority.{AuthorityParts, ReadsAuthority}
 use Rattle.iri_grammar.proofs.AuthorityTexts.{over_text-lacks, whole, port-digits}
@@ -21,10 +23,10 @@ no_at_in_literal = refl
 
 host_no_at : (s : Tests) → IsSpec s → (h : List ℕ) → is_host s h ≡ true → lacks 64 h ≡ true
 host_no_at s k h t =
-    elim (is_ip_literal h) as (λ b. is_ip_literal h ≡ b → (b || is_reg_name s h) ≡ true → lacks 64 h ≡ true) [
-      | true ↦ λ e _. all-lacks is_literal_char 64 h no_at_in_literal (ip_literal-chars h e)
-      | false ↦ λ _ r. over_text-lacks (reg_name_char s) 64 h (omega arith) (at_apart s k).1 refl refl r
-    ] refl t
+    elim (or_cases (is_ip_literal h) (is_reg_name s h) t) [
+      | inl e ↦ all-lacks is_literal_char 64 h no_at_in_literal (ip_literal-chars h e)
+      | inr r ↦ over_text-lacks (reg_name_char s) 64 h (omega arith) (at_apart s k).1 refl refl r
+    ]
 
 not_digits : (b : List ℕ) (c : ℕ) (r : List ℕ) → is_ascii_digit c ≡ false → is_port (b ++ c ∷ r) ≡ false
 not_digits [] c r h = rw h refl
@@ -64,10 +66,10 @@ literal_end (x ∷ xs) t =
 
 host_alone : (s : Tests) → IsSpec s → (h : List ℕ) → is_host s h ≡ true → (host_of h ≡ h) × (port_of h ≡ None)
 host_alone s k h t =
-    elim (is_ip_literal h) as (λ b. is_ip_literal h ≡ b → (b || is_reg_name s h) ≡ true → (host_of h ≡ h) × (port_of h ≡ None)) [
-      | true ↦ λ e _. let l = literal_end h e in subst (λ z. (host_of z ≡ z) × (port_of z ≡ None)) l.1 (bracket_end l.0)
-      | false ↦ λ _ r. no_colon h (over_text-lacks (reg_name_char s) 58 h (omega arith) (at_apart s k).2 refl refl r)
-    ] refl t
+    elim (or_cases (is_ip_literal h) (is_reg_name s h) t) [
+      | inl e ↦ let l = literal_end h e in subst (λ z. (host_of z ≡ z) × (port_of z ≡ None)) l.1 (bracket_end l.0)
+      | inr r ↦ no_colon h (over_text-lacks (reg_name_char s) 58 h (omega arith) (at_apart s k).2 refl refl r)
+    ]
 
 host_then_port : (h d : List ℕ) → is_port d ≡ true → (host_of (h ++ 58 ∷ d) ≡ h) × (port_of (h ++ 58 ∷ d) ≡ Some d)
 host_then_port [] d t = (rw t refl, rw t refl)

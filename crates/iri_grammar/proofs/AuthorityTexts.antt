@@ -1,11 +1,13 @@
 -- An authority is a text, and lacks the delimiters of the other parts.
-use Rattle.iri_grammar.proofs.Common.{◌≡◌, ℕ, zero, suc, ◌<◌, Bool, true, false, cond, ◌&&◌, ◌||◌, List, [], ◌∷◌, ◌++◌, Option, Some, None}
+use Rattle.iri_grammar.proofs.Common.{◌≡◌, ℕ, zero, suc, ◌<◌, Bool, true, false, cond, ◌&&◌, List, [], ◌∷◌, ◌++◌, Option, Some, None}
 use Rattle.iri_grammar.proofs.Common.{refl, sym, ◌∙◌, ap, subst, arith, ◌==◌, is_some, slice_index, is_ascii_hexdigit, is_ascii_digit}
 use Rattle.iri_grammar.proofs.Common.{list_all, chars, IsUtf8, is_utf8, IsUtf8-from_is_utf8, IsUtf8-from_ascii, IsUtf8-append, nat_tests}
 use Rattle.iri_grammar.proofs.Common.{Tests, IsSpec, userinfo_char, reg_name_char, is_ascii_userinfo, is_ascii_reg_name}
 use Rattle.iri_grammar.proofs.Common.{is_ascii_unreserved, is_sub_delim, over, text_over, if_there, is_port, is_userinfo, is_ip_literal}
 use Rattle.iri_grammar.proofs.Common.{is_host, is_reg_name, is_authority, authority_parts, userinfo_text, userinfo_of, after_userinfo}
 use Rattle.iri_grammar.proofs.Common.{or_all, host_of, port_of, before, after, lacks, delimited}
+use Rattle.iri_grammar.proofs.Common.{append_assoc, inl, inr}
+use Rattle.std.proofs.lemmas.Bool.{or_cases}
 use Rattle.std.specs.Str.{IsAscii}
 use Rattle.iri_grammar.proofs.CutLaws.{both, joined, lacks-append, lacks-other, all-lacks}
 use Rattle.iri_grammar.proofs.CutBytes.{text-lacks}
@@ -35,11 +37,7 @@ port-digits (x ∷ xs) =
 userinfo_rest : (b : List ℕ) (o : Option (List ℕ)) (xs : List ℕ) → b ++ delimited 64 o ≡ xs
     → userinfo_text (cond (is_some o) (Some b) None) ++ or_all xs o ≡ xs
 userinfo_rest b None xs h = refl
-userinfo_rest b (Some r) xs h = two b r ∙ h
-  where
-    two : (b r : List ℕ) → (b ++ 64 ∷ []) ++ r ≡ b ++ 64 ∷ r
-    two [] r = refl
-    two (x ∷ b) r = ap (λ ys. x ∷ ys) (two b r)
+userinfo_rest b (Some r) xs h = append_assoc b (64 ∷ []) r ∙ h
 
 pub whole : (xs : List ℕ) → userinfo_text (userinfo_of xs) ++ (host_of (after_userinfo xs) ++ delimited 58 (port_of (after_userinfo xs))) ≡ xs
 whole xs = ap (λ ys. userinfo_text (userinfo_of xs) ++ ys) (host_port (after_userinfo xs))
@@ -71,10 +69,10 @@ userinfo-lacks s c (Some xs) f h = lacks-append c xs (64 ∷ []) (over_text-lack
 
 pub host-lacks : (s : Tests) (c : ℕ) (xs : List ℕ) → IsForeign s c → is_host s xs ≡ true → lacks c xs ≡ true
 host-lacks s c xs f h =
-    elim (is_ip_literal xs) as (λ b. is_ip_literal xs ≡ b → (b || is_reg_name s xs) ≡ true → lacks c xs ≡ true) [
-      | true ↦ λ e _. all-lacks is_literal_char c xs f.literal (ip_literal-chars xs e)
-      | false ↦ λ _ k. over_text-lacks (reg_name_char s) c xs f.ascii f.reg_name f.percent f.hex k
-    ] refl h
+    elim (or_cases (is_ip_literal xs) (is_reg_name s xs) h) [
+      | inl k ↦ all-lacks is_literal_char c xs f.literal (ip_literal-chars xs k)
+      | inr k ↦ over_text-lacks (reg_name_char s) c xs f.ascii f.reg_name f.percent f.hex k
+    ]
 
 port-lacks : (s : Tests) (c : ℕ) (o : Option (List ℕ)) → IsForeign s c → if_there is_port o ≡ true → lacks c (delimited 58 o) ≡ true
 port-lacks s c None f h = refl
@@ -89,47 +87,31 @@ authority-lacks s c xs f h =
     (lacks-append c (host_of (after_userinfo xs)) _ (host-lacks s c (host_of (after_userinfo xs)) f k.1)
     (port-lacks s c (port_of (after_userinfo xs)) f (port-digits (after_userinfo xs)))))
 
-pub hash-foreign : (s : Tests) → IsSpec s → IsForeign s 35
+foreign : (s : Tests) → IsSpec s → (c : ℕ) → c < 128 → (37 == c) ≡ false → (64 == c) ≡ false → is_literal_char c ≡ false → IsForeign s c
 unfolding userinfo_char reg_name_char is_ascii_userinfo is_ascii_reg_name is_ascii_unreserved is_sub_delim is_literal_char
-hash-foreign s k = record {
-  ascii = omega arith;
-  percent = refl;
-  hex = refl;
-  digit = refl;
-  at = refl;
-  colon = refl;
-  userinfo = rw (k.ucs_ascii 35 (omega arith)) refl;
-  reg_name = rw (k.ucs_ascii 35 (omega arith)) refl;
-  literal = refl;
+foreign s k c l p a h = record {
+  ascii = l;
+  percent = p;
+  hex = grind (arith, nat_tests);
+  digit = grind (arith, nat_tests);
+  at = a;
+  colon = grind (arith, nat_tests);
+  userinfo = rw (k.ucs_ascii c l) (grind (arith, nat_tests));
+  reg_name = rw (k.ucs_ascii c l) (grind (arith, nat_tests));
+  literal = h;
 }
+
+pub hash-foreign : (s : Tests) → IsSpec s → IsForeign s 35
+unfolding is_literal_char is_ascii_userinfo is_ascii_reg_name is_ascii_unreserved is_sub_delim
+hash-foreign s k = foreign s k 35 (omega arith) refl refl refl
 
 pub slash-foreign : (s : Tests) → IsSpec s → IsForeign s 47
-unfolding userinfo_char reg_name_char is_ascii_userinfo is_ascii_reg_name is_ascii_unreserved is_sub_delim is_literal_char
-slash-foreign s k = record {
-  ascii = omega arith;
-  percent = refl;
-  hex = refl;
-  digit = refl;
-  at = refl;
-  colon = refl;
-  userinfo = rw (k.ucs_ascii 47 (omega arith)) refl;
-  reg_name = rw (k.ucs_ascii 47 (omega arith)) refl;
-  literal = refl;
-}
+unfolding is_literal_char is_ascii_userinfo is_ascii_reg_name is_ascii_unreserved is_sub_delim
+slash-foreign s k = foreign s k 47 (omega arith) refl refl refl
 
 pub delimiter-foreign : (s : Tests) → IsSpec s → IsForeign s 63
-unfolding userinfo_char reg_name_char is_ascii_userinfo is_ascii_reg_name is_ascii_unreserved is_sub_delim is_literal_char
-delimiter-foreign s k = record {
-  ascii = omega arith;
-  percent = refl;
-  hex = refl;
-  digit = refl;
-  at = refl;
-  colon = refl;
-  userinfo = rw (k.ucs_ascii 63 (omega arith)) refl;
-  reg_name = rw (k.ucs_ascii 63 (omega arith)) refl;
-  literal = refl;
-}
+unfolding is_literal_char is_ascii_userinfo is_ascii_reg_name is_ascii_unreserved is_sub_delim
+delimiter-foreign s k = foreign s k 63 (omega arith) refl refl refl
 
 -- ---- an authority is UTF-8
 pub all_below : (p : ℕ → Bool) → ((c : ℕ) → p c ≡ true → c < 128) → (xs : List ℕ) → list_all p xs ≡ true → IsAscii xs
@@ -164,11 +146,10 @@ pub delimited-utf8 : (c : ℕ) (xs : List ℕ) → c < 128 → IsUtf8 xs → IsU
 delimited-utf8 c xs l u = IsUtf8-append (c ∷ []) xs (one_byte-utf8 c l) u
 
 pub host-utf8 : (s : Tests) (xs : List ℕ) → is_host s xs ≡ true → IsUtf8 xs
-host-utf8 s xs h =
-    elim (is_ip_literal xs) as (λ b. is_ip_literal xs ≡ b → (b || is_reg_name s xs) ≡ true → IsUtf8 xs) [
-      | true ↦ λ e _. ip_literal-utf8 xs e
-      | false ↦ λ _ k. text_over-utf8 (reg_name_char s) xs k
-    ] refl h
+host-utf8 s xs h = elim (or_cases (is_ip_literal xs) (is_reg_name s xs) h) [
+  | inl k ↦ ip_literal-utf8 xs k
+  | inr k ↦ text_over-utf8 (reg_name_char s) xs k
+]
 
 pub nothing-utf8 : IsUtf8 []
 nothing-utf8 = IsUtf8-from_ascii [] (λ i. omega arith)

@@ -3,7 +3,7 @@ use Rattle.iri_grammar.proofs.Common.{◌≡◌, ℕ, zero, suc, ◌+◌, ◌<�
 use Rattle.iri_grammar.proofs.Common.{MatchOption, length, take, drop, refl, sym, ap, subst, arith, add-one, ◌∙◌, ◌==◌, nat_lt, slice_index}
 use Rattle.iri_grammar.proofs.Common.{is_some, list_all, IsUtf8, IsUtf8-from_ascii, nat_tests, is_letter, is_scheme, is_scheme_char, or_all}
 use Rattle.iri_grammar.proofs.Common.{run_of, before, from, after, starts_with_slash, starts_with_slashes, authority_of, hier_of}
-use Rattle.iri_grammar.proofs.Common.{before_any, from_any, ends_scheme, SchemeAt, ends_authority, IsPastAuthority}
+use Rattle.iri_grammar.proofs.Common.{before_any, from_any, ends_scheme, SchemeAt, ends_authority, IsPastAuthority, cases_eq, ne_eqb, inl, inr}
 use Rattle.std.specs.Char.{is_ascii_alphabetic}
 use Rattle.std.proofs.lemmas.Bool.{eqb-true, ltb-true, lt-ltb, false_from_ne_true}
 use Rattle.memchr.specs.Find.{is_byte3, IsFirstByte}
@@ -166,29 +166,30 @@ record AtDelimiters (xs : List ℕ) : Type 0 where
   query : after 63 (before 35 (from_any ends_authority xs)) ≡ after 63 (before 35 xs)
   fragment : after 35 (from_any ends_authority xs) ≡ after 35 xs
 
+-- a character is one of the three, or none
+by_delimiter : (P : ℕ → Type 0) (x : ℕ) → P 47 → P 63 → P 35 → ((x == 47) ≡ false → (x == 63) ≡ false → (x == 35) ≡ false → P x) → P x
+by_delimiter P x slash question number none =
+    elim (cases_eq x 47) [
+      | inl e ↦ subst P (sym e) slash
+      | inr a ↦ elim (cases_eq x 63) [
+        | inl e ↦ subst P (sym e) question
+        | inr b ↦ elim (cases_eq x 35) [ inl e ↦ subst P (sym e) number | inr c ↦ none (ne_eqb x 47 a) (ne_eqb x 63 b) (ne_eqb x 35 c) ]
+      ]
+    ]
+
 at_delimiters : (xs : List ℕ) → AtDelimiters xs
 at_delimiters [] = record { prefix = refl; path = refl; query = refl; fragment = refl }
 at_delimiters (x ∷ xs) =
-    elim (x == 47) as (λ b. (x == 47) ≡ b → AtDelimiters (x ∷ xs)) [
-      | true ↦ λ e. subst (λ n. AtDelimiters (n ∷ xs)) (sym (eqb-true x 47 e))
-          (record { prefix = refl; path = refl; query = refl; fragment = refl })
-      | false ↦ λ a. elim (x == 63) as (λ b. (x == 63) ≡ b → AtDelimiters (x ∷ xs)) [
-        | true ↦ λ e. subst (λ n. AtDelimiters (n ∷ xs)) (sym (eqb-true x 63 e))
-            (record { prefix = refl; path = refl; query = refl; fragment = refl })
-        | false ↦ λ b. elim (x == 35) as (λ b. (x == 35) ≡ b → AtDelimiters (x ∷ xs)) [
-          | true ↦ λ e. subst (λ n. AtDelimiters (n ∷ xs)) (sym (eqb-true x 35 e))
-              (record { prefix = refl; path = refl; query = refl; fragment = refl })
-          | false ↦ λ c.
-              let r = at_delimiters xs in
-              record {
-                prefix = rw (c, b, a) (ap (λ ys. x ∷ ys) r.prefix);
-                path = rw (c, b, a) r.path;
-                query = rw (c, b, a) r.query;
-                fragment = rw (c, b, a) r.fragment;
-              }
-        ] refl
-      ] refl
-    ] refl
+    let r = at_delimiters xs in
+    by_delimiter (λ n. AtDelimiters (n ∷ xs)) x (record { prefix = refl; path = refl; query = refl; fragment = refl })
+    (record { prefix = refl; path = refl; query = refl; fragment = refl })
+    (record { prefix = refl; path = refl; query = refl; fragment = refl })
+    (λ a b c. record {
+      prefix = rw (c, b, a) (ap (λ ys. x ∷ ys) r.prefix);
+      path = rw (c, b, a) r.path;
+      query = rw (c, b, a) r.query;
+      fragment = rw (c, b, a) r.fragment;
+    })
 
 -- the authority of a text that begins with `//`
 pub past_authority : (xs : List ℕ) → (Some (before_any ends_authority xs) ≡ authority_of (hier_of (47 ∷ 47 ∷ xs)))
@@ -198,26 +199,12 @@ past_authority xs = let r = at_delimiters xs in (ap Some r.prefix, record { path
 -- what a delimiter in one of the first two places leaves
 slash_or_delimiter : (x : ℕ) (xs : List ℕ) → starts_with_slash (hier_of (x ∷ xs)) ≡ (x == 47)
 slash_or_delimiter x xs =
-    elim (x == 35) as (λ b. (x == 35) ≡ b → starts_with_slash (hier_of (x ∷ xs)) ≡ (x == 47)) [
-      | true ↦ λ e. subst (λ n. starts_with_slash (hier_of (n ∷ xs)) ≡ (n == 47)) (sym (eqb-true x 35 e)) refl
-      | false ↦ λ c. elim (x == 63) as (λ b. (x == 63) ≡ b → starts_with_slash (hier_of (x ∷ xs)) ≡ (x == 47)) [
-        | true ↦ λ e. subst (λ n. starts_with_slash (hier_of (n ∷ xs)) ≡ (n == 47)) (sym (eqb-true x 63 e)) refl
-        | false ↦ λ b. rw (c, b) refl
-      ] refl
-    ] refl
+    by_delimiter (λ n. starts_with_slash (hier_of (n ∷ xs)) ≡ (n == 47)) x refl refl refl (λ _ b c. rw (c, b) refl)
 
 slashes_or_delimiter : (x : ℕ) (xs : List ℕ) → starts_with_slashes (hier_of (x ∷ xs)) ≡ (x == 47 && starts_with_slash (hier_of xs))
 slashes_or_delimiter x xs =
-    elim (x == 35) as (λ b. (x == 35) ≡ b → starts_with_slashes (hier_of (x ∷ xs)) ≡ (x == 47 && starts_with_slash (hier_of xs))) [
-      | true ↦ λ e. subst (λ n. starts_with_slashes (hier_of (n ∷ xs)) ≡ (n == 47 && starts_with_slash (hier_of xs)))
-          (sym (eqb-true x 35 e)) refl
-      | false ↦ λ c. elim (x == 63) as (λ b. (x == 63) ≡ b
-          → starts_with_slashes (hier_of (x ∷ xs)) ≡ (x == 47 && starts_with_slash (hier_of xs))) [
-            | true ↦ λ e. subst (λ n. starts_with_slashes (hier_of (n ∷ xs)) ≡ (n == 47 && starts_with_slash (hier_of xs)))
-                (sym (eqb-true x 63 e)) refl
-            | false ↦ λ b. rw (c, b) refl
-          ] refl
-    ] refl
+    by_delimiter (λ n. starts_with_slashes (hier_of (n ∷ xs)) ≡ (n == 47 && starts_with_slash (hier_of xs))) x refl refl refl
+    (λ _ b c. rw (c, b) refl)
 
 slashes-hier : (bs : List ℕ) → starts_with_slashes (hier_of bs) ≡ starts_with_slashes bs
 slashes-hier [] = refl

@@ -1,13 +1,13 @@
 -- The test for IPv6 texts tells exactly the texts that are lists of groups.
 use Rattle.iri_grammar.proofs.Common.{◌≡◌, ◌↔◌, ℕ, ◌+◌, inl, inr, Bool, true, false, cond, not, ◌&&◌, ◌||◌, List, [], ◌∷◌, ◌++◌, Option}
-use Rattle.iri_grammar.proofs.Common.{Some, None, refl, sym, ◌∙◌, ap, subst, arith, ◌==◌, nat_lt, is_ascii_digit, is_ascii_hexdigit}
+use Rattle.iri_grammar.proofs.Common.{Some, None, refl, sym, ◌∙◌, ap, subst, arith, ◌==◌, nat_lt, is_ascii_hexdigit}
 use Rattle.iri_grammar.proofs.Common.{list_all, nat_tests, before, after, lacks, tail, begins, pieces, onto, more_pieces, is_ipv4}
-use Rattle.iri_grammar.proofs.Common.{is_dec_octet, are_four_octets, before_double, after_double, group_texts, is_ipv6_around, is_ipv6}
+use Rattle.iri_grammar.proofs.Common.{are_four_octets, before_double, after_double, group_texts, is_ipv6_around, is_ipv6}
 use Rattle.iri_grammar.proofs.CutLaws.{all-lacks, by_test, both}
 use Rattle.iri_grammar.specs.Pieces.{joined}
 use Rattle.iri_grammar.proofs.PiecesLaws.{pieces_cut}
 use Rattle.iri_grammar.specs.Ipv6.{IsFullIpv6, IsShortenedIpv6, IsIpv6, is_group, are_groups, are_groups_or_ipv4, group_count}
-use Rattle.iri_grammar.proofs.LiteralChars.{hex_of_group, octet-digits}
+use Rattle.iri_grammar.proofs.LiteralChars.{hex_of_group, is_ipv4_char, ipv4-chars, groups-all, mixed-all}
 
 -- a text without a delimiter is one piece
 pub one_piece : (c : ℕ) (t : List ℕ) → lacks c t ≡ true → pieces c t ≡ t ∷ []
@@ -143,58 +143,16 @@ unfolding is_part is_group
 group_part [] h = cc
 group_part (x ∷ xs) h = all-lacks is_ascii_hexdigit 58 (x ∷ xs) refl (hex_of_group (x ∷ xs) h)
 
-onto_lacks : (x : ℕ) (ps : List (List ℕ)) → list_all (lacks 58) (onto x ps) ≡ true
-    → (not (x == 58) ≡ true) × (list_all (lacks 58) ps ≡ true)
-onto_lacks x [] h = ((both (not (x == 58)) true (both (not (x == 58) && true) true h).0).0, refl)
-onto_lacks x (p ∷ ps) h =
-    let k = both (not (x == 58) && lacks 58 p) (list_all (lacks 58) ps) h in
-    let m = both (not (x == 58)) (lacks 58 p) k.0 in
-    (m.0, rw m.1 k.1)
-
-pieces_lack : (t : List ℕ) → list_all (lacks 58) (pieces 46 t) ≡ true → lacks 58 t ≡ true
-pieces_lack [] h = refl
-pieces_lack (x ∷ xs) h =
-    by_test x 46 (λ b. list_all (lacks 58) (cond b ([] ∷ pieces 46 xs) (onto x (pieces 46 xs))) ≡ true
-    → (not (x == 58) && lacks 58 xs) ≡ true)
-    (λ e k. rw e (pieces_lack xs k))
-    (λ _ k. let m = onto_lacks x (pieces 46 xs) k in rw m.0 (pieces_lack xs m.1))
-    h
-
-octet_lacks : (p : List ℕ) → is_dec_octet p ≡ true → lacks 58 p ≡ true
-octet_lacks p h = all-lacks is_ascii_digit 58 p refl (octet-digits p h)
-
-octets_lack : (ps : List (List ℕ)) → are_four_octets ps ≡ true → list_all (lacks 58) ps ≡ true
-octets_lack [] h = cc
-octets_lack (a ∷ []) h = cc
-octets_lack (a ∷ b ∷ []) h = cc
-octets_lack (a ∷ b ∷ c ∷ []) h = cc
-octets_lack (a ∷ b ∷ c ∷ d ∷ []) h =
-    let one = both (is_dec_octet a && is_dec_octet b && is_dec_octet c) (is_dec_octet d) h in
-    let two = both (is_dec_octet a && is_dec_octet b) (is_dec_octet c) one.0 in
-    let three = both (is_dec_octet a) (is_dec_octet b) two.0 in
-    rw (octet_lacks a three.0, octet_lacks b three.1, octet_lacks c two.1, octet_lacks d one.1) refl
-octets_lack (a ∷ b ∷ c ∷ d ∷ e ∷ ps) h = cc
-
 ipv4_part : (p : List ℕ) → is_ipv4 p ≡ true → is_part p ≡ true
 unfolding is_part
 ipv4_part [] h = cc
-ipv4_part (x ∷ xs) h = pieces_lack (x ∷ xs) (octets_lack (pieces 46 (x ∷ xs)) h)
+ipv4_part (x ∷ xs) h = all-lacks is_ipv4_char 58 (x ∷ xs) refl (ipv4-chars (x ∷ xs) h)
 
 groups_parts : (ps : List (List ℕ)) → are_groups ps ≡ true → list_all is_part ps ≡ true
-groups_parts [] h = refl
-groups_parts (p ∷ ps) h = let k = both (is_group p) (are_groups ps) h in rw (group_part p k.0) (groups_parts ps k.1)
-
-last_part : (p : List ℕ) → (is_group p || is_ipv4 p) ≡ true → is_part p ≡ true
-last_part p h =
-    elim (is_group p) as (λ b. is_group p ≡ b → (b || is_ipv4 p) ≡ true → is_part p ≡ true) [
-      | true ↦ λ e _. group_part p e
-      | false ↦ λ _ k. ipv4_part p k
-    ] refl h
+groups_parts = groups-all is_part group_part
 
 mixed_parts : (ps : List (List ℕ)) → are_groups_or_ipv4 ps ≡ true → list_all is_part ps ≡ true
-mixed_parts [] h = refl
-mixed_parts (p ∷ []) h = rw (last_part p h) refl
-mixed_parts (p ∷ q ∷ ps) h = let k = both (is_group p) (are_groups_or_ipv4 (q ∷ ps)) h in rw (group_part p k.0) (mixed_parts (q ∷ ps) k.1)
+mixed_parts = mixed-all is_part group_part ipv4_part
 
 -- ---- the law
 passes_full : (t : List ℕ) → IsFullIpv6 t → is_ipv6 t ≡ true

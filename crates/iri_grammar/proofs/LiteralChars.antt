@@ -4,6 +4,8 @@ use Rattle.iri_grammar.proofs.Common.{is_ascii_unreserved, is_sub_delim, pieces,
 use Rattle.iri_grammar.proofs.Common.{are_groups, are_groups_or_ipv4, group_count, before_double, after_double, group_texts, is_ipv6_around}
 use Rattle.iri_grammar.proofs.Common.{is_ipv6, is_ipvfuture, is_end, is_ip_literal, before, after, delimited, tail, begins}
 use Rattle.std.proofs.Common.{◌≡◌, ℕ, Bool, true, false, cond, ◌&&◌, ◌||◌, List, [], ◌∷◌, ◌++◌, Option, Some, None, refl, ◌∙◌, subst, arith}
+use Rattle.std.proofs.Common.{inl, inr}
+use Rattle.std.proofs.lemmas.Bool.{or_cases, or_left}
 use Rattle.std.proofs.lemmas.List.Folds.{list_all-append}
 use Rattle.iri_grammar.specs.Ipv4.{is_hundreds}
 use Rattle.iri_grammar.specs.IpLiteral.{some_of, is_future_address}
@@ -24,9 +26,13 @@ hex-literal : (c : ℕ) → is_ascii_hexdigit c ≡ true → is_literal_char c �
 unfolding is_literal_char is_ascii_userinfo is_ascii_reg_name is_ascii_unreserved is_sub_delim
 hex-literal c h = grind (arith, nat_tests)
 
-digit-literal : (c : ℕ) → is_ascii_digit c ≡ true → is_literal_char c ≡ true
+-- the characters of an IPv4 text: a digit or a dot
+abbrev pub is_ipv4_char : ℕ → Bool
+is_ipv4_char c = is_ascii_digit c || c == 46
+
+ipv4_char-literal : (c : ℕ) → is_ipv4_char c ≡ true → is_literal_char c ≡ true
 unfolding is_literal_char is_ascii_userinfo is_ascii_reg_name is_ascii_unreserved is_sub_delim
-digit-literal c h = grind (arith, nat_tests)
+ipv4_char-literal c h = grind (arith, nat_tests)
 
 userinfo-literal : (c : ℕ) → is_ascii_userinfo c ≡ true → is_literal_char c ≡ true
 unfolding is_literal_char
@@ -69,22 +75,25 @@ octet-digits (a ∷ b ∷ []) h = grind (arith, nat_tests)
 octet-digits (a ∷ b ∷ c ∷ []) h = let k = hundreds-digits a b c h in rw (k.0, k.1, k.2) refl
 octet-digits (a ∷ b ∷ c ∷ d ∷ ds) h = cc
 
-octet-literal : (xs : List ℕ) → is_dec_octet xs ≡ true → list_all is_literal_char xs ≡ true
-octet-literal xs h = all-weaken is_ascii_digit is_literal_char digit-literal xs (octet-digits xs h)
+octet-chars : (xs : List ℕ) → is_dec_octet xs ≡ true → list_all is_ipv4_char xs ≡ true
+octet-chars xs h = all-weaken is_ascii_digit is_ipv4_char (λ c k. or_left (is_ascii_digit c) (c == 46) k) xs (octet-digits xs h)
 
-octets-literal : (ps : List (List ℕ)) → are_four_octets ps ≡ true → list_all (list_all is_literal_char) ps ≡ true
-octets-literal [] h = refl
-octets-literal (a ∷ []) h = cc
-octets-literal (a ∷ b ∷ []) h = cc
-octets-literal (a ∷ b ∷ c ∷ []) h = cc
-octets-literal (a ∷ b ∷ c ∷ d ∷ []) h =
+octets-chars : (ps : List (List ℕ)) → are_four_octets ps ≡ true → list_all (list_all is_ipv4_char) ps ≡ true
+octets-chars [] h = refl
+octets-chars (a ∷ []) h = cc
+octets-chars (a ∷ b ∷ []) h = cc
+octets-chars (a ∷ b ∷ c ∷ []) h = cc
+octets-chars (a ∷ b ∷ c ∷ d ∷ []) h =
     let last = both (is_dec_octet a && is_dec_octet b && is_dec_octet c) (is_dec_octet d) h in
     let k = and_three (is_dec_octet a) (is_dec_octet b) (is_dec_octet c) last.0 in
-    rw (octet-literal a k.0, octet-literal b k.1, octet-literal c k.2, octet-literal d last.1) refl
-octets-literal (a ∷ b ∷ c ∷ d ∷ e ∷ ps) h = cc
+    rw (octet-chars a k.0, octet-chars b k.1, octet-chars c k.2, octet-chars d last.1) refl
+octets-chars (a ∷ b ∷ c ∷ d ∷ e ∷ ps) h = cc
+
+pub ipv4-chars : (xs : List ℕ) → is_ipv4 xs ≡ true → list_all is_ipv4_char xs ≡ true
+ipv4-chars xs h = pieces-all is_ipv4_char 46 xs refl (octets-chars (pieces 46 xs) h)
 
 pub ipv4-literal : (xs : List ℕ) → is_ipv4 xs ≡ true → list_all is_literal_char xs ≡ true
-ipv4-literal xs h = pieces-all is_literal_char 46 xs dot-literal (octets-literal (pieces 46 xs) h)
+ipv4-literal xs h = all-weaken is_ipv4_char is_literal_char ipv4_char-literal xs (ipv4-chars xs h)
 
 -- ---- IPv6
 pub hex_of_group : (p : List ℕ) → is_group p ≡ true → list_all is_ascii_hexdigit p ≡ true
@@ -94,22 +103,22 @@ hex_of_group p h = (and_three (list_all is_ascii_hexdigit p) _ _ h).0
 group-literal : (xs : List ℕ) → is_group xs ≡ true → list_all is_literal_char xs ≡ true
 group-literal xs h = all-weaken is_ascii_hexdigit is_literal_char hex-literal xs (hex_of_group xs h)
 
-groups-literal : (ps : List (List ℕ)) → are_groups ps ≡ true → list_all (list_all is_literal_char) ps ≡ true
-groups-literal [] h = refl
-groups-literal (p ∷ ps) h = let k = both (is_group p) (are_groups ps) h in rw (group-literal p k.0) (groups-literal ps k.1)
+-- what holds of groups and of IPv4 texts holds of the parts
+pub groups-all : (P : List ℕ → Bool) → ((p : List ℕ) → is_group p ≡ true → P p ≡ true) → (ps : List (List ℕ)) → are_groups ps ≡ true
+    → list_all P ps ≡ true
+groups-all P g [] h = refl
+groups-all P g (p ∷ ps) h = let k = both (is_group p) (are_groups ps) h in rw (g p k.0) (groups-all P g ps k.1)
 
-last-literal : (p : List ℕ) → (is_group p || is_ipv4 p) ≡ true → list_all is_literal_char p ≡ true
-last-literal p h =
-    elim (is_group p) as (λ b. is_group p ≡ b → (b || is_ipv4 p) ≡ true → list_all is_literal_char p ≡ true) [
-      | true ↦ λ e _. group-literal p e
-      | false ↦ λ _ k. ipv4-literal p k
-    ] refl h
+pub mixed-all : (P : List ℕ → Bool) → ((p : List ℕ) → is_group p ≡ true → P p ≡ true) → ((p : List ℕ) → is_ipv4 p ≡ true → P p ≡ true)
+    → (ps : List (List ℕ)) → are_groups_or_ipv4 ps ≡ true → list_all P ps ≡ true
+mixed-all P g i [] h = refl
+mixed-all P g i (p ∷ []) h =
+    let last : P p ≡ true = elim (or_cases (is_group p) (is_ipv4 p) h) [ inl k ↦ g p k | inr k ↦ i p k ] in
+    rw last refl
+mixed-all P g i (p ∷ q ∷ ps) h = let k = both (is_group p) (are_groups_or_ipv4 (q ∷ ps)) h in rw (g p k.0) (mixed-all P g i (q ∷ ps) k.1)
 
 mixed-literal : (ps : List (List ℕ)) → are_groups_or_ipv4 ps ≡ true → list_all (list_all is_literal_char) ps ≡ true
-mixed-literal [] h = refl
-mixed-literal (p ∷ []) h = rw (last-literal p h) refl
-mixed-literal (p ∷ q ∷ ps) h = let k = both (is_group p) (are_groups_or_ipv4 (q ∷ ps)) h in
-    rw (group-literal p k.0) (mixed-literal (q ∷ ps) k.1)
+mixed-literal = mixed-all (list_all is_literal_char) group-literal ipv4-literal
 
 parts-literal : (xs : List ℕ) → list_all (list_all is_literal_char) (group_texts xs) ≡ true → list_all is_literal_char xs ≡ true
 parts-literal [] h = refl
@@ -146,7 +155,7 @@ around-literal prefix None h = (
 )
 around-literal prefix (Some back) h =
     let k = and_three (are_groups (group_texts prefix)) (are_groups_or_ipv4 (group_texts back)) _ h in
-    (parts-literal prefix (groups-literal (group_texts prefix) k.0), parts-literal back (mixed-literal (group_texts back) k.1))
+    (parts-literal prefix (groups-all (list_all is_literal_char) group-literal (group_texts prefix) k.0), parts-literal back (mixed-literal (group_texts back) k.1))
 
 ipv6-literal : (xs : List ℕ) → is_ipv6 xs ≡ true → list_all is_literal_char xs ≡ true
 ipv6-literal xs h = let k = around-literal (before_double xs) (after_double xs) h in double-literal xs k.0 k.1
@@ -188,11 +197,7 @@ end-literal (Some []) h = rw close-literal refl
 end-literal (Some (x ∷ xs)) h = cc
 
 address : (xs : List ℕ) → (is_ipv6 xs || is_ipvfuture xs) ≡ true → list_all is_literal_char xs ≡ true
-address xs h =
-    elim (is_ipv6 xs) as (λ b. is_ipv6 xs ≡ b → (b || is_ipvfuture xs) ≡ true → list_all is_literal_char xs ≡ true) [
-      | true ↦ λ e _. ipv6-literal xs e
-      | false ↦ λ _ k. future-literal xs k
-    ] refl h
+address xs h = elim (or_cases (is_ipv6 xs) (is_ipvfuture xs) h) [ inl k ↦ ipv6-literal xs k | inr k ↦ future-literal xs k ]
 
 pub ip_literal-chars : (xs : List ℕ) → is_ip_literal xs ≡ true → list_all is_literal_char xs ≡ true
 ip_literal-chars [] h = refl

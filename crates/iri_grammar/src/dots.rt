@@ -56,8 +56,8 @@ fn has_dots_in_short(path: &[u8]) -> bool
     false
 }
 
-// The same of a path of 17 bytes and more, of which each place alone that may have one is looked at. The last places are looked
-// at perhaps twice. Byte by byte, web's lines take 2 instructions a byte more.
+// Whether a dot comes after a slash, in a path of 17 bytes and more, of which each place alone that may have one is looked at. The
+// last places are looked at perhaps twice. Byte by byte, web's lines take 2 instructions a byte more.
 #[inline(always)]
 fn has_dots_in_long(path: &[u8]) -> bool
     requires { 17 ≤ length path.now }

@@ -48,7 +48,7 @@ fn count_parts(s: &str, ipv4: bool) -> Option<usize>
     }
 }
 
-// The same, where the text may have no part.
+// How many groups the parts of a text are; it may have no part.
 fn count_groups(s: &str, ipv4: bool) -> Option<usize>
     ensures { result ≡ count ipv4 (group_texts s.now) }
 {
@@ -70,6 +70,7 @@ fn cut_double(s: &str) -> (&str, Option<&str>)
     }
 }
 
+#[tactic(auto, using(crate::proofs::Groups::full_count, crate::proofs::Groups::full_none))]
 fn is_full(s: &str) -> bool
     ensures { result ≡ is_full (group_texts s.now) }
 {

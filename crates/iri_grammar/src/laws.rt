@@ -18,6 +18,7 @@ ghost use Rattle.iri_grammar.specs.WholeFault.{reference_fault, iri_fault, absol
 use crate::spec::Spec;
 
 /// A text has at most one split, and `split_of` is it; each text is recomposed from `split_of`.
+#[tactic(auto, using(crate::proofs::SplitUnique::one_split, crate::proofs::SplitUnique::split_is, crate::proofs::SplitLaws::recompose_split))]
 pub fn one_split<S: Spec>()
     ensures unique { (t : List ℕ) (a b : Parts) → Splits S.tests t a → Splits S.tests t b → a ≡ b }
     ensures value { (t : List ℕ) (p : Parts) → Splits S.tests t p → split_of t ≡ p }
@@ -71,7 +72,8 @@ pub fn no_fault_of_authorities<S: Spec>()
     ensures port { (bs : List ℕ) → (bytes_fault port_fault bs ≡ None) ↔ (is_port bs ≡ true) }
 {}
 
-/// The same of scheme, path, a path's segment, query and fragment.
+/// Bytes have no fault exactly where they are the UTF-8 of a component in the production: of scheme, path, a path's
+/// segment, query and fragment.
 pub fn no_fault_of_components<S: Spec>()
     ensures scheme { (bs : List ℕ) → (bytes_fault scheme_fault bs ≡ None) ↔ (is_scheme bs ≡ true) }
     ensures path { (bs : List ℕ) → (bytes_fault (path_fault S.tests) bs ≡ None) ↔ (is_path S.tests bs ≡ true) }

@@ -108,7 +108,7 @@ fn short_run_len(class: Class, bytes: &[u8]) -> usize
     bytes.len()
 }
 
-// The same, by 16 bytes at a time: web's lines take 3 instructions a byte fewer than by `short_run_len` alone.
+// How many bytes at the start are ASCII characters of the class, by 16 bytes at a time: web's lines take 3 instructions a byte fewer than by `short_run_len` alone.
 #[inline(always)]
 pub(crate) fn run_len(class: Class, bytes: &[u8]) -> usize
     ensures { result ≡ run_of (ascii_test class) bytes.now }

@@ -151,7 +151,7 @@ fn leading_scheme(s: &str) -> Result<(), Error>
     scheme(cut_before(s, b':').0)
 }
 
-// The same, where no cut of the text has found them.
+// The scheme and its colon, where no cut of the text has found them.
 pub(crate) fn scheme_in_place<S: Spec>(
     cut: &Result<Splitter<'_>, Error>,
     s: &str,

@@ -5,20 +5,13 @@ use Rattle.iri_grammar.proofs.FaultLaws.{component-law, authority-law}
 use Rattle.iri_grammar.specs.declared.error.ErrorKind.TheVariants.{InvalidUserInfo, InvalidHost, InvalidRegName, InvalidPort}
 use Rattle.iri_grammar.proofs.laws.no_fault_of_authorities.Goals as goal
 
-pub returns-clause-authority : goal.returns-clause-authority
-returns-clause-authority g c = authority-law g.S.Spec.tests
-
-pub returns-clause-userinfo : goal.returns-clause-userinfo
-returns-clause-userinfo g c = λ bs. component-law (is_userinfo g.S.Spec.tests) InvalidUserInfo bs
-    (text_over-utf8 (userinfo_char g.S.Spec.tests) bs)
-
-pub returns-clause-host : goal.returns-clause-host
-returns-clause-host g c = λ bs. component-law (is_host g.S.Spec.tests) InvalidHost bs (host-utf8 g.S.Spec.tests bs)
-
-pub returns-clause-reg_name : goal.returns-clause-reg_name
-returns-clause-reg_name g c = λ bs.
-    component-law (λ x. is_reg_name g.S.Spec.tests x && not (is_ipv4 x)) InvalidRegName bs
-    (λ h. text_over-utf8 (reg_name_char g.S.Spec.tests) bs (both (is_reg_name g.S.Spec.tests bs) (not (is_ipv4 bs)) h).0)
-
-pub returns-clause-port : goal.returns-clause-port
-returns-clause-port g c = λ bs. component-law is_port InvalidPort bs (port-utf8 bs)
+pub returns : goal.returns
+returns g c =
+    let s = g.S.Spec.tests in
+    record {
+      authority = authority-law s;
+      userinfo = λ bs. component-law (is_userinfo s) InvalidUserInfo bs (text_over-utf8 (userinfo_char s) bs);
+      host = λ bs. component-law (is_host s) InvalidHost bs (host-utf8 s bs);
+      reg_name = λ bs. component-law (λ x. is_reg_name s x && not (is_ipv4 x)) InvalidRegName bs (λ h. text_over-utf8 (reg_name_char s) bs (both (is_reg_name s bs) (not (is_ipv4 bs)) h).0);
+      port = λ bs. component-law is_port InvalidPort bs (port-utf8 bs);
+    }

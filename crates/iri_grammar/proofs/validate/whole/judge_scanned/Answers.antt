@@ -1,4 +1,4 @@
-use Rattle.iri_grammar.proofs.Common.{true, subst, not-true, Answers, parts}
+use Rattle.iri_grammar.proofs.Common.{subst, not-true, Answers, parts}
 use Rattle.iri_grammar.proofs.PlainAuthorities.{plain-authorities}
 use Rattle.iri_grammar.proofs.PlainTails.{colon-fault, over-fault}
 use Rattle.iri_grammar.proofs.validate.whole.judge_scanned.Goals as goal
