@@ -8,7 +8,7 @@ use Rattle.std.proofs.lemmas.Simd.{bitmask_splat, first_set_mask_l, run_in_chunk
 use lib.Count.{count_trailing_zeros}
 use lib.Lanes.{mask_l, top, zip2}
 use Rattle.iri_text.specs.Lines.{NoLf}
-use Rattle.iri_text.specs.Line.{IsFirstLf}
+use Rattle.iri_text.specs.inside.Layout.{IsFirstLf}
 use Rattle.iri_text.proofs.Parts.{NoLf-further, NoLf-nowhere, get_or-part, length-part}
 
 abbrev mask_of : List ℕ → ℕ

@@ -3,7 +3,8 @@ use Rattle.std.proofs.Common.{◌≡◌, ℕ, ◌+◌, ◌-◌, ◌<◌, ◌≤�
 use Rattle.std.proofs.Common.{Result, refl, sym, ◌∙◌, ap, subst, arith, true≢false, inl, suc, drop-cons, drop-drop, length-append}
 use Rattle.std.proofs.lemmas.List.{take-append-drop, take-take, drop-take, drop_all, length-take-le}
 use Rattle.iri_text.specs.Lines.{NoLf, no_cr}
-use Rattle.iri_text.specs.Line.{LineState, IsFirstLf, IsLaidOut}
+use Rattle.iri_text.specs.Line.{LineState}
+use Rattle.iri_text.specs.inside.Layout.{IsFirstLf, IsLaidOut}
 use Rattle.iri_text.specs.Reader.{Advances, Says, HasCause, GivesLine, IsTooLong, IsExhausted, is_final}
 use Rattle.iri_text.specs.declared.streams.reader.LineFault.{LineFault}
 use Rattle.iri_text.proofs.Moved.{Moved}

@@ -1,7 +1,6 @@
 -- How the fields of a reader are seen.
 use Rattle.std.specs.Prelude.{slice_range}
-use Rattle.std.specs.Vec.{vec_capacity}
-use Rattle.iri_text.specs.Line.{LineState, IsLaidOut}
+use Rattle.iri_text.specs.Line.{LineState}
 use Rattle.iri_text.specs.declared.streams.reader.LineReader.TheInside.{Inside}
 
 abbrev pub line_state : Inside → LineState
@@ -14,6 +13,3 @@ line_state a = record {
   line_limit = a.line_limit;
   input_limit = a.input_limit;
 }
-
-abbrev pub IsSound : Inside → Type 0
-IsSound a = IsLaidOut a.buf.items (vec_capacity a.buf) a.ended a.start a.end a.lf a.line_start a.line_end a.taken a.line_limit a.input_limit

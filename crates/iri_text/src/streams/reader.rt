@@ -5,7 +5,7 @@ ghost use Rattle.std.specs.List.{prefix_len};
 ghost use Rattle.std.specs.Prelude.{slice_range, slice_index, IfOk, OnErr};
 ghost use Rattle.std.specs.Vec.{vec_capacity};
 ghost use Rattle.iri_text.specs.Lines.{NoLf, no_cr};
-ghost use Rattle.iri_text.specs.Line.{IsFirstLf};
+ghost use Rattle.iri_text.specs.inside.Layout.{IsFirstLf};
 ghost use Rattle.iri_text.specs.LineEnds.{line_feed};
 ghost use Rattle.iri_text.specs.Source.{Consumes, IsAtEnd};
 ghost use Rattle.iri_text.specs.Count.{Rose};
@@ -71,7 +71,8 @@ impl Model for LineReader {
 
     ghost Value = { LineState };
 
-    ghost use Rattle.iri_text.specs.View.{line_state, IsSound};
+    ghost use Rattle.iri_text.specs.View.{line_state};
+    ghost use Rattle.iri_text.specs.inside.Layout.{IsSound};
 
     ghost view = { line_state };
 

@@ -1,5 +1,6 @@
 use Rattle.std.proofs.Common.{◌≡◌, false, ◌+◌, ◌-◌, ◌≤◌}
-use Rattle.iri_text.specs.View.{IsSound, line_state}
+use Rattle.iri_text.specs.View.{line_state}
+use Rattle.iri_text.specs.inside.Layout.{IsSound}
 use Rattle.iri_text.specs.Takings.{TakesWhileNoLf}
 use Rattle.iri_text.proofs.Moved.{Moved}
 use Rattle.iri_text.proofs.streams.reader.LineReader.find_line.Given as goal
