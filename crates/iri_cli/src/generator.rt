@@ -9,6 +9,7 @@ ghost use Rattle.iri_normal.specs.Resolver.{base_text};
 ghost use Rattle.iri_cli.specs.help.Notices.{PutsText};
 ghost use Rattle.iri_cli.specs.run.Words.{tests_of};
 ghost use Rattle.iri_cli.specs.generator.References.{gen_segment, more_segments, gen_reference, gen_base, gen_bytes, gen_sum, gen_text};
+ghost use Rattle.iri_cli.specs.generator.References.{most_references};
 
 use crate::canon::resolver_of;
 use crate::help::put_text;
@@ -124,7 +125,7 @@ fn totals_of<S: Spec>(
     count: u32,
 ) -> Result<Totals, AllocError>
     requires base { base_text resolver ≡ gen_base }
-    requires most { count ≤ 100000 }
+    requires most { count ≤ most_references }
     ensures { IfOk result
         (λ t. (t.bytes ≡ gen_bytes S.tests count) × (t.sum ≡ gen_sum S.tests count)) }
 {
@@ -152,7 +153,7 @@ fn base_resolver<S: Spec>() -> FixedBaseResolver<'static, S>
 
 // The three lines that tell of the canonical texts of so many references.
 fn gen_lines<S: Spec>(alloc: Global, count: u32) -> Result<String, AllocError>
-    requires { count ≤ 100000 }
+    requires { count ≤ most_references }
     ensures { IfOk result (λ t. string_bytes t ≡ gen_text S.tests count) }
 {
     let Totals { bytes, sum } = totals_of::<S>(alloc, base_resolver(), count)?;
@@ -161,7 +162,7 @@ fn gen_lines<S: Spec>(alloc: Global, count: u32) -> Result<String, AllocError>
 
 // The lines that `gen` writes, by a grammar.
 fn gen_lines_by(alloc: Global, grammar: Grammar, count: u32) -> Result<String, AllocError>
-    requires { count ≤ 100000 }
+    requires { count ≤ most_references }
     ensures { IfOk result (λ t. string_bytes t ≡ gen_text (tests_of grammar) count) }
 {
     match grammar {
@@ -172,7 +173,7 @@ fn gen_lines_by(alloc: Global, grammar: Grammar, count: u32) -> Result<String, A
 
 /// Makes the lines of `gen`, and writes them.
 pub(crate) fn generate<O: Sink>(alloc: Global, grammar: Grammar, count: u32, sink: &mut O) -> u8
-    requires { count ≤ 100000 }
+    requires { count ≤ most_references }
     ensures puts { let state = sink_state O.written O.faults O.room_left in
         PutsText (gen_text (tests_of grammar) count) (state sink.old) (state sink.new) result
         ⊎ ((result ≡ 6) × (state sink.new ≡ state sink.old)) }

@@ -125,8 +125,8 @@ fn obey<I: Source, O: Sink>(
 /// - 6: allocation failed; with `canon` nothing was read or written; with the other commands that
 ///   may be so, or it failed at a base line that is taken or at a line whose answer takes memory,
 ///   and the lines before it were answered
-/// - 7: a line has more than 1,048,576 bytes before its LF; 8: the input has more than
-///   1,073,741,824 bytes; the lines before are answered
+/// - 7: a line has more than [`LARGEST_LINE_LIMIT`](iri_text::LARGEST_LINE_LIMIT) bytes before its
+///   LF; 8: the input has more than 1,073,741,824 bytes; the lines before are answered
 ///
 /// 4 and 5 come only where the count of faults of the source, or of the sink, rose in this call;
 /// the others exactly where what is said of them holds, but that they yield to 5, and to 6. Of 3, 7

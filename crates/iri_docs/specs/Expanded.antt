@@ -12,12 +12,13 @@ use Rattle.iri_template.specs.TypeFaults.{expansion_fault, type_fault}
 use Rattle.iri_template.specs.declared.error.Error.{Error}
 use Rattle.iri_normal.specs.NormalForm.{canonical}
 use Rattle.iri_docs.specs.Held.{Held}
+use Rattle.iri_text.specs.Limits.{largest_line_limit}
 use Rattle.iri_docs.specs.declared.expand_error.DocExpandError.{DocExpandError}
 use Rattle.iri_docs.specs.declared.expand_error.DocExpandError.TheVariants.{Template, TooLong, Invalid}
 
 -- how many bytes an expansion may have
 abbrev pub expansion_limit : ℕ
-expansion_limit = 1048576
+expansion_limit = largest_line_limit
 
 abbrev pub within_limit : List ℕ → Result (List ℕ) DocExpandError
 within_limit text = if nat_lt expansion_limit (length text) then Err TooLong else Ok text

@@ -14,13 +14,14 @@ use iri_normal::resolver::FixedBaseResolver;
 use iri_owned::owned::RiString;
 use iri_template::expanded::Expanded;
 use iri_template::simple_context::SimpleContext;
+use iri_text::LARGEST_LINE_LIMIT;
 use iri_types::kind::Reference;
 use iri_types::split::SplitView;
 use iri_types::view::RiAbsoluteStr;
 use std::alloc::Global;
 
 /// How many bytes an expansion may have.
-pub const EXPANSION_LIMIT: usize = 1_048_576;
+pub const EXPANSION_LIMIT: usize = LARGEST_LINE_LIMIT;
 
 // The expansion of a template, which is within the limit.
 fn expand<S: Spec>(

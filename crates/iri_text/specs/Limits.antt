@@ -4,6 +4,10 @@ use Rattle.iri_text.specs.declared.streams.reader.LineFault.{LineFault}
 use Rattle.iri_text.specs.declared.streams.reader.LineFault.TheVariants.{Source, LineTooLong, InputTooLong}
 use Rattle.iri_text.specs.LineEnds.{line_feed}
 
+-- the largest limit of a line that a reader of lines may have
+abbrev pub largest_line_limit : ℕ
+largest_line_limit = 1048576
+
 -- The limit that is passed first before this line ends, if one is, and at one and the same byte that of the input:
 -- `place` bytes came before these, and the last `len` of them stand on this line. A CR counts.
 abbrev pub limit_fault : (line input place len : ℕ) → List ℕ → Option LineFault

@@ -58,7 +58,7 @@ pub use streams::memory_sink::MemorySink;
 pub use streams::memory_source::MemorySource;
 pub use streams::plain_source::PlainSource;
 pub use streams::read_source::ReadSource;
-pub use streams::reader::{LineFault, LineReader};
+pub use streams::reader::{LARGEST_LINE_LIMIT, LineFault, LineReader};
 pub use streams::write_sink::WriteSink;
 
 /// A source or a sink failed.

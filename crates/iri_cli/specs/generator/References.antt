@@ -4,6 +4,10 @@ use Rattle.iri_grammar.specs.Classes.{Tests}
 use Rattle.iri_normal.specs.NormalForm.{canonical}
 use Rattle.iri_grammar.specs.Characters.{slash}
 
+-- how many references are made at most
+abbrev pub most_references : ℕ
+most_references = 100000
+
 -- the segments of which references are made, by number
 abbrev pub gen_segments : List (List ℕ)
 gen_segments =

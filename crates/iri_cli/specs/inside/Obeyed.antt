@@ -1,6 +1,6 @@
 -- What a run does by its command.
 use Rattle.std.specs.Prelude.{◌≡◌, ◌≤◌, ℕ, Option, None, Some}
-use Rattle.iri_cli.specs.generator.References.{gen_text}
+use Rattle.iri_cli.specs.generator.References.{gen_text, most_references}
 use Rattle.iri_cli.specs.help.Notices.{MakesText, Tells, notice_text}
 use Rattle.iri_cli.specs.run.Run.{Outside, RunsLines}
 use Rattle.iri_cli.specs.run.Words.{HasToken, rules_of, tests_of}
@@ -11,7 +11,7 @@ use Rattle.iri_cli.specs.declared.run.words.Command.TheVariants.{Lines, Gen, Tel
 abbrev pub IsSound : Option Command → Type 0
 IsSound None = Unit {0}
 IsSound (Some (Lines command grammar)) = HasToken command
-IsSound (Some (Gen grammar count)) = count ≤ 100000
+IsSound (Some (Gen grammar count)) = count ≤ most_references
 IsSound (Some (Tell notice)) = Unit {0}
 
 -- what is done for this command, or for none

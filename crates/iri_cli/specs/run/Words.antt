@@ -7,6 +7,7 @@ use Rattle.iri_cli.specs.run.Ending.{Rules}
 use Rattle.iri_cli.specs.canon.Rules.{canon_rules_in}
 use Rattle.iri_cli.specs.docs.Rules.{docs_rules}
 use Rattle.iri_cli.specs.expand.Rules.{expand_rules}
+use Rattle.iri_cli.specs.generator.References.{most_references}
 use Rattle.iri_cli.specs.links.Rules.{links_rules}
 use Rattle.iri_cli.specs.register.Rules.{register_rules}
 use Rattle.iri_cli.specs.robots.Rules.{robots_rules}
@@ -54,11 +55,11 @@ abbrev pub HasToken : LineCommand → Type 0
 HasToken (Robots token) = is_token token.now ≡ true
 HasToken command = Unit {0}
 
--- a number from 1 to 100000 in decimal, without a leading zero
+-- a number of references in decimal, without a leading zero
 pub record IsCount (word : List ℕ) (count : ℕ) : Type 0 where
   pub spelled : word ≡ decimal count
   pub least : 1 ≤ count
-  pub most : count ≤ 100000
+  pub most : count ≤ most_references
 
 -- These words, in UTF-8, are this command.
 abbrev pub IsCommand : List (List ℕ) → Command → Type 0

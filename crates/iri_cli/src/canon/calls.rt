@@ -17,7 +17,8 @@ use iri_text::{Sink, Source};
 /// - 0: all lines were answered, and each answer begins with `ok `; 1: the same, but some answer doesn't begin so
 /// - 3: the base line is no absolute URI of `S`, and the one line written names its first fault
 /// - 4: the source failed; 5: the sink failed
-/// - 7: a line has more than 1,048,576 bytes before its LF; 8: the input has more than 1,073,741,824 bytes
+/// - 7: a line has more than [`LARGEST_LINE_LIMIT`](iri_text::LARGEST_LINE_LIMIT) bytes before its LF; 8: the input has more
+///   than 1,073,741,824 bytes
 pub fn canon_lines<S: Spec, I: Source, O: Sink>(
     buffers: CanonBuffers,
     source: &mut I,

@@ -3,11 +3,11 @@ ghost use Rattle.std.specs.Prelude.{◌≤◌, IfOk, length};
 ghost use Rattle.std.specs.Vec.{vec_capacity};
 ghost use Rattle.iri_cli.specs.run.Buffers.{AreBuffers};
 
-use iri_text::LineReader;
+use iri_text::{LARGEST_LINE_LIMIT, LineReader};
 use std::alloc::{AllocError, Global};
 
 /// How many bytes a line may have before its LF.
-pub const LINE: usize = 1048576;
+pub const LINE: usize = LARGEST_LINE_LIMIT;
 
 /// How many bytes the input may have.
 pub const INPUT: u64 = 1073741824;

@@ -10,6 +10,9 @@ use iri_normal::mode::CanonMode;
 use iri_robots::is_product_token;
 use iri_text::write_to_slice;
 
+// How many references `gen` makes at most.
+const MOST_REFERENCES: u32 = 100_000;
+
 /// Which of the two grammars a command works by.
 #[derive(Clone, Copy)]
 pub enum Grammar {
@@ -78,14 +81,14 @@ fn is_decimal(word: &str, number: u32) -> bool
     }
 }
 
-// The number from 1 to 100,000 that is spelled in decimal, without a leading zero.
+// The number from 1 to `MOST_REFERENCES` that is spelled in decimal, without a leading zero.
 fn count_of(word: &str) -> Option<u32>
     ensures { MatchOption result ((count : ℕ) → ¬ (IsCount word.now count)) (IsCount word.now) }
 {
     let Ok(count) = word.parse::<u32>() else {
         return None;
     };
-    if count < 1 || count > 100000 || !is_decimal(word, count) {
+    if count < 1 || count > MOST_REFERENCES || !is_decimal(word, count) {
         return None;
     }
     Some(count)

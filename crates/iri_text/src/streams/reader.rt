@@ -7,6 +7,7 @@ ghost use Rattle.std.specs.Vec.{vec_capacity};
 ghost use Rattle.iri_text.specs.Lines.{NoLf, no_cr};
 ghost use Rattle.iri_text.specs.inside.Layout.{IsFirstLf};
 ghost use Rattle.iri_text.specs.LineEnds.{line_feed};
+ghost use Rattle.iri_text.specs.Limits.{largest_line_limit};
 ghost use Rattle.iri_text.specs.Source.{Consumes, IsAtEnd};
 ghost use Rattle.iri_text.specs.Count.{Rose};
 ghost use Rattle.iri_text.specs.Reader.{Advances, is_final, done_by};
@@ -20,6 +21,9 @@ use std::marker::Model;
 use std::simd::prelude::*;
 
 const BLOCK: usize = 65536;
+
+/// The largest limit of a line's bytes that a [`LineReader`] may have.
+pub const LARGEST_LINE_LIMIT: usize = 1_048_576;
 
 /// Why there is no next line.
 #[derive(Clone, Copy, Debug, PartialEq, Eq)]
@@ -262,13 +266,13 @@ impl LineReader {
     ghost use Rattle.iri_text.specs.Reader.{NextLine};
 
     /// A reader that takes all of the memory that it will need: `line_limit` and 65,536 bytes. It has conditions: both
-    /// limits are counts of bytes, for a line at least 1 and at most 1,048,576, for the input less than 2^63.
+    /// limits are counts of bytes, for a line at least 1 and at most [`LARGEST_LINE_LIMIT`], for the input less than 2^63.
     ///
     /// # Errors
     ///
     /// Where allocation fails.
     pub fn new(alloc: Global, line_limit: usize, input_limit: u64) -> Result<LineReader, AllocError>
-        requires { (0 < line_limit) × (line_limit ≤ 1048576) × (input_limit < 2 ^ 63) }
+        requires { (0 < line_limit) × (line_limit ≤ largest_line_limit) × (input_limit < 2 ^ 63) }
         ensures { IfOk result (λ r. (r.held ≡ []) × (r.taken ≡ 0) × (r.ended ≡ false) × (r.line_limit ≡ line_limit)
             × (r.input_limit ≡ input_limit) × (r.done ≡ false)) }
     {
