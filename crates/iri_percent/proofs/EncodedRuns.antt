@@ -7,7 +7,8 @@ use Rattle.iri_percent.proofs.Common.{is_ascii_reg_name, is_ascii_unreserved, is
 use Rattle.iri_percent.proofs.Common.{triplets, encoded, encoded_char, is_other, run_text, IsPastRun}
 use Rattle.iri_grammar.proofs.ClassLaws.{class_at_ascii}
 use Rattle.iri_grammar.specs.declared.class.Class.{Class}
-use Rattle.iri_text.proofs.CharSteps.{first_char, no_chars}
+use Rattle.iri_text.proofs.CharSteps.{first_char}
+use Rattle.std.proofs.StrCases.{chars_of_empty}
 use Rattle.iri_percent.specs.inside.Runs.{IsRun}
 
 -- a userinfo has the colon beside the characters of a reg-name
@@ -34,7 +35,7 @@ char_run p c stands h = rw h refl
 
 pub encoded-none : (p : ℕ → Bool) (t : List ℕ) → length t ≡ 0 → encoded p t ≡ []
 unfolding encoded
-encoded-none p t h = ap (flat_map (encoded_char p)) (no_chars t h)
+encoded-none p t h = ap (flat_map (encoded_char p)) (chars_of_empty t h)
 
 encoded-first : (p : ℕ → Bool) (c : ℕ) (t r : List ℕ) → chars t ≡ c ∷ chars r → encoded p t ≡ encoded_char p c ++ encoded p r
 unfolding encoded

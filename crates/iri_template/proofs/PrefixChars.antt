@@ -2,7 +2,7 @@
 use Rattle.iri_template.proofs.Common.{◌≡◌, ◌≢◌, ℕ, zero, suc, ◌-◌, cond, false, List, [], ◌∷◌, ◌++◌, take, refl, sym, ◌∙◌, ap, subst}
 use Rattle.iri_template.proofs.Common.{arith, append-nil, Result, Ok, Err, ◌<◌, Bool, true, Option, None, Some, length, nat_le}
 use Rattle.iri_template.proofs.Common.{length-append, ◌==◌, flat_map, encode_utf8, IsUtf8, chars, encode_utf8_all, chars-nil}
-use Rattle.iri_template.proofs.Common.{len_utf8_bounds, nat_tests, Tests, unreserved, first_char, no_chars, AreSinkLaws, Shows, texts, Stop}
+use Rattle.iri_template.proofs.Common.{len_utf8_bounds, nat_tests, Tests, unreserved, first_char, chars_of_empty, AreSinkLaws, Shows, texts, Stop}
 use Rattle.iri_template.proofs.Common.{keeps, encoded_char, encoded, prefix_step, char_text, limited, shown_text, is_used_up}
 use Rattle.std.proofs.lemmas.Str.{chars-append, encodes-chars, length-encode}
 use Rattle.iri_text.proofs.ThroughLaws.{through_laws}
@@ -130,5 +130,5 @@ pub value_decides : (s : Tests) (count : Option ℕ) (t : List ℕ) (b : Bool) �
     → (b ≡ false → 0 < length (chars t)) → b ≡ (length (shown_text s false count t) == 0)
 value_decides s count t true h e some =
     let none : length t ≡ 0 = grind (arith, nat_tests) in
-    sym (none_limited (unreserved s) count (chars t) (no_chars t none))
+    sym (none_limited (unreserved s) count (chars t) (chars_of_empty t none))
 value_decides s count t false h e some = sym (some_limited (unreserved s) count (chars t) h (some refl))

@@ -1,7 +1,6 @@
 -- The characters of a text, one by one.
-use Rattle.iri_text.proofs.Common.{◌≡◌, ℕ, List, [], ◌∷◌, ◌++◌, length, IsUtf8, chars, sym, ◌∙◌, ap, chars-nil}
+use Rattle.iri_text.proofs.Common.{◌≡◌, ℕ, List, ◌∷◌, ◌++◌, IsUtf8, chars, sym, ◌∙◌, ap}
 use Rattle.std.specs.Char.{encode_utf8}
-use Rattle.std.proofs.lemmas.List.{nil_from_length}
 use Rattle.std.proofs.lemmas.Bool.{and_parts}
 use Rattle.std.proofs.lemmas.Str.{chars_from_encodes, cons_from_encodes}
 use lib.Utf8.{scalar, scalars}
@@ -18,6 +17,3 @@ first_char bs rest c (cs, (ok, e)) is =
       first = sym (chars_from_encodes cs bs (cs, (ok, e)) e) ∙ split.1 ∙ ap (λ l. c ∷ l) (chars_from_encodes split.0 rest after split.2);
       utf8 = after;
     }
-
-pub no_chars : (bs : List ℕ) → length bs ≡ 0 → chars bs ≡ []
-no_chars bs h = ap chars (nil_from_length bs h) ∙ chars-nil

@@ -1,4 +1,4 @@
-use Rattle.iri_template.proofs.Common.{◌∙◌, refl, sym, subst, ap, IsUtf8, chars, chars_rest, first_char, no_chars, prefix_step, char_text}
+use Rattle.iri_template.proofs.Common.{◌∙◌, refl, sym, subst, ap, IsUtf8, chars, chars_rest, first_char, chars_of_empty, prefix_step, char_text}
 use Rattle.iri_text.specs.inside.Through.{after}
 use Rattle.iri_template.proofs.ThroughEach.{HasPutUpTo, up_to_none, up_to_more, up_to_exit, up_to_last, up_to_end}
 use Rattle.iri_template.proofs.PrefixChars.{none_left, none_after, some_left}
@@ -48,8 +48,8 @@ returns-in_err-put_char-clause-shows g c =
 
 pub returns-clause-shows : goal.returns-clause-shows
 returns-clause-shows g c = up_to_end g.met.W.TextSink.rules
-    (no_chars _ c.in-None.ensures.steps.0.0) c.loop-c.invariant.far
+    (chars_of_empty _ c.in-None.ensures.steps.0.0) c.loop-c.invariant.far
 
 pub returns-clause-left : goal.returns-clause-left
 returns-clause-left g c = sym (c.loop-c.invariant.far.goes_on
-    ∙ ap (λ l. after prefix_step (char_text g.S.Spec.tests) c.loop-c.left l) (no_chars _ c.in-None.ensures.steps.0.0))
+    ∙ ap (λ l. after prefix_step (char_text g.S.Spec.tests) c.loop-c.left l) (chars_of_empty _ c.in-None.ensures.steps.0.0))

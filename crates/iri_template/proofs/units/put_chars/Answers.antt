@@ -1,5 +1,5 @@
 use Rattle.iri_template.proofs.Common.{◌≡◌, ℕ, false, cond, List, Option, ◌∙◌, sym, subst, ap, length, IsUtf8, chars, chars_rest}
-use Rattle.iri_template.proofs.Common.{first_char, no_chars, fewer, step_units, step_pending, is_used_up, next_state, unit_step}
+use Rattle.iri_template.proofs.Common.{first_char, chars_of_empty, fewer, step_units, step_pending, is_used_up, next_state, unit_step}
 use Rattle.iri_template.proofs.Common.{unit_step_text, Units}
 use Rattle.iri_template.proofs.ThroughEach.{HasPutUpTo, up_to_none, up_to_more, up_to_exit, up_to_last, up_to_end}
 use Rattle.iri_text.specs.inside.Through.{after}
@@ -59,7 +59,7 @@ returns-in_err-put_char-clause-shows g c =
 pub returns : goal.returns
 returns g c =
     let i = c.loop-c.invariant in
-    let none = no_chars _ c.in-None.ensures.steps.0.0 in
+    let none = chars_of_empty _ c.in-None.ensures.steps.0.0 in
     record {
       shows = up_to_end g.met.W.TextSink.rules none i.far;
       goes_on = sym (i.far.goes_on ∙ ap (λ l. after unit_step (unit_step_text g.S.Spec.tests) c.loop-c.state l) none);

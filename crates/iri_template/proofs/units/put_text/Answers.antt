@@ -1,4 +1,4 @@
-use Rattle.iri_template.proofs.Common.{◌≡◌, ◌++◌, ◌∙◌, sym, ap, rules, chars, IsUtf8, no_chars, unit_step, unit_step_text}
+use Rattle.iri_template.proofs.Common.{◌≡◌, ◌++◌, ◌∙◌, sym, ap, rules, chars, IsUtf8, chars_of_empty, unit_step, unit_step_text}
 use Rattle.std.proofs.lemmas.Str.{chars-append}
 use Rattle.iri_text.specs.inside.Through.{after}
 use Rattle.iri_template.proofs.ThroughEach.{up_to_none, up_to_some, up_to_stop, up_to_end}
@@ -40,7 +40,7 @@ returns-in_err-put_piece-clause-shows g c =
 pub returns : goal.returns
 returns g c =
     let i = c.pieces.invariant in
-    let none = no_chars c.pieces.rest.now c.in_default.ensures in
+    let none = chars_of_empty c.pieces.rest.now c.in_default.ensures in
     record {
       shows = up_to_end g.met.W.TextSink.rules none i.far;
       goes_on = sym (i.far.goes_on ∙ ap (λ l. after unit_step (unit_step_text g.S.Spec.tests) c.pieces.state l) none);

@@ -1,7 +1,8 @@
 use Rattle.std.proofs.Common.{◌∙◌, sym, subst, ap, refl, Ok}
 use Rattle.std.specs.Str.{IsUtf8, chars}
 use Rattle.std.specs.Str.Iter.{chars_rest}
-use Rattle.iri_text.proofs.CharSteps.{first_char, no_chars}
+use Rattle.iri_text.proofs.CharSteps.{first_char}
+use Rattle.std.proofs.StrCases.{chars_of_empty}
 use Rattle.iri_template.proofs.ThroughEach.{HasPutUpTo, up_to_none, up_to_more, up_to_exit, up_to_end}
 use Rattle.iri_text.specs.Shown.{Shows}
 use Rattle.iri_template_rows.proofs.PlainChars.{no_step, plain_text, plain_all}
@@ -43,4 +44,4 @@ returns g c =
     let w = g.W.TextSink in
     subst (λ l. Shows w.puts w.halts w.stops c.args.sink.now l c.loop-c.sink (Ok tt)) (plain_all c.args.text.now c.utf8.text)
     (up_to_end g.met.W.TextSink.rules
-    (no_chars _ c.in-None.ensures.steps.0.0) c.loop-c.invariant.far)
+    (chars_of_empty _ c.in-None.ensures.steps.0.0) c.loop-c.invariant.far)
