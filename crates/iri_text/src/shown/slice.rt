@@ -68,7 +68,7 @@ impl fmt::Display for CapacityOverflowError {
 impl std::error::Error for CapacityOverflowError {}
 
 /// Writes the text of a value to the start of a slice, and says how many bytes it has. What is behind it stays as it was.
-/// It takes no memory.
+/// It allocates nothing.
 ///
 /// # Errors
 ///
@@ -95,7 +95,7 @@ pub fn write_at_start<T: Show>(buf: &mut [u8], value: &T) -> Result<usize, Capac
     }
 }
 
-/// Writes the text of a value to the start of a slice, and gives it back. It takes no memory. What the slice holds then
+/// Writes the text of a value to the start of a slice, and gives it back. It allocates nothing. What the slice holds then
 /// [`write_at_start`] says, which it calls.
 ///
 /// # Errors
