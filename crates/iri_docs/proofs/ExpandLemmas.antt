@@ -18,17 +18,19 @@ use Rattle.iri_template.specs.declared.error.Error.{Error}
 use Rattle.iri_template.specs.declared.simple_context.SimpleContext.{SimpleContext}
 use Rattle.iri_normal.specs.NormalForm.{canonical}
 use Rattle.iri_owned.specs.OwnedText.{OwnedText}
-use Rattle.iri_docs.specs.Expanded.{canonical_of, canonical_or_fault, expansion_limit, unless_fault, unless_invalid, within_limit}
+use Rattle.iri_docs.specs.Documents.{result_and_then, unless}
+use Rattle.iri_docs.specs.Expanded.{canonical_or_fault, expansion_limit, within_limit}
 use Rattle.iri_docs.specs.Held.{Held}
 use Rattle.iri_docs.specs.declared.expand_error.DocExpandError.{DocExpandError}
+use Rattle.iri_docs.specs.declared.expand_error.DocExpandError.TheVariants.{Invalid}
 
 module _ (s : Tests) (v : List ℕ → ShownValue) (t : List ℕ) where
   pub faulty : (e : Error) → expansion_fault v t ≡ Some e → expansion_within s v t ≡ Err (Template e)
-  faulty e fault = ap (λ f. unless_fault f (within_limit (expansion s v (pieces_of t)))) fault
+  faulty e fault = ap (λ f. unless Template f (within_limit (expansion s v (pieces_of t)))) fault
 
   module _ (good : expansion_fault v t ≡ None) where
     by_length : expansion_within s v t ≡ within_limit (expansion s v (pieces_of t))
-    by_length = ap (λ f. unless_fault f (within_limit (expansion s v (pieces_of t)))) good
+    by_length = ap (λ f. unless Template f (within_limit (expansion s v (pieces_of t)))) good
 
     pub too_long : expansion_limit < length (expansion s v (pieces_of t)) → expansion_within s v t ≡ Err TooLong
     too_long long =
@@ -53,17 +55,17 @@ ok_same h = cc
 module _ (s : Tests) (spec : IsSpec s) (base : List ℕ) (d : Held) (answer : List ℕ) where
   is_canonical : (t : List ℕ) → canonical_or_fault s base t ≡ Ok answer → (IsReference s t) × (answer ≡ canonical s base t)
   is_canonical t =
-      elim (reference_fault s t) as (λ f. reference_fault s t ≡ f → unless_invalid f (canonical s base t) ≡ Ok answer
+      elim (reference_fault s t) as (λ f. reference_fault s t ≡ f → unless (λ kind. Invalid (record { kind = kind })) f (Ok (canonical s base t)) ≡ Ok answer
       → (IsReference s t) × (answer ≡ canonical s base t)) [
         | None ↦ λ valid is. ((reference-law s spec t).0 valid, sym (ok_same is))
         | Some kind ↦ λ invalid is. cc
       ] refl
 
-  is_within : (t : List ℕ) → canonical_of s base (within_limit t) ≡ Ok answer
+  is_within : (t : List ℕ) → result_and_then (canonical_or_fault s base) (within_limit t) ≡ Ok answer
       → (length t ≤ expansion_limit) × (IsReference s t) × (answer ≡ canonical s base t)
   is_within t =
       elim (nat_lt expansion_limit (length t)) as (λ b. nat_lt expansion_limit (length t) ≡ b
-      → canonical_of s base (if b then Err TooLong else Ok t) ≡ Ok answer
+      → result_and_then (canonical_or_fault s base) (if b then Err TooLong else Ok t) ≡ Ok answer
       → (length t ≤ expansion_limit) × (IsReference s t) × (answer ≡ canonical s base t)) [
         | true ↦ λ long is. cc
         | false ↦ λ short is. let z = is_canonical t is in (grind (arith, nat_tests), z.0, z.1)
@@ -73,7 +75,7 @@ module _ (s : Tests) (spec : IsSpec s) (base : List ℕ) (d : Held) (answer : Li
   is_expanded =
       let text = expansion s d.value_of (pieces_of d.template) in
       elim (expansion_fault d.value_of d.template) as (λ f. expansion_fault d.value_of d.template ≡ f
-      → canonical_of s base (unless_fault f (within_limit text)) ≡ Ok answer → IsExpanded s base d answer) [
+      → result_and_then (canonical_or_fault s base) (unless Template f (within_limit text)) ≡ Ok answer → IsExpanded s base d answer) [
         | None ↦ λ good is.
             let n = neither (template_fault d.template) (type_fault d.value_of (pieces_of d.template)) good in
             let z = is_within text is in

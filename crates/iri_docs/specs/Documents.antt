@@ -20,9 +20,14 @@ abbrev pub result_map : {A B : Type 0} → (A → B) → Result A DocError → R
 result_map f (Ok x) = Ok (f x)
 result_map f (Err e) = Err e
 
-abbrev pub result_and_then : {A B : Type 0} → (A → Result B DocError) → Result A DocError → Result B DocError
+abbrev pub result_and_then : {A B E : Type 0} → (A → Result B E) → Result A E → Result B E
 result_and_then f (Ok x) = f x
 result_and_then f (Err e) = Err e
+
+-- an answer, where there is no fault
+abbrev pub unless : {A E F : Type 0} → (F → E) → Option F → Result A E → Result A E
+unless error None answer = answer
+unless error (Some fault) answer = Err (error fault)
 
 -- an answer and those after it: all of them, or the first fault
 abbrev pub followed : {A : Type 0} → Result A DocError → Result (List A) DocError → Result (List A) DocError
@@ -97,15 +102,15 @@ has_only_known (Some ms) = all_known ms
 abbrev pub template_text : Data → Option (List ℕ)
 template_text d = option_and_then as_str (get (codes "template") d)
 
+-- the values of variables in an object
+abbrev pub object_vars : Option Members → Result (List ℕ → ShownValue) DocError
+object_vars None = Err Shape
+object_vars (Some ms) = result_map value_by_name (variables ms)
+
 -- the values of the member `vars`, which is an object; no value where there is no such member
 abbrev pub vars_of : Option Data → Result (List ℕ → ShownValue) DocError
 vars_of None = Ok (value_by_name [])
-vars_of (Some null) = Err Shape
-vars_of (Some (boolean b)) = Err Shape
-vars_of (Some (number n)) = Err Shape
-vars_of (Some (string s)) = Err Shape
-vars_of (Some (array ds)) = Err Shape
-vars_of (Some (object ms)) = result_map value_by_name (variables ms)
+vars_of (Some d) = object_vars (as_object d)
 
 abbrev pub with_vars : Option (List ℕ) → Result (List ℕ → ShownValue) DocError → Result Held DocError
 with_vars None vars = Err Shape

@@ -1,18 +1,9 @@
 -- Lines and the documents that they are, computed.
-use Rattle.std.specs.Prelude.{◌≡◌, ⊤, [], ◌∷◌, ◌++◌, codes, Ok, Err, refl}
-use Rattle.std.specs.Str.{is_utf8, chars}
-use Rattle.std.specs.Fmt.{digits}
-use Rattle.serde_json.proofs.OnLiterals.{serde_json_on_literals}
-use Rattle.iri_grammar.specs.Over.{over_from}
-use Rattle.iri_template.specs.Names.{is_varname, is_name_char}
+use Rattle.std.specs.Prelude.{◌≡◌, [], ◌∷◌, ◌++◌, codes, Ok, Err, refl}
 use Rattle.iri_template.specs.ShownValues.{string, list, pairs, undefined}
 use Rattle.iri_docs.specs.Documents.{line_document, value_by_name}
+use Rattle.iri_docs.specs.OnLiterals.{on_literals}
 use Rattle.iri_docs.specs.declared.doc_error.DocError.TheVariants.{Json, Shape, Name, Truth, Float, Nested}
-
--- what computes the reading of a line
-unfoldable on_literals : ⊤
-unfolding serde_json_on_literals is_utf8 chars digits is_varname is_name_char over_from
-on_literals = tt
 
 -- `é` has two bytes
 a_list_and_texts :

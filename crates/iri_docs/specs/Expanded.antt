@@ -1,16 +1,15 @@
 -- The canonical text of a template's expansion, or why there is none.
-use Rattle.std.specs.Prelude.{◌≡◌, ◌≤◌, ℕ, nat_lt, List, length, if◌then◌else◌, Option, Some, None, Result, Ok, Err}
+use Rattle.std.specs.Prelude.{◌≡◌, ◌≤◌, ℕ, nat_lt, List, length, if◌then◌else◌, None, Result, Ok, Err}
 use Rattle.iri_grammar.specs.Classes.{Tests}
 use Rattle.iri_grammar.specs.Parts.{IsReference}
 use Rattle.iri_grammar.specs.WholeFault.{reference_fault}
-use Rattle.iri_grammar.specs.declared.error.ErrorKind.{ErrorKind}
 use Rattle.iri_template.specs.Expansion.{expansion}
 use Rattle.iri_template.specs.Reading.{pieces_of}
 use Rattle.iri_template.specs.ShownValues.{ShownValue}
 use Rattle.iri_template.specs.Template.{Piece, Spells}
 use Rattle.iri_template.specs.TypeFaults.{expansion_fault, type_fault}
-use Rattle.iri_template.specs.declared.error.Error.{Error}
 use Rattle.iri_normal.specs.NormalForm.{canonical}
+use Rattle.iri_docs.specs.Documents.{result_and_then, unless}
 use Rattle.iri_docs.specs.Held.{Held}
 use Rattle.iri_text.specs.Limits.{largest_line_limit}
 use Rattle.iri_docs.specs.declared.expand_error.DocExpandError.{DocExpandError}
@@ -23,30 +22,18 @@ expansion_limit = largest_line_limit
 abbrev pub within_limit : List ℕ → Result (List ℕ) DocExpandError
 within_limit text = if nat_lt expansion_limit (length text) then Err TooLong else Ok text
 
-abbrev pub unless_fault : Option Error → Result (List ℕ) DocExpandError → Result (List ℕ) DocExpandError
-unless_fault None answer = answer
-unless_fault (Some e) answer = Err (Template e)
-
 -- the expansion of a template where names have these values (RFC 6570 section 3); it is refused for a fault, then for its length
 abbrev pub expansion_within : Tests → (List ℕ → ShownValue) → List ℕ → Result (List ℕ) DocExpandError
 expansion_within s value template =
-    unless_fault (expansion_fault value template) (within_limit (expansion s value (pieces_of template)))
-
-abbrev pub unless_invalid : Option ErrorKind → List ℕ → Result (List ℕ) DocExpandError
-unless_invalid None text = Ok text
-unless_invalid (Some kind) text = Err (Invalid (record { kind = kind }))
+    unless Template (expansion_fault value template) (within_limit (expansion s value (pieces_of template)))
 
 -- the canonical text of a reference against a base (RFC 3986 sections 5.2 and 6.2.2), or the reference's first fault
 abbrev pub canonical_or_fault : Tests → List ℕ → List ℕ → Result (List ℕ) DocExpandError
-canonical_or_fault s base text = unless_invalid (reference_fault s text) (canonical s base text)
-
-abbrev pub canonical_of : Tests → List ℕ → Result (List ℕ) DocExpandError → Result (List ℕ) DocExpandError
-canonical_of s base (Ok text) = canonical_or_fault s base text
-canonical_of s base (Err e) = Err e
+canonical_or_fault s base text = unless (λ kind. Invalid (record { kind = kind })) (reference_fault s text) (Ok (canonical s base text))
 
 -- the canonical text of a template's expansion against a base, or why there is none
 abbrev pub expanded : Tests → List ℕ → (List ℕ → ShownValue) → List ℕ → Result (List ℕ) DocExpandError
-expanded s base value template = canonical_of s base (expansion_within s value template)
+expanded s base value template = result_and_then (canonical_or_fault s base) (expansion_within s value template)
 
 -- The text is that of a document against a base: these pieces spell its template, no varspec has a value that it has no use for, and the
 -- expansion of the pieces with its values is within the limit and a `URI-reference`, whose canonical text this is.

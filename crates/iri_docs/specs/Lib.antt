@@ -4,6 +4,7 @@ pub mod Held
 pub mod Documents
 pub mod FirstFault
 pub mod Expanded
+pub mod OnLiterals
 pub mod Examples
 pub mod ExpandedExamples
 pub mod inside
