@@ -7,14 +7,14 @@ use Rattle.iri_cli.proofs.Common.{answered, IsBaseTaken, ending, HasRead, ReadsA
 use Rattle.iri_cli.proofs.Common.{Decides, StopsShort, RanTo, Ran, Answering, AnswersLine, PutsAnswer, AnswerError, End, Done, SomeBad}
 use Rattle.iri_cli.proofs.Common.{BadBase, SourceFailed, Memory, LineTooLong, InputTooLong}
 use Rattle.iri_text.specs.declared.streams.reader.LineFault.{LineFault}
-use Rattle.iri_text.proofs.Puts.{Appends-append, prefix-after, prefix-longer, room-longer}
+use Rattle.iri_text.proofs.Puts.{Appends-append, prefix-after, prefix-longer}
 use Rattle.iri_text.proofs.LinesLemmas.{no_cr-shorter}
 use Rattle.iri_cli.specs.run.Steps.{end_at}
 use Rattle.iri_cli.specs.run.Answering.{ClosesRun, end_of_error}
 use Rattle.iri_cli.specs.declared.run.answers.AnswerError.TheVariants.{SinkFailed as AnswerFailed, Memory as AnswerMemory}
 use Rattle.iri_cli.specs.declared.run.end.End.TheVariants.{SinkFailed}
 use Rattle.iri_cli.proofs.Reading.{left_is, reads_line, reads_all, reads_some, reads_long, reads_over, goes_on, counts_more}
-use Rattle.iri_cli.proofs.Ends.{one_more, one_more_good, first_read, first_lines, ends_all, ends_past}
+use Rattle.iri_cli.proofs.Ends.{ran_by, one_more, one_more_good, first_read, first_lines, ends_all, ends_past}
 
 -- all of these bytes are a prefix of them
 pub whole_prefix : {a b : Option (List ℕ)} {xs : List ℕ} → Appends a b xs → AppendsPrefix a b xs
@@ -26,7 +26,6 @@ taken_is lo ln x taken told takes at_end =
     let l = left_is ln x taken (subst (λ (s : Option (List ℕ)). Consumes s ln taken) told takes) in
     l.2 ∙ ap (λ (y : List ℕ). taken ++ y) (subst IsAtEnd l.1 at_end) ∙ append-nil taken
 
--- a line without its CR is no longer
 -- the answers to these lines were written
 abbrev answered_to : Rules → List ℕ → List (List ℕ) → List ℕ
 answered_to rules base rest = concat (answers rules base rest)
@@ -54,8 +53,7 @@ NotSink result = result ≢ Err AnswerFailed
 -- the sink isn't what ends a run at a fault of its reader
 pub not_sink : (fault : LineFault) → end_at fault ≢ SinkFailed
 not_sink Source h = cc h
-not_sink FaultLineTooLong h = cc h
-not_sink FaultInputTooLong h = cc h
+not_sink fault h = cc h
 
 pub start_lines : (stands_at : Answering → Type 0) (start : Answering) (reader : LineState) (left : Option (List ℕ)) (so : ℕ)
     (ko k : SinkState)
@@ -83,6 +81,12 @@ module _ (stands_at : Answering → Type 0) (start : Answering) (reader0 old new
   abbrev out : List ℕ
   out = answered_to start.rules start.base go.between
 
+  abbrev answer : List ℕ
+  answer = rules.answer start.base go.between new.line
+
+  abbrev text : List ℕ
+  text = rules.closing start.base go.between
+
   -- A line was given and answered.
   pub one_line_more : (is_next : Answering → Type 0) (kn : SinkState) (answer_good : Bool)
       → Advances old new lm ln sm sn (Ok true)
@@ -93,225 +97,143 @@ module _ (stands_at : Answering → Type 0) (start : Answering) (reader0 old new
       record {
         between = go.between ++ new.line ∷ [];
         at = q.next;
-        going = goes_on start.rules lm ln sm sn old new go.going a;
+        going = goes_on rules lm ln sm sn old new go.going a;
         few =
-            let more = counts_more start.rules lm ln sm sn old new go.going a in
+            let more = counts_more rules lm ln sm sn old new go.going a in
             let size = length-append go.between (new.line ∷ []) in
             omega (arith, more, size, go.few);
-        read = λ before h. reads_line start.rules before lm ln sm sn old new (start.base ∷ go.between) go.going (go.read before h) a;
-        writes = subst (Appends ko.written kn.written) (sym (one_more start.rules start.base taken go.between new.line))
-            (Appends-append ko.written km.written kn.written out (start.rules.answer start.base go.between new.line) go.writes q.puts.0);
+        read = λ before h. reads_line rules before lm ln sm sn old new (start.base ∷ go.between) go.going (go.read before h) a;
+        writes = subst (Appends ko.written kn.written) (sym (one_more rules start.base taken go.between new.line))
+            (Appends-append ko.written km.written kn.written out answer go.writes q.puts.0);
         all_good = ap (λ (b : Bool). b && answer_good) go.all_good
-            ∙ ap (λ (b : Bool). list_all start.rules.is_good (answers start.rules start.base go.between) && b) q.puts.2
-            ∙ sym (one_more_good start.rules start.base taken go.between new.line);
+            ∙ ap (λ (b : Bool). list_all rules.is_good (answers rules start.base go.between) && b) q.puts.2
+            ∙ sym (one_more_good rules start.base taken go.between new.line);
         source_later = omega (arith, go.source_later, a.later);
         sink_same = q.puts.1 ∙ go.sink_same;
         room = subst (λ (t : List ℕ). KeepsRoom ko.room_left kn.room_left t (Unit {0}))
-            (sym (one_more start.rules start.base taken go.between new.line))
+            (sym (one_more rules start.base taken go.between new.line))
             (room-then go.room (room-so (λ _. tt) q.room));
       }
 
   -- a line that is given is within the limit
-  pub line_fits : Advances old new lm ln sm sn (Ok true) → length new.line ≤ start.rules.line_limit
+  pub line_fits : Advances old new lm ln sm sn (Ok true) → length new.line ≤ rules.line_limit
   line_fits a =
       omega (arith, go.going.line_limit, a.line_limit, a.says.short, no_cr-shorter a.says.raw, ap length a.says.line)
 
-  module _ (before : Option (List ℕ)) (faults : ℕ) (first : HasRead start.rules before l0 reader0 (start.base ∷ []))
+  module _ (before : Option (List ℕ)) (faults : ℕ) (first : HasRead rules before l0 reader0 (start.base ∷ []))
       (earlier : faults ≤ so) where
     -- the outside at both ends of the run
     abbrev Ends : SinkState → End → Type 0
-    Ends kn end = Ran start.rules (outside before faults ko) (outside ln sn kn) end
+    Ends kn end = Ran rules (outside before faults ko) (outside ln sn kn) end
 
     -- The answer to a line failed.
     pub fails_at : (is_next : Answering → Type 0) (kn : SinkState) (error : AnswerError) (end : End)
         → end ≡ end_of_error error → Advances old new lm ln sm sn (Ok true)
         → ((at : Answering) → stands_at at → AnswersLine is_next at new.line km kn (Err error)) → Ends kn end
-    fails_at is_next kn error end is a p = let q = p (record start { between = go.between }) go.at in
-        subst (Ends kn) (sym is) (by_error error q.puts q.room)
+    fails_at is_next kn error end is a p =
+        let q = p (record start { between = go.between }) go.at in subst (Ends kn) (sym is) (by_error error q.puts q.room)
       where
         -- the whole output begins with the answers, this one among them
-        output : (x : List ℕ) → before ≡ Some x → (more : List ℕ)
-            × ((ending start.rules x).output ≡ (out ++ start.rules.answer start.base go.between new.line) ++ more)
+        output : (x : List ℕ) → before ≡ Some x → (more : List ℕ) × ((ending rules x).output ≡ (out ++ answer) ++ more)
         output x told =
-            let h = first_read start.rules start.base taken before ln new (go.between ++ new.line ∷ [])
-            (reads_line start.rules before lm ln sm sn old new (start.base ∷ go.between) go.going (go.read before first) a) x told in
-            (h.0, h.1 ∙ ap (λ (t : List ℕ). t ++ h.0) (one_more start.rules start.base taken go.between new.line))
+            let h = first_read rules start.base taken before ln new (go.between ++ new.line ∷ [])
+            (reads_line rules before lm ln sm sn old new (start.base ∷ go.between) go.going (go.read before first) a) x told in
+            (h.0, h.1 ∙ ap (λ (t : List ℕ). t ++ h.0) (one_more rules start.base taken go.between new.line))
 
-        room_of : (e : AnswerError) → KeepsRoom km.room_left kn.room_left (start.rules.answer start.base go.between new.line)
-            (NotSink (Err e)) → (x : List ℕ)
-            → before ≡ Some x
-            → KeepsRoom ko.room_left kn.room_left (ending start.rules x).output (end_of_error e ≢ SinkFailed)
-        room_of e k x told =
-            let h = output x told in
-            subst (λ (t : List ℕ). KeepsRoom ko.room_left kn.room_left t (end_of_error e ≢ SinkFailed)) (sym h.1)
-            (room-longer h.0 (room-then go.room (room-so (goes e) k)))
-          where
-            goes : (e : AnswerError) → NotSink (Err e) → end_of_error e ≢ SinkFailed
-            goes AnswerFailed n = absurd (n refl)
-            goes AnswerMemory n = λ h. cc h
-
-        by_error : (e : AnswerError)
-            → PutsAnswer start.rules km kn (start.rules.wants_memory start.base go.between new.line)
-            (start.rules.answer start.base go.between new.line) (Err e)
-            → KeepsRoom km.room_left kn.room_left (start.rules.answer start.base go.between new.line) (NotSink (Err e))
-            → Ends kn (end_of_error e)
-        by_error AnswerFailed q k = record {
-          to = omega (arith, q.1, go.sink_same);
-          prefix = λ x told. let h = output x told in
-              subst (AppendsPrefix ko.written kn.written) (sym h.1) (prefix-longer h.0 (prefix-after out go.writes q.0));
-          source_later = omega (arith, earlier, go.source_later, a.later);
-          sink_later = omega (arith, q.2, go.sink_same);
-          room = room_of AnswerFailed k;
-        }
-        by_error AnswerMemory q k = record {
-          to = record {
-            whole = start.base ∷ go.between;
-            line = new.line;
-            wants = q.0;
-            first = λ x told.
-                let h = first_lines start.rules before ln new (start.base ∷ (go.between ++ new.line ∷ []))
-                (reads_line start.rules before lm ln sm sn old new (start.base ∷ go.between) go.going (go.read before first) a) x told in
-                (h.0, h.1 ∙ append_assoc (start.base ∷ go.between) (new.line ∷ []) h.0);
-            base_taken = taken;
-            writes = subst (λ (w : Option (List ℕ)). Appends ko.written w out) (sym q.1) go.writes;
-            sink = q.2 ∙ go.sink_same;
-          };
-          prefix = λ x told.
-              let h = output x told in
-              subst (AppendsPrefix ko.written kn.written) (sym (h.1 ∙ append_assoc out
-              (start.rules.answer start.base go.between new.line) h.0))
-              (prefix-longer (start.rules.answer start.base go.between new.line ++ h.0)
-              (whole_prefix (subst (λ (w : Option (List ℕ)). Appends ko.written w out) (sym q.1) go.writes)));
-          source_later = omega (arith, earlier, go.source_later, a.later);
-          sink_later = omega (arith, q.2, go.sink_same);
-          room = room_of AnswerMemory k;
-        }
+        by_error : (e : AnswerError) → PutsAnswer rules km kn (rules.wants_memory start.base go.between new.line) answer (Err e)
+            → KeepsRoom km.room_left kn.room_left answer (NotSink (Err e)) → Ends kn (end_of_error e)
+        by_error AnswerFailed q k = ran_by (out ++ answer) (omega (arith, q.1, go.sink_same)) output (prefix-after out go.writes q.0)
+            (room-then go.room (room-so (λ n. absurd (n refl)) k)) (omega (arith, earlier, go.source_later, a.later))
+            (omega (arith, q.2, go.sink_same))
+        by_error AnswerMemory q k =
+            let writes = subst (λ (w : Option (List ℕ)). Appends ko.written w out) (sym q.1) go.writes in
+            ran_by (out ++ answer) (record {
+              whole = start.base ∷ go.between;
+              line = new.line;
+              wants = q.0;
+              first = λ x told.
+                  let h = first_lines rules before ln new (start.base ∷ (go.between ++ new.line ∷ []))
+                  (reads_line rules before lm ln sm sn old new (start.base ∷ go.between) go.going (go.read before first) a) x told in
+                  (h.0, h.1 ∙ append_assoc (start.base ∷ go.between) (new.line ∷ []) h.0);
+              base_taken = taken;
+              writes = writes;
+              sink = q.2 ∙ go.sink_same;
+            }) output (prefix-longer answer (whole_prefix writes)) (room-then go.room (room-so (λ _ h. cc h) k))
+            (omega (arith, earlier, go.source_later, a.later)) (omega (arith, q.2, go.sink_same))
 
     -- There is no further line.
     pub finishes : (kn : SinkState) (end : End) → Advances old new lm ln sm sn (Ok false)
         → ((at : Answering) → stands_at at → ClosesRun km kn good (at.rules.closing at.base at.between) end)
         → ((at : Answering) → stands_at at → KeepsRoom km.room_left kn.room_left (at.rules.closing at.base at.between) (end ≢ SinkFailed))
         → Ends kn end
-    finishes kn end a p k = by_end end (p (record start { between = go.between }) go.at)
-        (k (record start { between = go.between }) go.at)
+    finishes kn end a p k =
+        by_end end (p (record start { between = go.between }) go.at) (k (record start { between = go.between }) go.at)
       where
-        all : ReadsAll start.rules before ln (start.base ∷ go.between)
-        all = reads_all start.rules before lm ln sm sn old new (start.base ∷ go.between) go.going (go.read before first) a
+        all : ReadsAll rules before ln (start.base ∷ go.between)
+        all = reads_all rules before lm ln sm sn old new (start.base ∷ go.between) go.going (go.read before first) a
 
-        ends : ending start.rules all.taken ≡ record {
-          status = if list_all start.rules.is_good
-              (answers start.rules start.base go.between) then 0 else 1;
-          output = out ++ start.rules.closing start.base go.between;
-        }
-        ends = ends_all start.rules start.base taken before ln go.between all
+        ends : ending rules all.taken
+            ≡ record { status = if list_all rules.is_good (answers rules start.base go.between) then 0 else 1; output = out ++ text }
+        ends = ends_all rules start.base taken before ln go.between all
 
         -- the whole output
-        output : (x : List ℕ) → before ≡ Some x → (ending start.rules x).output ≡ out ++ start.rules.closing start.base go.between
-        output x told = ap (λ (t : List ℕ). (ending start.rules t).output) (taken_is before ln x all.taken told all.takes all.at_end)
-            ∙ ap (λ (e : Ending). e.output) ends
+        output : (x : List ℕ) → before ≡ Some x → (more : List ℕ) × ((ending rules x).output ≡ (out ++ text) ++ more)
+        output x told = (
+          [],
+          ap (λ (t : List ℕ). (ending rules t).output) (taken_is before ln x all.taken told all.takes all.at_end)
+              ∙ ap (λ (e : Ending). e.output) ends ∙ sym (append-nil (out ++ text)),
+        )
 
-        -- a prefix of it
-        prefix_of : AppendsPrefix ko.written kn.written (out ++ start.rules.closing start.base go.between) → (x : List ℕ) → before ≡ Some x
-            → AppendsPrefix ko.written kn.written (ending start.rules x).output
-        prefix_of f x told = subst (AppendsPrefix ko.written kn.written) (sym (output x told)) f
+        put_whole : Appends km.written kn.written text → Appends ko.written kn.written (out ++ text)
+        put_whole put = Appends-append ko.written km.written kn.written out text go.writes put
 
-        room_of : (e : End) → KeepsRoom km.room_left kn.room_left (start.rules.closing start.base go.between) (e ≢ SinkFailed)
-            → (x : List ℕ) → before ≡ Some x
-            → KeepsRoom ko.room_left kn.room_left (ending start.rules x).output (e ≢ SinkFailed)
-        room_of e f x told = subst (λ (t : List ℕ). KeepsRoom ko.room_left kn.room_left t (e ≢ SinkFailed)) (sym (output x told))
-            (room-then go.room f)
-
-        finished : (b : Bool) → good ≡ b → Appends km.written kn.written (start.rules.closing start.base go.between) → kn.faults ≡ km.faults
-            → Finishes start.rules (if b then 0 else 1) (outside before faults ko) (outside ln sn kn)
+        finished : (b : Bool) → good ≡ b → Appends km.written kn.written text → kn.faults ≡ km.faults
+            → Finishes rules (if b then 0 else 1) (outside before faults ko) (outside ln sn kn)
         finished b is put same = record {
           taken = all.taken;
           takes = all.takes;
           at_end = all.at_end;
           ends = ap (λ (e : Ending). e.status) ends ∙ ap (λ (g : Bool). if g then 0 else 1) (sym go.all_good ∙ is);
-          writes = subst (Appends ko.written kn.written) (sym (ap (λ (e : Ending). e.output) ends))
-              (Appends-append ko.written km.written kn.written out (start.rules.closing start.base go.between) go.writes put);
+          writes = subst (Appends ko.written kn.written) (sym (ap (λ (e : Ending). e.output) ends)) (put_whole put);
           sink = same ∙ go.sink_same;
         }
 
-        put_whole : Appends km.written kn.written (start.rules.closing start.base go.between)
-            → AppendsPrefix ko.written kn.written (out ++ start.rules.closing start.base go.between)
-        put_whole put = whole_prefix (Appends-append ko.written km.written kn.written out
-            (start.rules.closing start.base go.between) go.writes put)
-
-        source : faults ≤ sn
-        source = omega (arith, earlier, go.source_later, a.later)
-
-        by_end : (e : End) → ClosesRun km kn good (start.rules.closing start.base go.between) e
-            → KeepsRoom km.room_left kn.room_left (start.rules.closing start.base go.between) (e ≢ SinkFailed) → Ends kn e
-        by_end Done q f = record {
-          to = finished true q.0 q.1 q.2;
-          prefix = prefix_of (put_whole q.1);
-          source_later = source;
-          sink_later = omega (arith, q.2, go.sink_same);
-          room = room_of Done f;
-        }
-        by_end SomeBad q f = record {
-          to = finished false q.0 q.1 q.2;
-          prefix = prefix_of (put_whole q.1);
-          source_later = source;
-          sink_later = omega (arith, q.2, go.sink_same);
-          room = room_of SomeBad f;
-        }
-        by_end SinkFailed q f = record {
-          to = omega (arith, q.1, go.sink_same);
-          prefix = prefix_of (prefix-after out go.writes q.0);
-          source_later = source;
-          sink_later = omega (arith, q.2, go.sink_same);
-          room = room_of SinkFailed f;
-        }
-        by_end Memory q f = absurd q
-        by_end BadBase q f = absurd q
-        by_end SourceFailed q f = absurd q
-        by_end LineTooLong q f = absurd q
-        by_end InputTooLong q f = absurd q
+        by_end : (e : End) → ClosesRun km kn good text e → KeepsRoom km.room_left kn.room_left text (e ≢ SinkFailed) → Ends kn e
+        by_end Done q f = ran_by (out ++ text) (finished true q.0 q.1 q.2) output (whole_prefix (put_whole q.1)) (room-then go.room f)
+            (omega (arith, earlier, go.source_later, a.later)) (omega (arith, q.2, go.sink_same))
+        by_end SomeBad q f = ran_by (out ++ text) (finished false q.0 q.1 q.2) output (whole_prefix (put_whole q.1)) (room-then go.room f)
+            (omega (arith, earlier, go.source_later, a.later)) (omega (arith, q.2, go.sink_same))
+        by_end SinkFailed q f = ran_by (out ++ text) (omega (arith, q.1, go.sink_same)) output (prefix-after out go.writes q.0)
+            (room-then go.room f) (omega (arith, earlier, go.source_later, a.later)) (omega (arith, q.2, go.sink_same))
+        by_end e q f = absurd q
 
     -- The reader answered a fault.
     pub stops_at : (fault : LineFault) (end : End) → end ≡ end_at fault → Advances old new lm ln sm sn (Err fault) → Ends km end
-    stops_at fault end is a = subst (Ends km) (sym is) (record {
-      to = by_fault fault a;
-      prefix = prefix_of;
-      source_later = omega (arith, earlier, go.source_later, a.later);
-      sink_later = omega (arith, go.sink_same);
-      room = room_of;
-    })
+    stops_at fault end is a =
+        subst (Ends km) (sym is) (ran_by out (by_fault fault a)
+        (first_read rules start.base taken before lm old go.between (go.read before first)) (whole_prefix go.writes)
+        (room-so (λ _. not_sink fault) go.room) (omega (arith, earlier, go.source_later, a.later)) (omega (arith, go.sink_same)))
       where
-        room_of : (x : List ℕ) → before ≡ Some x → KeepsRoom ko.room_left km.room_left (ending start.rules x).output
-            (end_at fault ≢ SinkFailed)
-        room_of x told =
-            let h = first_read start.rules start.base taken before lm old go.between (go.read before first) x told in
-            subst (λ (t : List ℕ). KeepsRoom ko.room_left km.room_left t (end_at fault ≢ SinkFailed)) (sym h.1)
-            (room-longer h.0 (room-so (λ _. not_sink fault) go.room))
-
-        prefix_of : (x : List ℕ) → before ≡ Some x → AppendsPrefix ko.written km.written (ending start.rules x).output
-        prefix_of x told =
-            let h = first_read start.rules start.base taken before lm old go.between (go.read before first) x told in
-            subst (AppendsPrefix ko.written km.written) (sym h.1) (prefix-longer h.0 (whole_prefix go.writes))
-
-        decided : (status : ℕ) → ReadsPast start.rules status before ln (start.base ∷ go.between)
-            → Decides start.rules status (outside before faults ko) (outside ln sn km)
+        decided : (status : ℕ) → ReadsPast rules status before ln (start.base ∷ go.between)
+            → Decides rules status (outside before faults ko) (outside ln sn km)
         decided status r = record {
           taken = r.taken;
           takes = r.takes;
-          ends = λ more. ap (λ (e : Ending). e.status) (ends_past start.rules start.base taken status before ln go.between r more);
+          ends = λ more. ap (λ (e : Ending). e.status) (ends_past rules start.base taken status before ln go.between r more);
           writes = λ more. subst (Appends ko.written km.written) (sym
-              (ap (λ (e : Ending). e.output) (ends_past start.rules start.base taken status before ln go.between r more))) go.writes;
+              (ap (λ (e : Ending). e.output) (ends_past rules start.base taken status before ln go.between r more))) go.writes;
           sink = go.sink_same;
         }
 
         short : (f : LineFault) → f ≡ Source → Advances old new lm ln sm sn (Err f)
-            → ReadsSome start.rules before ln (start.base ∷ go.between)
-            → StopsShort start.rules (outside before faults ko) (outside ln sn km)
+            → ReadsSome rules before ln (start.base ∷ go.between)
+            → StopsShort rules (outside before faults ko) (outside ln sn km)
         short f is b r = record {
           taken = r.taken;
           takes = r.takes;
           passes = r.passes;
-          base_taken = subst (IsBaseTaken start.rules) (sym r.ended) taken;
-          writes = subst (λ (t : List (List ℕ)). Appends ko.written km.written (answered start.rules t)) (sym r.ended) go.writes;
+          base_taken = subst (IsBaseTaken rules) (sym r.ended) taken;
+          writes = subst (λ (t : List (List ℕ)). Appends ko.written km.written (answered rules t)) (sym r.ended) go.writes;
           source = rose (subst (λ (e : LineFault). Advances old new lm ln sm sn (Err e)) is b);
           sink = go.sink_same;
         }
@@ -320,26 +242,18 @@ module _ (stands_at : Answering → Type 0) (start : Answering) (reader0 old new
             rose c = omega (arith, c.cause, earlier, go.source_later)
 
         by_fault : (f : LineFault) → Advances old new lm ln sm sn (Err f)
-            → RanTo start.rules (outside before faults ko) (outside ln sn km) (end_at f)
-        by_fault Source b = short Source refl b (reads_some start.rules before lm ln sm sn old new (start.base ∷ go.between) go.going
+            → RanTo rules (outside before faults ko) (outside ln sn km) (end_at f)
+        by_fault Source b = short Source refl b (reads_some rules before lm ln sm sn old new (start.base ∷ go.between) go.going
             (go.read before first) b)
-        by_fault FaultLineTooLong b = decided 7 (reads_long start.rules before lm ln sm sn old new (start.base ∷ go.between) go.going
+        by_fault FaultLineTooLong b = decided 7 (reads_long rules before lm ln sm sn old new (start.base ∷ go.between) go.going
             (go.read before first) b)
-        by_fault FaultInputTooLong b = decided 8 (reads_over start.rules before lm ln sm sn old new (start.base ∷ go.between) go.going
+        by_fault FaultInputTooLong b = decided 8 (reads_over rules before lm ln sm sn old new (start.base ∷ go.between) go.going
             (go.read before first) b)
 
 -- The sink failed before the first line.
-pub fails_first : (start : Answering) (reader : LineState) (before left : Option (List ℕ)) (faults sn : ℕ) (ko kn : SinkState)
-    → start.rules.refusal start.base ≡ None → HasRead start.rules before left reader (start.base ∷ []) → kn.written ≡ ko.written
+pub fails_first : (start : Answering) (before left : Option (List ℕ)) (faults sn : ℕ) (ko kn : SinkState) → kn.written ≡ ko.written
     → Rose ko.faults kn.faults → faults ≤ sn → ko.faults ≤ kn.faults → KeepsRoom ko.room_left kn.room_left [] ⊥
     → Ran start.rules (outside before faults ko) (outside left sn kn) SinkFailed
-fails_first start reader before left faults sn ko kn taken read kept rose later sink room = record {
-  to = rose;
-  prefix = λ x told.
-      let h = first_read start.rules start.base taken before left reader [] read x told in
-      subst (λ (w : Option (List ℕ)). AppendsPrefix ko.written w (ending start.rules x).output) (sym kept)
-      (record { prefix = []; rest = (ending start.rules x).output; split = refl; appended = Appends-none ko.written });
-  source_later = later;
-  sink_later = sink;
-  room = λ x told. room-longer (ending start.rules x).output (room-so (λ h. absurd h) room);
-}
+fails_first start before left faults sn ko kn kept rose later sink room =
+    ran_by [] rose (λ x told. (_, refl)) (subst (λ (w : Option (List ℕ)). AppendsPrefix ko.written w []) (sym kept)
+    (whole_prefix (Appends-none ko.written))) (room-so (λ h. absurd h) room) later sink

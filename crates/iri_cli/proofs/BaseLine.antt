@@ -9,12 +9,13 @@ use Rattle.iri_cli.proofs.Common.{BadBase, SourceFailed, Memory, LineTooLong, In
 use Rattle.std.proofs.Math.Seq.{take-append-add}
 use Rattle.iri_text.specs.declared.streams.reader.LineFault.{LineFault}
 use Rattle.iri_cli.specs.run.Ending.{base_line}
-use Rattle.iri_cli.specs.run.Steps.{end_at, IsNew, GivesBase, ReadsBase}
+use Rattle.iri_cli.specs.run.Buffers.{IsNew}
+use Rattle.iri_cli.specs.run.Steps.{end_at, GivesBase, ReadsBase}
 use Rattle.iri_cli.specs.run.Answering.{RefusesBase}
 use Rattle.iri_cli.specs.declared.run.end.End.TheVariants.{SinkFailed}
 use Rattle.iri_cli.proofs.Reading.{left_is, read_none, reads_line, reads_all, reads_some, reads_long, reads_over, goes_on}
 use Rattle.iri_cli.proofs.LineSteps.{place_later}
-use Rattle.iri_cli.proofs.Ends.{ends_past_none}
+use Rattle.iri_cli.proofs.Ends.{ends_past_none, ran_by}
 use Rattle.iri_text.proofs.LinesLemmas.{no_cr-shorter}
 use Rattle.iri_cli.proofs.Answered.{whole_prefix, taken_is, not_sink}
 
@@ -25,7 +26,7 @@ line_short lo ln fo fn old new a = omega (arith, a.line_limit, a.says.short, no_
 
 module _ (rules : Rules) where
   -- a new reader goes on
-  pub new_going : (reader : LineState) → IsNew rules reader → IsGoing rules reader
+  pub new_going : (reader : LineState) → IsNew rules.line_limit rules.input_limit reader → IsGoing rules reader
   new_going reader n = record {
     line_limit = n.line_limit;
     input_limit = n.input_limit;
@@ -34,7 +35,8 @@ module _ (rules : Rules) where
     counted = omega (arith, ap length n.held);
   }
 
-  module _ (lo ln : Option (List ℕ)) (fo fn : ℕ) (old new : LineState) (is : IsNew rules old) where
+  module _ (lo ln : Option (List ℕ)) (fo fn : ℕ) (old new : LineState)
+      (is : IsNew rules.line_limit rules.input_limit old) where
     before : HasRead rules lo lo old []
     before = read_none rules lo old is.held is.taken is.ended
 
@@ -61,13 +63,8 @@ module _ (rules : Rules) where
     -- The reader answered a fault.
     pub gives_fault : (base : List ℕ) (fault : LineFault) → Advances old new lo ln fo fn (Err fault)
         → ReadsBase rules lo ln fo fn new base (Err fault)
-    gives_fault base fault a sink = record {
-      to = by_fault fault a;
-      prefix = λ x told. record { prefix = []; rest = (ending rules x).output; split = refl; appended = Appends-none sink.written };
-      source_later = a.later;
-      sink_later = omega arith;
-      room = λ x told. room-same sink.room_left (ending rules x).output (λ _. not_sink fault);
-    }
+    gives_fault base fault a sink = ran_by [] (by_fault fault a) (λ x told. (_, refl)) (whole_prefix (Appends-none sink.written))
+        (room-same sink.room_left [] (λ _. not_sink fault)) a.later (omega arith)
       where
         decided : (status : ℕ) → ReadsPast rules status lo ln [] → Decides rules status (outside lo fo sink) (outside ln fn sink)
         decided status r = record {
@@ -161,57 +158,35 @@ module _ (rules : Rules) where
             }))
             gives
 
-        output : (x : List ℕ) → lo ≡ Some x → (ending rules x).output ≡ base_line words
-        output x told =
-            ⊎_elim
-            (λ e. let l = left_is ln x e.taken (subst (λ (s : Option (List ℕ)). Consumes s ln e.taken) told e.takes) in
-            ap (λ (n : Ending). n.output) (ap (ending rules) l.2 ∙ e.ends l.0))
-            (λ e. ap (λ (n : Ending). n.output) (ap (ending rules) (taken_is lo ln x e.taken told e.takes e.at_end) ∙ e.ends))
-            ends
-
-        prefix_of : AppendsPrefix ko.written kn.written (base_line words) → (x : List ℕ) → lo ≡ Some x
-            → AppendsPrefix ko.written kn.written (ending rules x).output
-        prefix_of f x told = subst (AppendsPrefix ko.written kn.written) (sym (output x told)) f
-
-        room_of : (e : End) → KeepsRoom ko.room_left kn.room_left (base_line words) (e ≢ SinkFailed) → (x : List ℕ) → lo ≡ Some x
-            → KeepsRoom ko.room_left kn.room_left (ending rules x).output (e ≢ SinkFailed)
-        room_of e k x told = subst (λ (t : List ℕ). KeepsRoom ko.room_left kn.room_left t (e ≢ SinkFailed)) (sym (output x told)) k
+        output : (x : List ℕ) → lo ≡ Some x → (more : List ℕ) × ((ending rules x).output ≡ base_line words ++ more)
+        output x told = (
+          [],
+          ⊎_elim
+              (λ e. let l = left_is ln x e.taken (subst (λ (s : Option (List ℕ)). Consumes s ln e.taken) told e.takes) in
+              ap (λ (n : Ending). n.output) (ap (ending rules) l.2 ∙ e.ends l.0))
+              (λ e. ap (λ (n : Ending). n.output) (ap (ending rules) (taken_is lo ln x e.taken told e.takes e.at_end) ∙ e.ends))
+              ends ∙ sym (append-nil (base_line words)),
+        )
 
         by_end : (e : End) → RefusesBase words ko kn e → KeepsRoom ko.room_left kn.room_left (base_line words) (e ≢ SinkFailed)
             → Ran rules (outside lo fo ko) (outside ln fn kn) e
-        by_end BadBase q k = record {
-          to = ⊎_elim
-              (λ e. inl (record {
-                taken = e.taken;
-                takes = e.takes;
-                ends = λ more. ap (λ (n : Ending). n.status) (e.ends more);
-                writes = λ more. subst (Appends ko.written kn.written) (sym (ap (λ (n : Ending). n.output) (e.ends more))) q.0;
-                sink = q.1;
-              }))
-              (λ e. inr (record {
-                taken = e.taken;
-                takes = e.takes;
-                at_end = e.at_end;
-                ends = ap (λ (n : Ending). n.status) e.ends;
-                writes = subst (Appends ko.written kn.written) (sym (ap (λ (n : Ending). n.output) e.ends)) q.0;
-                sink = q.1;
-              }))
-              ends;
-          prefix = prefix_of (whole_prefix q.0);
-          source_later = later;
-          sink_later = omega (arith, q.1);
-          room = room_of BadBase k;
-        }
-        by_end SinkFailed q k = record {
-          to = q.1;
-          prefix = prefix_of q.0;
-          source_later = later;
-          sink_later = q.2;
-          room = room_of SinkFailed k;
-        }
-        by_end Done q k = absurd q
-        by_end SomeBad q k = absurd q
-        by_end SourceFailed q k = absurd q
-        by_end Memory q k = absurd q
-        by_end LineTooLong q k = absurd q
-        by_end InputTooLong q k = absurd q
+        by_end BadBase q k =
+            ran_by (base_line words) (⊎_elim
+            (λ e. inl (record {
+              taken = e.taken;
+              takes = e.takes;
+              ends = λ more. ap (λ (n : Ending). n.status) (e.ends more);
+              writes = λ more. subst (Appends ko.written kn.written) (sym (ap (λ (n : Ending). n.output) (e.ends more))) q.0;
+              sink = q.1;
+            }))
+            (λ e. inr (record {
+              taken = e.taken;
+              takes = e.takes;
+              at_end = e.at_end;
+              ends = ap (λ (n : Ending). n.status) e.ends;
+              writes = subst (Appends ko.written kn.written) (sym (ap (λ (n : Ending). n.output) e.ends)) q.0;
+              sink = q.1;
+            }))
+            ends) output (whole_prefix q.0) k later (omega (arith, q.1))
+        by_end SinkFailed q k = ran_by (base_line words) q.1 output q.0 k later q.2
+        by_end e q k = absurd q

@@ -1,6 +1,8 @@
 -- The first fault of bytes, and what follows where there is none.
 use Rattle.iri_cli.proofs.Common.{◌≡◌, ℕ, List, Option, Some, None, refl, Tests, IsSpec, bytes_fault, absolute-law, IsAbsolute, CanonMode}
-use Rattle.iri_cli.proofs.Common.{canonical_in, absolute_fault, reference_fault, ErrorKind, tests_of, refusal, words_of_fault, answer_in}
+use Rattle.iri_cli.proofs.Common.{canonical_in, absolute_fault, reference_fault, ErrorKind, tests_of, refusal, answer_in}
+use Rattle.std.specs.Prelude.{option_map}
+use Rattle.iri_grammar.specs.ErrorTexts.{description}
 use Rattle.iri_grammar.proofs.FaultLaws.{reference-law}
 use Rattle.iri_grammar.specs.Parts.{IsReference}
 use Rattle.iri_normal.proofs.CanonLaws.{canonical_in-iri, canonical_in-split, canonical_in-own}
@@ -10,7 +12,7 @@ use Rattle.iri_cli.specs.declared.run.words.Grammar.TheVariants.{Uri, Iri}
 use Rattle.iri_cli.specs.canon.Answers.{AnswersAreCanonicalIn}
 use Rattle.iri_normal.proofs.CanonLemmas.{fault_none}
 
-pub refused_none : (k : Option ErrorKind) → words_of_fault k ≡ None → k ≡ None
+pub refused_none : (k : Option ErrorKind) → option_map description k ≡ None → k ≡ None
 refused_none None h = refl
 refused_none (Some k) h = cc
 

@@ -47,7 +47,6 @@ pub use Rattle.iri_text.specs.declared.Failed.{Failed}
 pub use Rattle.iri_text.specs.declared.streams.reader.LineFault.TheVariants.{Source, LineTooLong as FaultLineTooLong}
 pub use Rattle.iri_text.specs.declared.streams.reader.LineFault.TheVariants.{InputTooLong as FaultInputTooLong}
 pub use Rattle.iri_types.specs.SplitText.{split_text}
-pub use Rattle.iri_cli.specs.canon.Answers.{words_of_fault, answer}
 unfoldable pub use Rattle.iri_cli.specs.canon.Answers.{refusal}
 pub use Rattle.iri_cli.specs.canon.Rules.{canon_rules_in, is_ok}
 pub use Rattle.iri_cli.specs.declared.run.answers.AnswerError.{AnswerError}
@@ -56,8 +55,8 @@ pub use Rattle.iri_cli.specs.declared.run.end.End.{End}
 pub use Rattle.iri_cli.specs.declared.run.end.End.TheVariants.{Done, SomeBad, BadBase, SourceFailed, Memory, LineTooLong, InputTooLong}
 pub use Rattle.iri_cli.specs.docs.Answers.{read_answer}
 unfoldable pub use Rattle.iri_cli.specs.docs.Answers.{docs_answer}
-pub use Rattle.iri_cli.specs.expand.Answers.{template_refusal, too_long, unless_fault}
-unfoldable pub use Rattle.iri_cli.specs.expand.Answers.{expansion_answer, template_answer}
+pub use Rattle.iri_cli.specs.expand.Answers.{expansion_answer}
+unfoldable pub use Rattle.iri_cli.specs.expand.Answers.{template_answer}
 pub use Rattle.iri_cli.specs.expand.Lines.{Values, with_value, changed}
 pub use Rattle.iri_cli.specs.generator.References.{more_segments, gen_reference, gen_base, gen_text}
 pub use Rattle.iri_cli.specs.inside.Opening.{begun}

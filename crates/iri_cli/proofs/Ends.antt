@@ -3,12 +3,32 @@ use Rattle.iri_cli.proofs.Common.{◌≡◌, ℕ, ◌+◌, ◌-◌, ◌≤◌, L
 use Rattle.iri_cli.proofs.Common.{refl, sym, ◌∙◌, ap, subst, arith, ⊎_elim, append_assoc, concat, list_all, append-nil, lines, Consumes}
 use Rattle.iri_cli.proofs.Common.{IsAtEnd, LineState, ended_lines, Rules, Ending, Passed, unless_refused, first_passed, answers, completed}
 use Rattle.iri_cli.proofs.Common.{completed_lines, stopped, ending_by, ending, IsOpen, HasRead, ReadsAll, ReadsPast}
+use Rattle.iri_cli.proofs.Common.{◌≢◌, AppendsPrefix, KeepsRoom, Outside, RanTo, Ran, End}
+use Rattle.iri_text.proofs.Puts.{prefix-longer, room-longer}
+use Rattle.iri_cli.specs.declared.run.end.End.TheVariants.{SinkFailed}
 use Rattle.std.proofs.Math.Bool.{and-true}
 use Rattle.std.proofs.lemmas.List.Folds.{concat-append, list_all-append}
 use Rattle.std.proofs.Math.Seq.{take-append-add}
 use Rattle.iri_cli.specs.run.Ending.{answers_after}
 use Rattle.iri_cli.proofs.LineSteps.{place_later}
 use Rattle.iri_cli.proofs.Reading.{left_is}
+
+-- A run ended so, and of these bytes, with which its output begins, a prefix was written.
+pub ran_by : {rules : Rules} {old new : Outside} {end : End} (text : List ℕ) → RanTo rules old new end
+    → ((x : List ℕ) → old.left ≡ Some x → (more : List ℕ) × ((ending rules x).output ≡ text ++ more))
+    → AppendsPrefix old.sink.written new.sink.written text → KeepsRoom old.sink.room_left new.sink.room_left text (end ≢ SinkFailed)
+    → old.source_faults ≤ new.source_faults → old.sink.faults ≤ new.sink.faults → Ran rules old new end
+ran_by {rules} {old} {new} {end} text to output prefix room source sink = record {
+  to = to;
+  prefix = λ x told.
+      let h = output x told in
+      subst (AppendsPrefix old.sink.written new.sink.written) (sym h.1) (prefix-longer h.0 prefix);
+  source_later = source;
+  sink_later = sink;
+  room = λ x told.
+      let h = output x told in
+      subst (λ (t : List ℕ). KeepsRoom old.sink.room_left new.sink.room_left t (end ≢ SinkFailed)) (sym h.1) (room-longer h.0 room);
+}
 
 module _ (rules : Rules) where
   -- answers to more lines

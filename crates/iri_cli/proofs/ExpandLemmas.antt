@@ -1,15 +1,21 @@
 -- The answers of `expand`.
 use Rattle.iri_cli.proofs.Common.{◌≡◌, ◌≢◌, ◌∙◌, ◌<◌, ◌≤◌, ℕ, Bool, true, false, List, [], ◌∷◌, ◌++◌, length, Option, None, Some, Result}
-use Rattle.iri_cli.proofs.Common.{Ok, Err, if◌then◌else◌, refl, sym, ap, subst, arith, nat_lt, nat_tests, Tests, bytes_fault}
-use Rattle.iri_cli.proofs.Common.{reference_fault, ErrorKind, canonical, KeepsRoom, SinkState, Appends-none, room-same, expansion_limit}
-use Rattle.iri_cli.proofs.Common.{value_in, expansion, shown_value, pieces_of, optional, answer_room, longest_line, answer, refusal}
-use Rattle.iri_cli.proofs.Common.{answer_by, answer_in, Answering, AnswersLine, PutsAnswer, PutsLine, Rules, expansion_answer}
-use Rattle.iri_cli.proofs.Common.{template_answer, template_refusal, too_long, unless_fault, Values, is_ok, begun, AnswerError, SinkFailed}
+use Rattle.iri_cli.proofs.Common.{Ok, Err, refl, sym, ap, subst, arith, append_assoc, codes, decimal, nat_lt, nat_tests, Tests}
+use Rattle.iri_cli.proofs.Common.{bytes_fault, reference_fault, ErrorKind, canonical, KeepsRoom, SinkState, Appends-none, room-same}
+use Rattle.iri_cli.proofs.Common.{expansion_limit, value_in, expansion, shown_value, pieces_of, optional, answer_room, longest_line}
+use Rattle.iri_cli.proofs.Common.{refusal, answer_by, answer_in, Answering, AnswersLine, PutsAnswer, PutsLine, Rules, expansion_answer}
+use Rattle.iri_cli.proofs.Common.{template_answer, Values, is_ok, begun, AnswerError, SinkFailed}
 use Rattle.std.proofs.Math.Path.{fun_ext}
+use Rattle.iri_percent.specs.declared.canon_mode.CanonMode.TheVariants.{Default}
 use Rattle.iri_template.specs.Contexts.{value_at}
+use Rattle.iri_template.specs.ErrorTexts.{description}
 use Rattle.iri_template.specs.TypeFaults.{expansion_fault}
 use Rattle.iri_template.specs.declared.error.Error.{Error}
 use Rattle.iri_template.specs.declared.simple_context.SimpleContext.{SimpleContext}
+use Rattle.iri_docs.specs.Expanded.{expansion_within, within_limit}
+use Rattle.iri_docs.specs.declared.expand_error.DocExpandError.{DocExpandError}
+use Rattle.iri_docs.specs.declared.expand_error.DocExpandError.TheVariants.{Template, TooLong, Invalid, Memory as OutOfMemory}
+use Rattle.iri_docs.proofs.ExpandLemmas.{by_length, faulty}
 use Rattle.iri_cli.specs.expand.Answers.{answer_to}
 use Rattle.iri_cli.specs.expand.Lines.{ExpandLine, after_line, line_of, values_after}
 use Rattle.iri_cli.specs.expand.Rules.{expand_rules, is_ok_or_none}
@@ -19,53 +25,45 @@ use Rattle.iri_cli.proofs.VariableLemmas.{values-more}
 
 -- ---- the answer to a template
 -- an expansion that isn't too long is answered as `canon` answers it
-pub short_answer : (s : Tests) (base text : List ℕ) → length text ≤ expansion_limit → answer s base text ≡ expansion_answer s base text
-unfolding expansion_answer
+pub short_answer : (s : Tests) (base text : List ℕ) → length text ≤ expansion_limit
+    → answer_in s Default base text ≡ expansion_answer s base (within_limit text)
 short_answer s base text h = let e : nat_lt expansion_limit (length text) ≡ false = grind (arith, nat_tests) in rw e refl
 
-pub long_answer : (s : Tests) (base text : List ℕ) → expansion_limit < length text → too_long ≡ expansion_answer s base text
-unfolding expansion_answer
+pub long_answer : (s : Tests) (base text : List ℕ) → expansion_limit < length text
+    → codes "bad expansion too long\n" ≡ expansion_answer s base (within_limit text)
 long_answer s base text h = let e : nat_lt expansion_limit (length text) ≡ true = grind (arith, nat_tests) in rw e refl
 
 -- a template without a fault, and one with a fault
 pub template_expanded : (s : Tests) (base : List ℕ) (values : Values) (t : List ℕ) → expansion_fault values t ≡ None
-    → expansion_answer s base (expansion s values (pieces_of t)) ≡ template_answer s base values t
+    → expansion_answer s base (within_limit (expansion s values (pieces_of t))) ≡ template_answer s base values t
 unfolding template_answer
-template_expanded s base values t none = ap (λ f. unless_fault f (expansion_answer s base (expansion s values (pieces_of t)))) (sym none)
+template_expanded s base values t none = ap (expansion_answer s base) (sym (by_length s values t none))
 
 pub template_refused : (s : Tests) (base : List ℕ) (values : Values) (t : List ℕ) (e : Error) → expansion_fault values t ≡ Some e
-    → template_refusal e ≡ template_answer s base values t
+    → codes "template " ++ (description e.kind ++ (codes " at " ++ (decimal e.location ++ 10 ∷ []))) ≡ template_answer s base values t
 unfolding template_answer
-template_refused s base values t e is = ap (λ f. unless_fault f (expansion_answer s base (expansion s values (pieces_of t)))) (sym is)
+template_refused s base values t e is =
+    ap (λ x. codes "template " ++ x) (sym (append_assoc (description e.kind) (codes " at " ++ decimal e.location) (10 ∷ [])))
+    ∙ ap (expansion_answer s base) (sym (faulty s values t e is))
 
 -- each answer to a template has bytes
-answer_good : (s : Tests) (base line : List ℕ) → is_ok_or_none (answer s base line) ≡ is_ok (answer s base line)
+expansion_good : (s : Tests) (base : List ℕ) (x : Result (List ℕ) DocExpandError)
+    → is_ok_or_none (expansion_answer s base x) ≡ is_ok (expansion_answer s base x)
 unfolding answer_in
-answer_good s base line = by_fault (bytes_fault (reference_fault s) line)
+expansion_good s base (Ok text) = by_fault (bytes_fault (reference_fault s) text)
   where
-    by_fault : (f : Option ErrorKind) → is_ok_or_none (answer_by f (canonical s base line)) ≡ is_ok (answer_by f (canonical s base line))
+    by_fault : (f : Option ErrorKind) → is_ok_or_none (answer_by f (canonical s base text)) ≡ is_ok (answer_by f (canonical s base text))
     by_fault None = refl
     by_fault (Some kind) = refl
-
-expansion_good : (s : Tests) (base text : List ℕ) → is_ok_or_none (expansion_answer s base text) ≡ is_ok (expansion_answer s base text)
-unfolding expansion_answer
-expansion_good s base text = by_test (nat_lt expansion_limit (length text))
-  where
-    by_test : (long : Bool) → is_ok_or_none (if long then too_long else answer s base text) ≡ is_ok (if long then too_long else answer s base text)
-    by_test true = refl
-    by_test false = answer_good s base text
+expansion_good s base (Err (Template e)) = refl
+expansion_good s base (Err TooLong) = refl
+expansion_good s base (Err (Invalid e)) = refl
+expansion_good s base (Err OutOfMemory) = refl
 
 pub template_good : (s : Tests) (base : List ℕ) (values : Values) (t : List ℕ)
     → is_ok_or_none (template_answer s base values t) ≡ is_ok (template_answer s base values t)
 unfolding template_answer
-template_good s base values t = by_fault (expansion_fault values t)
-  where
-    text : List ℕ
-    text = expansion s values (pieces_of t)
-
-    by_fault : (f : Option Error) → is_ok_or_none (unless_fault f (expansion_answer s base text)) ≡ is_ok (unless_fault f (expansion_answer s base text))
-    by_fault None = expansion_good s base text
-    by_fault (Some e) = refl
+template_good s base values t = expansion_good s base (expansion_within s values t)
 
 -- ---- one line more
 module _ (s : Tests) (base expansion : List ℕ) (output : ℕ) (values : Values) (at : Answering)

@@ -3,11 +3,13 @@ use Rattle.iri_cli.proofs.Common.{◌≡◌, ℕ, suc, ◌<◌, ◌^◌, Bool, t
 use Rattle.iri_cli.proofs.Common.{subst, arith, append-nil, ◌==◌, get_or, nat_lt, list_all, is_utf8, is_utf8-from_IsUtf8, nat_tests, Tests}
 use Rattle.iri_cli.proofs.Common.{IsSpec, path_char, before, lacks, both, IsAbsolute, recompose, is_empty, starts_with_slash}
 use Rattle.iri_cli.proofs.Common.{starts_with_slashes, split_of, absolute_fault, reference_fault, absolute-law, of_bytes, reference-utf8}
-use Rattle.iri_cli.proofs.Common.{refusal, words_of_fault, more_segments, gen_reference, gen_base}
+use Rattle.iri_cli.proofs.Common.{refusal, more_segments, gen_reference, gen_base}
 use Rattle.std.proofs.Common.{zero, ◌/◌, ◌%◌}
 use Rattle.std.specs.Str.{IsAscii, chars}
 use lib.Utf8.{encode}
 use Rattle.std.proofs.lemmas.Str.{IsAscii-append, IsUtf8-from_ascii, chars-IsAscii}
+use Rattle.std.specs.Prelude.{option_map}
+use Rattle.iri_grammar.specs.ErrorTexts.{description}
 use Rattle.iri_grammar.specs.Classes.{uri_tests, is_ascii_unreserved, is_sub_delim, is_ascii_reg_name, is_ascii_pchar, is_ascii_path}
 use Rattle.iri_grammar.specs.Classes.{is_ascii_query, reg_name_char, query_char}
 use Rattle.iri_grammar.proofs.ClassLaws.{class_has_no_percent}
@@ -194,5 +196,5 @@ pub base_taken : (s : Tests) → IsSpec s → refusal s gen_base ≡ None
 unfolding refusal
 base_taken s k =
     let valid = absolute-wider s gen_base ((absolute-law uri_tests uri_is_spec gen_base).0 base_of_uris) in
-    ap words_of_fault ((of_bytes (absolute_fault s) (IsAbsolute s gen_base) gen_base (λ r. reference-utf8 s gen_base (r.0, r.1))
+    ap (option_map description) ((of_bytes (absolute_fault s) (IsAbsolute s gen_base) gen_base (λ r. reference-utf8 s gen_base (r.0, r.1))
     (absolute-law s k gen_base)).1 valid)

@@ -3,11 +3,12 @@ use Rattle.iri_cli.proofs.Common.{◌≡◌, ℕ, ◌≤◌, List, [], ◌∷◌
 use Rattle.iri_cli.proofs.Common.{bytes_fault, absolute_fault, LineState, Appends-none, room-same, SinkState, refusal, Answering, IsReady}
 use Rattle.iri_cli.proofs.Common.{Rules, ending, begun, HasRead, IsGoing, outside, Ran, Memory}
 use Rattle.iri_normal.proofs.CanonLemmas.{fault_none}
-use Rattle.iri_cli.specs.run.Buffers.{AreBuffers}
+use Rattle.iri_cli.specs.run.Buffers.{AreBuffers, IsNew}
 use Rattle.iri_cli.specs.inside.Opening.{BeginsAsCanon}
-use Rattle.iri_cli.specs.run.Steps.{GivesBase, IsNew}
+use Rattle.iri_cli.specs.run.Steps.{GivesBase}
 use Rattle.iri_cli.proofs.BytesLemmas.{refused_none}
-use Rattle.iri_cli.proofs.Ends.{first_lines}
+use Rattle.iri_cli.proofs.Answered.{whole_prefix}
+use Rattle.iri_cli.proofs.Ends.{first_lines, ran_by}
 
 -- the empty text is no base
 refuses_empty : (s : Tests) → refusal s [] ≡ None → ⊥
@@ -17,15 +18,8 @@ refuses_empty s h = let e : absolute_fault s [] ≡ None =
 
 module _ (s : Tests) (rules : Rules) (begins : BeginsAsCanon s rules) where
   -- the buffers have a new reader
-  pub new_reader : (reader : LineState) (base output : ℕ) → AreBuffers reader base output → IsNew rules reader
-  new_reader reader base output b = record {
-    held = b.held;
-    taken = b.taken;
-    ended = b.ended;
-    going = b.going;
-    line_limit = b.line_limit ∙ sym begins.line_limit;
-    input_limit = b.input_limit ∙ sym begins.input_limit;
-  }
+  pub new_reader : (reader : LineState) (base output : ℕ) → AreBuffers reader base output → IsNew rules.line_limit rules.input_limit reader
+  new_reader reader base output b = rw (begins.line_limit, begins.input_limit) b.new
 
   module _ (line : List ℕ) where
     pub refusal_is : rules.refusal line ≡ refusal s line
@@ -44,23 +38,13 @@ module _ (s : Tests) (rules : Rules) (begins : BeginsAsCanon s rules) where
       -- allocation failed before the first line after the base was answered
       pub ends_in_memory : (fo fn : ℕ) (ko : SinkState) → rules.base_wants_memory ≡ true → fo ≤ fn
           → Ran rules (outside lo fo ko) (outside lm fn ko) Memory
-      ends_in_memory fo fn ko takes later = record {
-        to = record {
-          whole = [];
-          line = line;
-          wants = (takes, refusal_is ∙ taken);
-          first = first_lines rules lo lm reader (line ∷ []) base_read.0;
-          base_taken = tt;
-          writes = Appends-none ko.written;
-          sink = refl;
-        };
-        prefix = λ x told. record {
-          prefix = [];
-          rest = (ending rules x).output;
-          split = refl;
-          appended = Appends-none ko.written;
-        };
-        source_later = later;
-        sink_later = omega arith;
-        room = λ x told. room-same ko.room_left (ending rules x).output (λ _ h. cc h);
-      }
+      ends_in_memory fo fn ko takes later =
+          ran_by [] (record {
+            whole = [];
+            line = line;
+            wants = (takes, refusal_is ∙ taken);
+            first = first_lines rules lo lm reader (line ∷ []) base_read.0;
+            base_taken = tt;
+            writes = Appends-none ko.written;
+            sink = refl;
+          }) (λ x told. (_, refl)) (whole_prefix (Appends-none ko.written)) (room-same ko.room_left [] (λ _ h. cc h)) later (omega arith)

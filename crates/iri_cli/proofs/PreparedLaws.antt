@@ -2,7 +2,9 @@
 use Rattle.iri_cli.proofs.Common.{◌≡◌, ℕ, ◌≤◌, true, false, cond, ◌&&◌, List, [], ◌∷◌, ◌++◌, Option, Some, None, length, refl, ap, sym, ◌∙◌}
 use Rattle.iri_cli.proofs.Common.{arith, append_assoc, append-nil, is_some, IsSome, Tests, IsSpec, Parts, IsAbsolute, path_rules, recompose}
 use Rattle.iri_cli.proofs.Common.{is_empty, starts_with_slash, split_of, CanonMode, canonical_in, bytes_fault, absolute_fault}
-use Rattle.iri_cli.proofs.Common.{reference_fault, absolute-law, of_bytes, reference-utf8, refusal, words_of_fault, answer_in, answer_by}
+use Rattle.iri_cli.proofs.Common.{reference_fault, absolute-law, of_bytes, reference-utf8, refusal, answer_in, answer_by}
+use Rattle.std.specs.Prelude.{option_map}
+use Rattle.iri_grammar.specs.ErrorTexts.{description}
 use Rattle.iri_grammar.proofs.FaultLaws.{none-is}
 use Rattle.iri_grammar.specs.Parts.{Fits, Splits, scheme_text, authority_text}
 use Rattle.iri_grammar.specs.Cut.{delimited}
@@ -174,7 +176,7 @@ unfolding refusal
 prepared_taken s base k taken =
     let text = prepared s base in
     let valid = prepared_absolute s base k (base_absolute s k base taken) in
-    ap words_of_fault ((of_bytes (absolute_fault s) (IsAbsolute s text) text (λ r. reference-utf8 s text (r.0, r.1))
+    ap (option_map description) ((of_bytes (absolute_fault s) (IsAbsolute s text) text (λ r. reference-utf8 s text (r.0, r.1))
     (absolute-law s k text)).1 valid)
 
 -- ---- it is no longer than the base

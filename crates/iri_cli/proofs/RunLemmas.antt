@@ -4,7 +4,8 @@ use Rattle.iri_cli.proofs.Common.{inl, inr, ⊎_elim, Rose, Consumes, IsAtEnd, A
 use Rattle.iri_cli.proofs.Common.{ending, Outside, outside, Finishes, Decides, StopsShort, RanTo, Ran, status_of, End, Done, SomeBad}
 use Rattle.iri_cli.proofs.Common.{BadBase, SourceFailed, Memory, LineTooLong, InputTooLong}
 use Rattle.iri_text.proofs.Puts.{room-less}
-use Rattle.iri_cli.specs.run.Run.{RunsOut, Runs, MayRunOut, WantsMemory, IsDecided}
+use Rattle.iri_text.specs.Sink.{HasRoom}
+use Rattle.iri_cli.specs.run.Run.{RunsOut, Runs, MayRunOut, WantsMemory}
 use Rattle.iri_cli.specs.run.Closes.{Closes}
 use Rattle.iri_cli.specs.declared.run.end.End.TheVariants.{SinkFailed}
 use Rattle.iri_cli.proofs.Reading.{left_is}
@@ -12,7 +13,7 @@ use Rattle.iri_cli.proofs.Answered.{taken_is}
 
 module _ (rules : Rules) (old new : Outside) where
   -- status and output are those of the input's ending
-  abbrev Meets : ℕ → List ℕ → Type 0
+  abbrev pub Meets : ℕ → List ℕ → Type 0
   Meets status x = (status ≡ (ending rules x).status) × Appends old.sink.written new.sink.written (ending rules x).output
 
   finished : (n : ℕ) → Finishes rules n old new → (x : List ℕ) → old.left ≡ Some x → Meets n x
@@ -29,155 +30,52 @@ module _ (rules : Rules) (old new : Outside) where
         subst (λ (t : List ℕ). Appends old.sink.written new.sink.written (ending rules t).output) (sym l.2) (p.writes l.0),
       )
 
-  not_decided : (n : ℕ) → (4 ≤ n) × (n ≤ 6) → IsDecided n → ⊥
-  not_decided n h d = ⊎_elim (λ e. omega (arith, e, h.0))
-      (λ r. ⊎_elim (λ e. omega (arith, e, h.0)) (λ q. ⊎_elim (λ e. omega (arith, e, h.1)) (λ e. omega (arith, e, h.1)) q) r) d
-
-  at_end_of : (e : End) → RanTo rules old new e → status_of e ≤ 1 → IsAtEnd new.left
-  at_end_of Done p h = p.at_end
-  at_end_of SomeBad p h = p.at_end
-  at_end_of BadBase p h = absurd (omega (arith, h))
-  at_end_of SourceFailed p h = absurd (omega (arith, h))
-  at_end_of SinkFailed p h = absurd (omega (arith, h))
-  at_end_of Memory p h = absurd (omega (arith, h))
-  at_end_of LineTooLong p h = absurd (omega (arith, h))
-  at_end_of InputTooLong p h = absurd (omega (arith, h))
-
-  meets_of : (e : End) → RanTo rules old new e → (x : List ℕ) → old.left ≡ Some x → IsDecided (status_of e) → Meets (status_of e) x
-  meets_of Done p x told d = finished 0 p x told
-  meets_of SomeBad p x told d = finished 1 p x told
-  meets_of BadBase p x told d = ⊎_elim (λ q. decided 3 q x told) (λ q. finished 3 q x told) p
-  meets_of SourceFailed p x told d = absurd (not_decided 4 (omega arith, omega arith) d)
-  meets_of SinkFailed p x told d = absurd (not_decided 5 (omega arith, omega arith) d)
-  meets_of Memory p x told d = absurd (not_decided 6 (omega arith, omega arith) d)
-  meets_of LineTooLong p x told d = decided 7 p x told
-  meets_of InputTooLong p x told d = decided 8 p x told
-
-  source_failed_of : (e : End) → RanTo rules old new e → status_of e ≡ 4 → StopsShort rules old new
-  source_failed_of Done p h = absurd (omega (arith, h))
-  source_failed_of SomeBad p h = absurd (omega (arith, h))
-  source_failed_of BadBase p h = absurd (omega (arith, h))
-  source_failed_of SourceFailed p h = p
-  source_failed_of SinkFailed p h = absurd (omega (arith, h))
-  source_failed_of Memory p h = absurd (omega (arith, h))
-  source_failed_of LineTooLong p h = absurd (omega (arith, h))
-  source_failed_of InputTooLong p h = absurd (omega (arith, h))
-
-  sink_failed_of : (e : End) → RanTo rules old new e → status_of e ≡ 5 → Rose old.sink.faults new.sink.faults
-  sink_failed_of Done p h = absurd (omega (arith, h))
-  sink_failed_of SomeBad p h = absurd (omega (arith, h))
-  sink_failed_of BadBase p h = absurd (omega (arith, h))
-  sink_failed_of SourceFailed p h = absurd (omega (arith, h))
-  sink_failed_of SinkFailed p h = p
-  sink_failed_of Memory p h = absurd (omega (arith, h))
-  sink_failed_of LineTooLong p h = absurd (omega (arith, h))
-  sink_failed_of InputTooLong p h = absurd (omega (arith, h))
-
-  sink_same_of : (e : End) → RanTo rules old new e → status_of e ≢ 5 → new.sink.faults ≡ old.sink.faults
-  sink_same_of Done p h = p.sink
-  sink_same_of SomeBad p h = p.sink
-  sink_same_of BadBase p h = ⊎_elim (λ q. q.sink) (λ q. q.sink) p
-  sink_same_of SourceFailed p h = p.sink
-  sink_same_of SinkFailed p h = absurd (h refl)
-  sink_same_of Memory p h = p.sink
-  sink_same_of LineTooLong p h = p.sink
-  sink_same_of InputTooLong p h = p.sink
-
-  ran_out_of : (e : End) → RanTo rules old new e → status_of e ≡ 6 → RunsOut rules old new
-  ran_out_of Done p h = absurd (omega (arith, h))
-  ran_out_of SomeBad p h = absurd (omega (arith, h))
-  ran_out_of BadBase p h = absurd (omega (arith, h))
-  ran_out_of SourceFailed p h = absurd (omega (arith, h))
-  ran_out_of SinkFailed p h = absurd (omega (arith, h))
-  ran_out_of Memory p h = p
-  ran_out_of LineTooLong p h = absurd (omega (arith, h))
-  ran_out_of InputTooLong p h = absurd (omega (arith, h))
-
   may_run_out : RunsOut rules old new → (x : List ℕ) → old.left ≡ Some x → MayRunOut rules x
   may_run_out p x told =
       let h = p.first x told in
       record { whole = p.whole; line = p.line; more = h.0; all = h.1; base_taken = p.base_taken; wants = p.wants }
 
-  completes_of : (e : End) → RanTo rules old new e → (x : List ℕ) → old.left ≡ Some x → ¬ (Rose old.source_faults new.source_faults)
-      → ¬ (Rose old.sink.faults new.sink.faults)
-      → (status_of e ≡ (ending rules x).status) ⊎ ((status_of e ≡ 6) × MayRunOut rules x)
-  completes_of Done p x told f k = inl (finished 0 p x told).0
-  completes_of SomeBad p x told f k = inl (finished 1 p x told).0
-  completes_of BadBase p x told f k = inl (⊎_elim (λ q. (decided 3 q x told).0) (λ q. (finished 3 q x told).0) p)
-  completes_of SourceFailed p x told f k = absurd (f p.source)
-  completes_of SinkFailed p x told f k = absurd (k p)
-  completes_of Memory p x told f k = inr (refl, may_run_out p x told)
-  completes_of LineTooLong p x told f k = inl (decided 7 p x told).0
-  completes_of InputTooLong p x told f k = inl (decided 8 p x told).0
+  meets_or_runs_out : (e : End) → RanTo rules old new e → (x : List ℕ) → old.left ≡ Some x → ¬ (Rose old.source_faults new.source_faults)
+      → e ≢ SinkFailed → Meets (status_of e) x ⊎ ((status_of e ≡ 6) × MayRunOut rules x)
+  meets_or_runs_out Done p x told f k = inl (finished 0 p x told)
+  meets_or_runs_out SomeBad p x told f k = inl (finished 1 p x told)
+  meets_or_runs_out BadBase p x told f k = inl (⊎_elim (λ q. decided 3 q x told) (λ q. finished 3 q x told) p)
+  meets_or_runs_out SourceFailed p x told f k = absurd (f p.source)
+  meets_or_runs_out SinkFailed p x told f k = absurd (k refl)
+  meets_or_runs_out Memory p x told f k = inr (refl, may_run_out p x told)
+  meets_or_runs_out LineTooLong p x told f k = inl (decided 7 p x told)
+  meets_or_runs_out InputTooLong p x told f k = inl (decided 8 p x told)
 
-  -- only a sink that failed has its status
-  sink_of_five : (e : End) → status_of e ≡ 5 → e ≡ SinkFailed
-  sink_of_five Done h = absurd (omega (arith, h))
-  sink_of_five SomeBad h = absurd (omega (arith, h))
-  sink_of_five BadBase h = absurd (omega (arith, h))
-  sink_of_five SourceFailed h = absurd (omega (arith, h))
-  sink_of_five SinkFailed h = refl
-  sink_of_five Memory h = absurd (omega (arith, h))
-  sink_of_five LineTooLong h = absurd (omega (arith, h))
-  sink_of_five InputTooLong h = absurd (omega (arith, h))
+  -- Where the source tells its bytes and doesn't fail, and the sink is known to have room, status and output are those of the ending, or
+  -- allocation failed.
+  pub completes_in_room : (status : ℕ) → Runs rules old new status → (x : List ℕ) → old.left ≡ Some x
+      → ¬ (Rose old.source_faults new.source_faults) → HasRoom old.sink.room_left (length (ending rules x).output)
+      → Meets status x ⊎ ((status ≡ 6) × MayRunOut rules x)
+  completes_in_room status r x told f k =
+      subst (λ (n : ℕ). Meets n x ⊎ ((n ≡ 6) × MayRunOut rules x)) (sym r.status_is)
+      (meets_or_runs_out r.end r.ran.to x told f ((r.ran.room x told).holds k))
 
-  in_room_of : (e : End) → RanTo rules old new e → (x : List ℕ) → old.left ≡ Some x → ¬ (Rose old.source_faults new.source_faults)
-      → e ≢ SinkFailed
-      → Meets (status_of e) x ⊎ ((status_of e ≡ 6) × MayRunOut rules x)
-  in_room_of Done p x told f k = inl (finished 0 p x told)
-  in_room_of SomeBad p x told f k = inl (finished 1 p x told)
-  in_room_of BadBase p x told f k = inl (⊎_elim (λ q. decided 3 q x told) (λ q. finished 3 q x told) p)
-  in_room_of SourceFailed p x told f k = absurd (f p.source)
-  in_room_of SinkFailed p x told f k = absurd (k refl)
-  in_room_of Memory p x told f k = inr (refl, may_run_out p x told)
-  in_room_of LineTooLong p x told f k = inl (decided 7 p x told)
-  in_room_of InputTooLong p x told f k = inl (decided 8 p x told)
-
-  -- a run by its end
-  runs_by : (e : End) → Ran rules old new e
-      → Runs rules old new (status_of e)
-  runs_by e r = record {
-    end = e;
-    told = refl;
-    ran = r;
-    at_end = at_end_of e r.to;
-    meets = meets_of e r.to;
-    source_failed = source_failed_of e r.to;
-    sink_failed = sink_failed_of e r.to;
-    sink_same = sink_same_of e r.to;
-    ran_out = ran_out_of e r.to;
-    completes = completes_of e r.to;
-    room = λ x told. room-so (λ n is. n (sink_of_five e is)) (r.room x told);
-    completes_in_room = λ x told f k. in_room_of e r.to x told f ((r.room x told).holds k);
-  }
-
-  pub runs_of : (e : End) (status : ℕ) → status ≡ status_of e → Ran rules old new e
-      → Runs rules old new status
-  runs_of e status is r = subst (Runs rules old new) (sym is) (runs_by e r)
+  ran_out : (e : End) → RanTo rules old new e → status_of e ≡ 6 → RunsOut rules old new
+  ran_out Memory p h = p
+  ran_out e p h = absurd (omega (arith, h))
 
   -- allocation fails only where lines take it
   pub never_six : rules.base_wants_memory ≡ false
-      → ((base : List ℕ) (between : List (List ℕ)) (line : List ℕ) → rules.wants_memory base between line ≡ false) → (e : End) (status : ℕ) → status ≡ status_of e
-      → Ran rules old new e → status ≢ 6
-  never_six none no_line e status is r h = let p = ran_out_of e r.to (sym is ∙ h) in by_whole p.whole p.line p.wants
+      → ((base : List ℕ) (between : List (List ℕ)) (line : List ℕ) → rules.wants_memory base between line ≡ false) → (status : ℕ)
+      → Runs rules old new status → status ≢ 6
+  never_six none no_line status r h = let p = ran_out r.end r.ran.to (sym r.status_is ∙ h) in by_whole p.whole p.line p.wants
     where
       by_whole : (whole : List (List ℕ)) (line : List ℕ) → WantsMemory rules whole line → ⊥
       by_whole [] line wants = let m = wants.0 in cc
       by_whole (base ∷ between) line wants = let n = no_line base between line in cc
 
--- no end has the status of words that are no command
-not_two : (e : End) → status_of e ≢ 2
-not_two Done h = omega (arith, h)
-not_two SomeBad h = omega (arith, h)
-not_two BadBase h = omega (arith, h)
-not_two SourceFailed h = omega (arith, h)
-not_two SinkFailed h = omega (arith, h)
-not_two Memory h = omega (arith, h)
-not_two LineTooLong h = omega (arith, h)
-not_two InputTooLong h = omega (arith, h)
-
-pub never_two : (e : End) (status : ℕ) → status ≡ status_of e → status ≢ 2
-never_two e status is h = not_two e (sym is ∙ h)
+  -- no end has the status of words that are no command
+  pub never_two : (status : ℕ) → Runs rules old new status → status ≢ 2
+  never_two status r h = not_two r.end (sym r.status_is ∙ h)
+    where
+      not_two : (e : End) → status_of e ≢ 2
+      not_two Done h = omega (arith, h)
+      not_two e h = omega (arith, h)
 
 -- A run that ended so, and whose sink was flushed then.
 pub closed : (rules : Rules) (lo ln : Option (List ℕ)) (so sn : ℕ) (ko km kn : SinkState) (end last : End)

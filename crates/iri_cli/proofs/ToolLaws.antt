@@ -1,23 +1,24 @@
 -- What is said of the answers of the tools' commands.
 use Rattle.iri_cli.proofs.Common.{◌≡◌, ◌≤◌, ℕ, Bool, true, false, List, length, Option, None, Some, Result, Ok, Err, refl, sym, ◌∙◌, ap}
-use Rattle.iri_cli.proofs.Common.{arith, nat_lt, if◌then◌else◌, nat_tests, expansion_limit, both, IsSpec, Tests, bytes_fault, Parts}
-use Rattle.iri_cli.proofs.Common.{split_of, reference_fault, ErrorKind, canonical, is_allowed, expansion, pieces_of, answer, answer_by}
-use Rattle.iri_cli.proofs.Common.{answer_in, docs_answer, read_answer, expansion_answer, template_answer, too_long, unless_fault}
+use Rattle.iri_cli.proofs.Common.{arith, nat_lt, if◌then◌else◌, nat_tests, expansion_limit, both, IsSpec, Tests, Parts}
+use Rattle.iri_cli.proofs.Common.{split_of, canonical, is_allowed, expansion, pieces_of, docs_answer, read_answer, template_answer}
 use Rattle.std.proofs.lemmas.Slice.Eq.{bytes_eq-Decides}
-use Rattle.iri_docs.specs.Documents.{line_document}
+use Rattle.iri_docs.specs.Documents.{line_document, unless}
+use Rattle.iri_docs.specs.Expanded.{within_limit}
 use Rattle.iri_docs.specs.Held.{Held}
 use Rattle.iri_docs.specs.declared.doc_error.DocError.{DocError}
+use Rattle.iri_docs.specs.declared.expand_error.DocExpandError.TheVariants.{Template, TooLong}
 use Rattle.iri_link.proofs.OneListLemmas.{one_list}
 use Rattle.iri_robots.proofs.Decisions.{allowed_is}
 use Rattle.iri_robots.specs.Compared.{subject}
 use Rattle.iri_robots.specs.Records.{FileRule, rules_for}
 use Rattle.iri_template.specs.Fault.{first, template_fault}
-use Rattle.iri_template.specs.Template.{Spells}
+use Rattle.iri_template.specs.Template.{Piece, Spells}
 use Rattle.iri_template.specs.TypeFaults.{type_fault}
 use Rattle.iri_template.proofs.Grammar.{no_fault_is_template, template_has_no_fault}
 use Rattle.iri_template.specs.declared.error.Error.{Error}
-use Rattle.iri_cli.specs.docs.Expansions.{AnswersAreExpansions, HasExpansion, IsDocumentAnswer, no_document, no_template, faulty, longer}
-use Rattle.iri_cli.specs.docs.Expansions.{no_reference, expanded}
+use Rattle.iri_cli.specs.docs.Expansions.{AnswersAreExpansions, IsExpansion, no_template, faulty, longer, expanded}
+use Rattle.iri_cli.specs.docs.Expansions.{IsDocumentAnswer, no_document, document}
 use Rattle.iri_cli.specs.links.FieldValues.{AnswersAreLinks}
 use Rattle.iri_cli.specs.register.Shared.{LiveLinesShareEntries}
 use Rattle.iri_cli.specs.robots.Answers.{answer_to, normal_base, same_part, same_site, target_answer, verdict_word}
@@ -44,50 +45,26 @@ live_lines_share_entries s k = record {
 }
 
 -- ---- `docs`
-module _ (s : Tests) (base line : List ℕ) where
-  by_reference : (text : List ℕ) → HasExpansion s line text → length text ≤ expansion_limit → (f : Option ErrorKind)
-      → bytes_fault (reference_fault s) text ≡ f → IsDocumentAnswer s base line (answer_by f (canonical s base text))
-  by_reference text h short None is = expanded text h short is
-  by_reference text h short (Some kind) is = no_reference text kind h short is
+module _ (s : Tests) (d : Held) (ps : List Piece) (spelled : Spells ps d.template) where
+  by_length : type_fault d.value_of ps ≡ None → (long : Bool) → nat_lt expansion_limit (length (expansion s d.value_of ps)) ≡ long
+      → IsExpansion s d (if long then Err TooLong else Ok (expansion s d.value_of ps))
+  by_length typed true is = longer ps spelled typed (grind (arith, nat_tests))
+  by_length typed false is = expanded ps spelled typed (grind (arith, nat_tests))
 
-  by_answer : (text : List ℕ) → HasExpansion s line text → length text ≤ expansion_limit
-      → IsDocumentAnswer s base line (answer s base text)
-  unfolding answer_in
-  by_answer text h short = by_reference text h short (bytes_fault (reference_fault s) text) refl
+  by_type : (f : Option Error) → type_fault d.value_of ps ≡ f → IsExpansion s d (unless Template f (within_limit (expansion s d.value_of ps)))
+  by_type (Some e) is = faulty ps e spelled is
+  by_type None is = by_length is (nat_lt expansion_limit (length (expansion s d.value_of ps))) refl
 
-  by_length : (text : List ℕ) → HasExpansion s line text → (long : Bool) → nat_lt expansion_limit (length text) ≡ long
-      → IsDocumentAnswer s base line (if long then too_long else answer s base text)
-  by_length text h true is = longer text h (grind (arith, nat_tests))
-  by_length text h false is = by_answer text h (grind (arith, nat_tests))
+by_fault : (s : Tests) (d : Held) (f : Option Error) → template_fault d.template ≡ f
+    → IsExpansion s d (unless Template (first f (type_fault d.value_of (pieces_of d.template))) (within_limit (expansion s d.value_of (pieces_of d.template))))
+by_fault s d (Some e) is = no_template e (λ t. let none = template_has_no_fault t.0 d.template t.1 in cc (none, is)) is
+by_fault s d None is = by_type s d (pieces_of d.template) (no_fault_is_template d.template is) _ refl
 
-  by_expansion : (text : List ℕ) → HasExpansion s line text → IsDocumentAnswer s base line (expansion_answer s base text)
-  unfolding expansion_answer
-  by_expansion text h = by_length text h (nat_lt expansion_limit (length text)) refl
-
-  abbrev Answered : Held → Option Error → Type 0
-  Answered d f = IsDocumentAnswer s base line (unless_fault f (expansion_answer s base (expansion s d.value_of (pieces_of d.template))))
-
-  by_type : (d : Held) → line_document line ≡ Ok d → Spells (pieces_of d.template) d.template → (f : Option Error)
-      → type_fault d.value_of (pieces_of d.template) ≡ f → Answered d f
-  by_type d read spelled (Some e) is = faulty d (pieces_of d.template) e read spelled is
-  by_type d read spelled None is =
-      by_expansion (expansion s d.value_of (pieces_of d.template))
-      (record { document = d; read = read; pieces = pieces_of d.template; spelled = spelled; typed = is; expands = refl })
-
-  by_fault : (d : Held) → line_document line ≡ Ok d → (f : Option Error) → template_fault d.template ≡ f
-      → Answered d (first f (type_fault d.value_of (pieces_of d.template)))
-  by_fault d read (Some e) is =
-      no_template d e read (λ t. let none = template_has_no_fault t.0 d.template t.1 in cc (none, is)) is
-  by_fault d read None is = by_type d read (no_fault_is_template d.template is) (type_fault d.value_of (pieces_of d.template)) refl
-
-  by_template : (d : Held) → line_document line ≡ Ok d
-      → IsDocumentAnswer s base line (template_answer s base d.value_of d.template)
-  unfolding template_answer
-  by_template d is = by_fault d is (template_fault d.template) refl
-
-  by_document : (r : Result Held DocError) → line_document line ≡ r → IsDocumentAnswer s base line (read_answer s base r)
-  by_document (Ok d) is = by_template d is
-  by_document (Err e) is = no_document e is
+by_document : (s : Tests) (base line : List ℕ) (r : Result Held DocError) → line_document line ≡ r
+    → IsDocumentAnswer s base line (read_answer s base r)
+unfolding template_answer
+by_document s base line (Ok d) is = document d _ is (by_fault s d (template_fault d.template) refl)
+by_document s base line (Err e) is = no_document e is
 
 pub answers_are_expansions : (s : Tests) → AnswersAreExpansions s
 unfolding docs_answer

@@ -5,7 +5,7 @@ use Rattle.iri_text.specs.Streams.{untold}
 use Rattle.iri_cli.specs.help.Notices.{MakesText, PutsText, Tells}
 use Rattle.iri_cli.specs.inside.HandsOn.{HandsOn}
 use Rattle.iri_cli.specs.declared.run.end.End.TheVariants.{SinkFailed}
-use Rattle.iri_cli.proofs.RunLemmas.{runs_of}
+use Rattle.iri_cli.proofs.Ends.{ran_by}
 
 -- a prefix of any bytes was written, by what such a sink tells
 untold_prefix : (bytes : List ℕ) → AppendsPrefix None None bytes
@@ -65,13 +65,11 @@ module _ (lo lm : Option (List ℕ)) (fo fm ko km kn status result : ℕ) (hands
 
   module _ (rules : Rules) where
     fails_lines : (fo ≤ fm) × (ko ≤ km) → Rose km kn × (km ≤ kn) → RunsLines rules old new 5
-    fails_lines later rose = inl (runs_of rules old new SinkFailed 5 refl (record {
-      to = omega (arith, later.1, rose.0);
-      prefix = λ x told. untold_prefix (ending rules x).output;
-      source_later = later.0;
-      sink_later = omega (arith, later.1, rose.1);
-      room = λ x told. no_room (ending rules x).output;
-    }))
+    fails_lines later rose = inl (record {
+      end = SinkFailed;
+      status_is = refl;
+      ran = ran_by [] (omega (arith, later.1, rose.0)) (λ x told. (_, refl)) (untold_prefix []) (no_room []) later.0 (omega (arith, later.1, rose.1));
+    })
 
     same_later : mid ≡ old → (fo ≤ fm) × (ko ≤ km)
     same_later e = let s = same_outside e in (omega (arith, s.1), s.2)

@@ -1,5 +1,5 @@
 // The answers of `expand`.
-ghost use Rattle.std.specs.Prelude.{◌≡◌, ◌≢◌, ◌≤◌, length, Err, None, MatchResult};
+ghost use Rattle.std.specs.Prelude.{◌≡◌, ◌≢◌, ◌≤◌, ◌++◌, ◌∷◌, [], codes, decimal, length, Err, None, MatchResult};
 ghost use Rattle.std.specs.Vec.{vec_capacity};
 ghost use Rattle.iri_template.specs.Contexts.{value_in};
 ghost use Rattle.iri_template.specs.ExpandedTexts.{expanded_text};
@@ -9,8 +9,10 @@ ghost use Rattle.iri_cli.specs.run.Limits.{longest_line, answer_room};
 ghost use Rattle.iri_cli.specs.canon.Answers.{refusal};
 ghost use Rattle.iri_cli.specs.inside.Puts.{PutsLine};
 ghost use Rattle.iri_cli.specs.inside.Opening.{RefusesLine};
-ghost use Rattle.iri_cli.specs.expand.Answers.{expansion_answer, template_answer, template_refusal};
-ghost use Rattle.iri_docs.specs.Expanded.{expansion_limit};
+ghost use Rattle.iri_cli.specs.expand.Answers.{expansion_answer, template_answer};
+ghost use Rattle.iri_docs.specs.Expanded.{expansion_limit, within_limit};
+ghost use Rattle.iri_template.specs.ErrorTexts.{description};
+ghost use Rattle.iri_text.specs.LineEnds.{line_feed};
 ghost use Rattle.iri_cli.specs.declared.run.answers.AnswerError.TheVariants.{SinkFailed};
 
 pub(crate) mod line;
@@ -34,7 +36,8 @@ use std::alloc::Global;
 // Why a template isn't expanded, and an LF.
 fn put_refusal<O: Sink>(sink: &mut O, error: Error) -> Result<(), Failed>
     ensures { let state = sink_state O.written O.faults O.room_left in
-        PutsAll (state sink.old) (state sink.new) result (template_refusal error) }
+        PutsAll (state sink.old) (state sink.new) result (codes "template "
+        ++ (description error.kind ++ (codes " at " ++ (decimal error.location ++ line_feed ∷ [])))) }
 {
     sink.put_all(b"template ")?;
     sink.put_all(error.kind().description().as_bytes())?;
@@ -57,10 +60,11 @@ fn put_expansion<S: Spec, O: Sink>(
     requires output_room { answer_room ≤ vec_capacity output.old }
     ensures puts { let state = sink_state O.written O.faults O.room_left in
         PutsLine (state sink.old) (state sink.new) (expansion_answer S.tests
-        (base_text resolver.entry) (expanded_text S.tests value_in expanded.now)) result }
+        (base_text resolver.entry) (within_limit (expanded_text S.tests value_in expanded.now)))
+        result }
     ensures room { KeepsRoom (O.room_left sink.old) (O.room_left sink.new)
         (expansion_answer S.tests (base_text resolver.entry)
-        (expanded_text S.tests value_in expanded.now))
+        (within_limit (expanded_text S.tests value_in expanded.now)))
         (result ≢ Err SinkFailed) }
     ensures capacity { vec_capacity output.old ≤ vec_capacity output.new }
 {

@@ -29,7 +29,7 @@ module _ (s : Tests) (v : List ℕ → ShownValue) (t : List ℕ) where
   faulty e fault = ap (λ f. unless Template f (within_limit (expansion s v (pieces_of t)))) fault
 
   module _ (good : expansion_fault v t ≡ None) where
-    by_length : expansion_within s v t ≡ within_limit (expansion s v (pieces_of t))
+    pub by_length : expansion_within s v t ≡ within_limit (expansion s v (pieces_of t))
     by_length = ap (λ f. unless Template f (within_limit (expansion s v (pieces_of t)))) good
 
     pub too_long : expansion_limit < length (expansion s v (pieces_of t)) → expansion_within s v t ≡ Err TooLong

@@ -1,28 +1,18 @@
 -- Why a base line is refused, and what a good answer to a reference line says.
-use Rattle.std.specs.Prelude.{◌≡◌, ℕ, List, Option, Some, None}
+use Rattle.std.specs.Prelude.{◌≡◌, ℕ, List, Option, None, option_map}
 use Rattle.iri_grammar.specs.Classes.{Tests}
 use Rattle.iri_grammar.specs.Fault.{bytes_fault}
 use Rattle.iri_grammar.specs.ErrorTexts.{description}
 use Rattle.iri_grammar.specs.Parts.{IsIri, IsAbsolute}
 use Rattle.iri_grammar.specs.Split.{split_of}
 use Rattle.iri_grammar.specs.WholeFault.{absolute_fault, reference_fault}
-use Rattle.iri_grammar.specs.declared.error.ErrorKind.{ErrorKind}
 use Rattle.iri_percent.specs.declared.canon_mode.CanonMode.{CanonMode}
-use Rattle.iri_percent.specs.declared.canon_mode.CanonMode.TheVariants.{Default}
 use Rattle.iri_normal.specs.NormalForm.{canonical_in, canonical_parts_in}
 use Rattle.iri_normal.specs.Answers.{good_answer, answer_in}
 
-abbrev pub words_of_fault : Option ErrorKind → Option (List ℕ)
-words_of_fault None = None
-words_of_fault (Some kind) = Some (description kind)
-
 -- a base is to be UTF-8 and an `absolute-URI` (RFC 3986 section 4.3): otherwise the words for its first fault
 unfoldable pub refusal : Tests → List ℕ → Option (List ℕ)
-refusal s line = words_of_fault (bytes_fault (absolute_fault s) line)
-
--- the same by the rules of every scheme
-abbrev pub answer : Tests → List ℕ → List ℕ → List ℕ
-answer s base line = answer_in s Default base line
+refusal s line = option_map description (bytes_fault (absolute_fault s) line)
 
 -- What a good answer says: its text is a URI of the spec, splits into exactly the normal form of the target, and is its own
 -- canonical text against every base.
@@ -38,6 +28,3 @@ pub record IsCanonical (s : Tests) (mode : CanonMode) (base line : List ℕ) : T
 abbrev pub AnswersAreCanonicalIn : Tests → CanonMode → Type 0
 AnswersAreCanonicalIn s mode = (base line : List ℕ) → refusal s base ≡ None → bytes_fault (reference_fault s) line ≡ None
     → IsCanonical s mode base line
-
-abbrev pub AnswersAreCanonical : Tests → Type 0
-AnswersAreCanonical s = AnswersAreCanonicalIn s Default

@@ -8,12 +8,10 @@ use Rattle.iri_docs.specs.declared.doc_error.DocError.{DocError}
 use Rattle.iri_text.specs.LineEnds.{line_feed}
 use Rattle.iri_cli.specs.expand.Answers.{template_answer}
 
--- The answer to a document: that of `expand` to its template, where variables have its own values, and no other (RFC 6570 section 3).
-abbrev pub document_answer : Tests → List ℕ → Held → List ℕ
-document_answer s base d = template_answer s base d.value_of d.template
-
+-- The answer to a document: that of `expand` to its template, where variables have its own values, and no other (RFC 6570 section 3). Where
+-- there is none, the words for its fault are the answer.
 abbrev pub read_answer : Tests → List ℕ → Result Held DocError → List ℕ
-read_answer s base (Ok d) = document_answer s base d
+read_answer s base (Ok d) = template_answer s base d.value_of d.template
 read_answer s base (Err e) = description e ++ line_feed ∷ []
 
 -- The answer to a line: that to the document that it is, or the words for its first fault.

@@ -19,4 +19,4 @@ pub record Closes (old new : SinkState) (end closed : End) : Type 0 where
 pub record Finishes (old new : SinkState) (end : End) (status : ℕ) : Type 0 where
   pub closed : End
   pub closes : Closes old new end closed
-  pub told : status ≡ status_of closed
+  pub status_is : status ≡ status_of closed

@@ -1,10 +1,9 @@
 -- What a run over the lines of a source does to that source and to its sink.
-use Rattle.std.specs.Prelude.{◌≡◌, ◌≢◌, ◌⊎◌, ◌≤◌, ℕ, true, List, [], ◌∷◌, ◌++◌, length, Option, None, Some}
+use Rattle.std.specs.Prelude.{◌≡◌, ◌≢◌, ◌⊎◌, ◌≤◌, ℕ, true, List, [], ◌∷◌, ◌++◌, Option, None, Some}
 use Rattle.iri_text.specs.Count.{Rose}
-use Rattle.iri_text.specs.Lines.{lines}
+use Rattle.iri_text.specs.Lines.{ended_lines, lines}
 use Rattle.iri_text.specs.Source.{Consumes, IsAtEnd}
-use Rattle.iri_text.specs.Sink.{Appends, AppendsPrefix, HasRoom, KeepsRoom, SinkState, sink_state}
-use Rattle.iri_text.specs.Lines.{ended_lines}
+use Rattle.iri_text.specs.Sink.{Appends, AppendsPrefix, KeepsRoom, SinkState, sink_state}
 use Rattle.iri_cli.specs.run.Ending.{Rules, ending, first_passed, IsBaseTaken, answered}
 use Rattle.iri_cli.specs.declared.run.end.End.{End}
 use Rattle.iri_cli.specs.declared.run.end.End.TheVariants.{Done, SomeBad, BadBase, SourceFailed, SinkFailed, Memory, LineTooLong, InputTooLong}
@@ -108,40 +107,11 @@ status_of Memory = 6
 status_of LineTooLong = 7
 status_of InputTooLong = 8
 
--- the statuses of a run that nothing outside cut off
-abbrev pub IsDecided : ℕ → Type 0
-IsDecided status = (status ≤ 1) ⊎ (status ≡ 3) ⊎ (status ≡ 7) ⊎ (status ≡ 8)
-
--- What a run over the lines of a source does, and what each status says.
+-- What a run over the lines of a source does: it ended in one of the ways above, and the status says in which.
 pub record Runs (rules : Rules) (old new : Outside) (status : ℕ) : Type 0 where
-  -- it ended in one of the ways above, and the status tells which
   pub end : End
-  pub told : status ≡ status_of end
+  pub status_is : status ≡ status_of end
   pub ran : Ran rules old new end
-  -- 0 and 1: the source was read to its end
-  pub at_end : status ≤ 1 → IsAtEnd new.left
-  -- 0, 1, 3, 7 and 8: where the source tells its bytes, status and output are those of their ending
-  pub meets : (input : List ℕ) → old.left ≡ Some input → IsDecided status
-      → (status ≡ (ending rules input).status) × Appends old.sink.written new.sink.written (ending rules input).output
-  -- 4: the source failed, and exactly the lines that an LF ends in the bytes taken were answered
-  pub source_failed : status ≡ 4 → StopsShort rules old new
-  -- 5: the sink failed; in every other status it didn't
-  pub sink_failed : status ≡ 5 → Rose old.sink.faults new.sink.faults
-  pub sink_same : status ≢ 5 → new.sink.faults ≡ old.sink.faults
-  -- 6: allocation failed at a line that wasn't answered
-  pub ran_out : status ≡ 6 → RunsOut rules old new
-  -- where the source tells its bytes and nothing fails, the run has their ending, or allocation failed
-  pub completes : (input : List ℕ) → old.left ≡ Some input → ¬ (Rose old.source_faults new.source_faults)
-      → ¬ (Rose old.sink.faults new.sink.faults)
-      → (status ≡ (ending rules input).status) ⊎ ((status ≡ 6) × MayRunOut rules input)
-  -- 5 never comes where the source tells its bytes and the sink is known to have room for the output of their ending
-  pub room : (input : List ℕ) → old.left ≡ Some input → KeepsRoom old.sink.room_left new.sink.room_left (ending rules input).output
-      (status ≢ 5)
-  -- where the source doesn't fail either, status and output are those of that ending, or allocation failed
-  pub completes_in_room : (input : List ℕ) → old.left ≡ Some input → ¬ (Rose old.source_faults new.source_faults)
-      → HasRoom old.sink.room_left (length (ending rules input).output)
-      → ((status ≡ (ending rules input).status) × Appends old.sink.written new.sink.written (ending rules input).output)
-      ⊎ ((status ≡ 6) × MayRunOut rules input)
 
 -- The same, or allocation failed before anything was read or written.
 abbrev pub RunsLines : Rules → Outside → Outside → ℕ → Type 0

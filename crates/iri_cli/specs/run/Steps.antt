@@ -22,15 +22,6 @@ abbrev pub end_of_all : Bool → End
 end_of_all true = Done
 end_of_all false = SomeBad
 
--- a reader that took nothing yet
-pub record IsNew (rules : Rules) (reader : LineState) : Type 0 where
-  pub held : reader.held ≡ []
-  pub taken : reader.taken ≡ 0
-  pub ended : reader.ended ≡ false
-  pub going : reader.done ≡ false
-  pub line_limit : reader.line_limit ≡ rules.line_limit
-  pub input_limit : reader.input_limit ≡ rules.input_limit
-
 -- This is the base line, and lines may follow; or there is no line, and the base is the empty text.
 abbrev pub GivesBase : Rules → Option (List ℕ) → Option (List ℕ) → LineState → List ℕ → Type 0
 GivesBase rules left_old left_new reader base =

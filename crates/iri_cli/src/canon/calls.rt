@@ -1,6 +1,6 @@
 //! The lines of `canon`.
 ghost use Rattle.std.specs.Prelude.{◌≢◌};
-ghost use Rattle.iri_cli.specs.canon.Answers.{AnswersAreCanonical, AnswersAreCanonicalIn};
+ghost use Rattle.iri_cli.specs.canon.Answers.{AnswersAreCanonicalIn};
 ghost use Rattle.iri_cli.specs.run.Run.{Runs, outside_state};
 ghost use Rattle.iri_cli.specs.canon.Rules.{canon_rules, canon_rules_in};
 
@@ -30,7 +30,7 @@ pub fn canon_lines<S: Spec, I: Source, O: Sink>(
     ensures in_memory { result ≢ 6 }
 
     // Each good answer is a URI of the spec that splits into exactly the normal form of the target, and is its own canonical text.
-    ensures canonical { AnswersAreCanonical S.tests }
+    ensures canonical { AnswersAreCanonicalIn S.tests CanonMode.Default }
 {
     canon_lines_in::<S, I, O>(CanonMode::Default, buffers, source, sink)
 }

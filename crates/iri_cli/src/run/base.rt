@@ -3,7 +3,8 @@ ghost use Rattle.std.specs.Prelude.{◌≡◌, ◌≢◌, ◌≤◌, false, leng
 ghost use Rattle.std.specs.Vec.{vec_capacity};
 ghost use Rattle.iri_text.specs.Sink.{PutsAll, KeepsRoom, sink_state};
 ghost use Rattle.iri_cli.specs.run.Ending.{Rules, base_line};
-ghost use Rattle.iri_cli.specs.run.Steps.{IsNew, ReadsBase};
+ghost use Rattle.iri_cli.specs.run.Buffers.{IsNew};
+ghost use Rattle.iri_cli.specs.run.Steps.{ReadsBase};
 ghost use Rattle.iri_cli.specs.run.Answering.{RefusesBase};
 ghost use Rattle.iri_cli.specs.declared.run.end.End.TheVariants.{SinkFailed};
 
@@ -31,7 +32,7 @@ pub fn read_base<I: Source>(
 ) -> Result<(), LineFault>
     requires going { reader.old.done ≡ false }
     requires room { reader.old.line_limit ≤ vec_capacity buffer.old }
-    ensures { (rules : Rules) → IsNew rules reader.old
+    ensures { (rules : Rules) → IsNew rules.line_limit rules.input_limit reader.old
         → ReadsBase rules (I.left source.old) (I.left source.new) (I.faults source.old)
         (I.faults source.new) reader.new buffer.new.items result }
 {

@@ -1,5 +1,6 @@
 use Rattle.iri_cli.proofs.Common.{◌≡◌, ◌≢◌, ◌<◌, ◌≤◌, ◌∙◌, ℕ, Err, true, false, refl, arith, rules, subst, ap, length, KeepsRoom}
-use Rattle.iri_cli.proofs.Common.{sink_state, base_text, value_in, expansion_limit, answer, PutsLine, too_long, SinkFailed}
+use Rattle.iri_cli.proofs.Common.{sink_state, base_text, value_in, expansion_limit, answer_in, codes, PutsLine, SinkFailed}
+use Rattle.iri_percent.specs.declared.canon_mode.CanonMode.TheVariants.{Default}
 use Rattle.iri_template.specs.ExpandedTexts.{expanded_text}
 use Rattle.iri_cli.proofs.CanonLemmas.{told_line, told_room}
 use Rattle.iri_cli.proofs.ExpandLemmas.{long_answer, short_answer}
@@ -19,7 +20,7 @@ returns-in-Ok g c =
     let s = g.S.Spec.tests in
     let base = base_text c.args.resolver in
     let text = expanded_text s value_in c.args.expanded.now in
-    let is = ap (answer s base) (c.as_bytes.ensures.value ∙ c.in-Ok.ensures.text)
+    let is = ap (answer_in s Default base) (c.as_bytes.ensures.value ∙ c.in-Ok.ensures.text)
     ∙ short_answer s base text (within _ _ expansion_limit (c.in-Ok.ensures.exact.1) c.requires.room) in
     record {
       puts = subst (λ t. PutsLine (state c.args.sink.now) (state c.put_answer.new.sink) t c.put_answer.result) is c.put_answer.ensures.puts;
@@ -36,7 +37,7 @@ returns-in-Err g c =
     let long = (c.in-Err.ensures {u = tt}).exact.0 refl in
     let is = long_answer s base (expanded_text s value_in c.args.expanded.now) (omega (arith, long, c.requires.room)) in
     record {
-      puts = told_line false c.put_all.result too_long _ c.told.result c.told.ensures refl is c.put_all.ensures;
-      room = told_room false c.put_all.result too_long _ c.told.result c.told.ensures is c.put_all.ensures;
+      puts = told_line false c.put_all.result (codes "bad expansion too long\n") _ c.told.result c.told.ensures refl is c.put_all.ensures;
+      room = told_room false c.put_all.result (codes "bad expansion too long\n") _ c.told.result c.told.ensures is c.put_all.ensures;
       capacity = search rules;
     }

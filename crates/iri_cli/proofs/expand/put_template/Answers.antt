@@ -1,6 +1,7 @@
 use Rattle.iri_cli.proofs.Common.{◌≡◌, ◌≢◌, ◌∙◌, ℕ, List, Err, None, false, refl, rules, subst, ap, Tests, KeepsRoom, sink_state, base_text}
-use Rattle.iri_cli.proofs.Common.{value_in, expansion, pieces_of, PutsLine, expansion_answer, template_answer, template_refusal, Values}
+use Rattle.iri_cli.proofs.Common.{value_in, expansion, pieces_of, PutsLine, expansion_answer, template_answer, Values}
 use Rattle.iri_cli.proofs.Common.{SinkFailed}
+use Rattle.iri_docs.specs.Expanded.{within_limit}
 use Rattle.iri_template.specs.TypeFaults.{expansion_fault}
 use Rattle.iri_cli.proofs.CanonLemmas.{told_line, told_room}
 use Rattle.iri_cli.proofs.ExpandLemmas.{template_expanded, template_refused}
@@ -8,10 +9,10 @@ use Rattle.iri_cli.proofs.expand.put_template.Goals as goal
 
 -- the answer to the expansion of a text with values is that to the template
 expanded_is : (s : Tests) (base : List ℕ) (values held : Values) (t shown : List ℕ) → expansion_fault values t ≡ None → held ≡ values → shown ≡ t
-    → expansion_answer s base (expansion s held (pieces_of shown)) ≡ template_answer s base values t
+    → expansion_answer s base (within_limit (expansion s held (pieces_of shown))) ≡ template_answer s base values t
 expanded_is s base values held t shown none held_is shown_is =
-    ap (λ v. expansion_answer s base (expansion s v (pieces_of shown))) held_is
-    ∙ ap (λ x. expansion_answer s base (expansion s values (pieces_of x))) shown_is ∙ template_expanded s base values t none
+    ap (λ v. expansion_answer s base (within_limit (expansion s v (pieces_of shown)))) held_is
+    ∙ ap (λ x. expansion_answer s base (within_limit (expansion s values (pieces_of x)))) shown_is ∙ template_expanded s base values t none
 
 pub returns-in-Ok : goal.returns-in-Ok
 returns-in-Ok g c =
@@ -29,11 +30,10 @@ returns-in-Ok g c =
 
 pub returns-in-Err : goal.returns-in-Err
 returns-in-Err g c =
-    let text = template_refusal c.in-Err.error in
     let is = template_refused g.S.Spec.tests (base_text c.args.resolver) (value_in c.args.values.now) c.args.template.now c.in-Err.error
     c.in-Err.ensures.fault in
     record {
-      puts = told_line false c.put_refusal.result text _ c.told.result c.told.ensures refl is c.put_refusal.ensures;
-      room = told_room false c.put_refusal.result text _ c.told.result c.told.ensures is c.put_refusal.ensures;
+      puts = told_line false c.put_refusal.result _ _ c.told.result c.told.ensures refl is c.put_refusal.ensures;
+      room = told_room false c.put_refusal.result _ _ c.told.result c.told.ensures is c.put_refusal.ensures;
       capacity = search rules;
     }

@@ -14,8 +14,8 @@ returns-in-Ok-clause-puts g c =
     subst (λ (w : Option (List ℕ)). Appends old.written w text) (sym q.kept)
     (subst (λ (t : List ℕ). Appends old.written (g.O.Sink.written c.put_all.new.self) t) c.as_bytes.ensures.value p.whole) in
     ⊎_elim
-    (λ e. inl (c.finish.ensures.told ∙ ap status_of e.0, put, e.1 ∙ p.same))
-    (λ e. inr (c.finish.ensures.told ∙ ap status_of e.0, whole_prefix put, omega (arith, e.1, p.same), omega (arith, q.later, p.later)))
+    (λ e. inl (c.finish.ensures.status_is ∙ ap status_of e.0, put, e.1 ∙ p.same))
+    (λ e. inr (c.finish.ensures.status_is ∙ ap status_of e.0, whole_prefix put, omega (arith, e.1, p.same), omega (arith, q.later, p.later)))
     q.ends
 
 pub returns-in-Ok-clause-room : goal.returns-in-Ok-clause-room
@@ -27,7 +27,7 @@ returns-in-Ok-clause-room g c =
     let put = subst (λ (t : List ℕ). KeepsRoom old.room_left (g.O.Sink.room_left c.put_all.new.self) t (Unit {0})) c.as_bytes.ensures.value
     (room-so (λ _. tt) c.in-Ok.ensures.room) in
     subst (λ (t : List ℕ). KeepsRoom old.room_left new.room_left t (c.finish.result ≢ 5)) (append-nil text)
-    (room-then put (room-so (λ is five. done (c.finish.ensures.told ∙ ap status_of is) five) c.finish.ensures.closes.room))
+    (room-then put (room-so (λ is five. done (c.finish.ensures.status_is ∙ ap status_of is) five) c.finish.ensures.closes.room))
   where
     done : {n : ℕ} → n ≡ 0 → n ≢ 5
     done is five = omega (arith, is, five)

@@ -4,11 +4,10 @@ use Rattle.iri_cli.proofs.RunLemmas.{never_two, never_six}
 use Rattle.iri_cli.proofs.canon.calls.canon_lines_in.Goals as goal
 
 pub returns-clause-a_command : goal.returns-clause-a_command
-returns-clause-a_command g c = never_two c.run_lines.ensures.end c.run_lines.result c.run_lines.ensures.told
+returns-clause-a_command g c = never_two _ _ _ c.run_lines.result c.run_lines.ensures
 
 pub returns-clause-in_memory : goal.returns-clause-in_memory
-returns-clause-in_memory g c =
-    never_six (canon_rules_in g.S.Spec.tests c.args.mode) _ _ refl (λ _ _ _. refl) _ _ c.run_lines.ensures.told c.run_lines.ensures.ran
+returns-clause-in_memory g c = never_six (canon_rules_in g.S.Spec.tests c.args.mode) _ _ refl (λ _ _ _. refl) _ c.run_lines.ensures
 
 pub returns-clause-canonical : goal.returns-clause-canonical
 returns-clause-canonical g c = canonical_answers g.S.Spec.tests c.args.mode g.met.S.Spec.lawful

@@ -52,5 +52,5 @@ returns-in-Err-advance g c = λ start ready before faults first earlier.
 
 pub returns-in-Err : goal.returns-in-Err
 returns-in-Err g c = λ start ready before faults first earlier.
-    fails_first start _ before _ _ _ _ _ ready.base_taken first c.flush.ensures.kept c.in-Err.ensures.cause earlier c.flush.ensures.later
+    fails_first start before _ _ _ _ _ c.flush.ensures.kept c.in-Err.ensures.cause earlier c.flush.ensures.later
     (room-so (λ h. absurd (cc h)) c.in-Err.ensures.room)

@@ -12,5 +12,5 @@ returns-in-Err g c = record {
     ends = inr (refl, c.in-Err.ensures.cause);
     room = room-so (λ h. absurd (cc h)) c.in-Err.ensures.room;
   };
-  told = c.status-in-Err.ensures;
+  status_is = c.status-in-Err.ensures;
 }
