@@ -5,7 +5,6 @@ use Rattle.iri_cli.proofs.Common.{append-nil, Rose, Consumes, IsAtEnd, Appends, 
 use Rattle.iri_cli.proofs.Common.{Source, FaultLineTooLong, FaultInputTooLong, Appends-none, room-then, room-so, Rules, Ending, answers}
 use Rattle.iri_cli.proofs.Common.{answered, IsBaseTaken, ending, HasRead, ReadsAll, ReadsSome, ReadsPast, IsGoing, outside, Finishes}
 use Rattle.iri_cli.proofs.Common.{Decides, StopsShort, RanTo, Ran, Answering, AnswersLine, PutsAnswer, AnswerError, End, Done, SomeBad}
-use Rattle.iri_cli.proofs.Common.{BadBase, SourceFailed, Memory, LineTooLong, InputTooLong}
 use Rattle.iri_text.specs.declared.streams.reader.LineFault.{LineFault}
 use Rattle.iri_text.proofs.Puts.{Appends-append, prefix-after, prefix-longer}
 use Rattle.iri_text.proofs.LinesLemmas.{no_cr-shorter}
@@ -140,7 +139,7 @@ module _ (stands_at : Answering → Type 0) (start : Answering) (reader0 old new
             (reads_line rules before lm ln sm sn old new (start.base ∷ go.between) go.going (go.read before first) a) x told in
             (h.0, h.1 ∙ ap (λ (t : List ℕ). t ++ h.0) (one_more rules start.base taken go.between new.line))
 
-        by_error : (e : AnswerError) → PutsAnswer rules km kn (rules.wants_memory start.base go.between new.line) answer (Err e)
+        by_error : (e : AnswerError) → PutsAnswer rules.is_good km kn (rules.wants_memory start.base go.between new.line) answer (Err e)
             → KeepsRoom km.room_left kn.room_left answer (NotSink (Err e)) → Ends kn (end_of_error e)
         by_error AnswerFailed q k = ran_by (out ++ answer) (omega (arith, q.1, go.sink_same)) output (prefix-after out go.writes q.0)
             (room-then go.room (room-so (λ n. absurd (n refl)) k)) (omega (arith, earlier, go.source_later, a.later))

@@ -1,11 +1,11 @@
 -- The base line.
 use Rattle.iri_cli.proofs.Common.{◌≡◌, ◌≢◌, ◌⊎◌, ℕ, ◌+◌, ◌-◌, ◌≤◌, List, [], ◌∷◌, ◌++◌, length, take, true, false, Option, None, Some, Ok}
 use Rattle.iri_cli.proofs.Common.{Err, refl, sym, ◌∙◌, ap, subst, arith, inl, inr, ⊎_elim, append_assoc, append-nil, Rose, Consumes}
-use Rattle.iri_cli.proofs.Common.{IsAtEnd, Appends, AppendsPrefix, KeepsRoom, SinkState, LineState, Advances, Source, FaultLineTooLong}
+use Rattle.iri_cli.proofs.Common.{IsAtEnd, Appends, KeepsRoom, SinkState, LineState, Advances, Source, FaultLineTooLong}
 use Rattle.iri_cli.proofs.Common.{FaultInputTooLong, Appends-none, room-same, ended_lines, Rules, Ending, Passed, unless_refused}
 use Rattle.iri_cli.proofs.Common.{first_passed, completed, completed_lines, stopped, answered, IsBaseTaken, ending_by, ending, IsOpen}
-use Rattle.iri_cli.proofs.Common.{HasRead, ReadsSome, ReadsPast, IsGoing, outside, Decides, StopsShort, RanTo, Ran, End, Done, SomeBad}
-use Rattle.iri_cli.proofs.Common.{BadBase, SourceFailed, Memory, LineTooLong, InputTooLong}
+use Rattle.iri_cli.proofs.Common.{HasRead, ReadsSome, ReadsPast, IsGoing, outside, Decides, StopsShort, RanTo, Ran, End}
+use Rattle.iri_cli.proofs.Common.{BadBase}
 use Rattle.std.proofs.Math.Seq.{take-append-add}
 use Rattle.iri_text.specs.declared.streams.reader.LineFault.{LineFault}
 use Rattle.iri_cli.specs.run.Ending.{base_line}
@@ -114,18 +114,13 @@ module _ (rules : Rules) where
             ap (λ (n : ℕ). take n (given ++ y)) place ∙ take-append-add given y (p.place - length given) in
             ap (stopped rules p.status) (ap ended_lines prefix ∙ o.ended (take (p.place - length given) y)) ∙ refused_is _
 
-    -- These bytes were taken, and have this ending however the source goes on.
-    record EndsOpen (left_old left_new : Option (List ℕ)) : Type 0 where
-      taken : List ℕ
-      takes : Consumes left_old left_new taken
-      ends : (more : List ℕ) → ending rules (taken ++ more) ≡ record { status = 3; output = base_line words }
+    -- these bytes were taken, and have this ending however the source goes on; or they are all
+    abbrev EndsOpen : Option (List ℕ) → Option (List ℕ) → Type 0
+    EndsOpen lo ln = (taken : List ℕ) × Consumes lo ln taken
+        × ((more : List ℕ) → ending rules (taken ++ more) ≡ record { status = 3; output = base_line words })
 
-    -- These bytes were taken to the end, and have this ending.
-    record EndsAll (left_old left_new : Option (List ℕ)) : Type 0 where
-      taken : List ℕ
-      takes : Consumes left_old left_new taken
-      at_end : IsAtEnd left_new
-      ends : ending rules taken ≡ record { status = 3; output = base_line words }
+    abbrev EndsAll : Option (List ℕ) → Option (List ℕ) → Type 0
+    EndsAll lo ln = (taken : List ℕ) × Consumes lo ln taken × IsAtEnd ln × (ending rules taken ≡ record { status = 3; output = base_line words })
 
     -- The base is refused.
     pub refuses : (lo ln : Option (List ℕ)) (fo fn : ℕ) (ko kn : SinkState) (reader : LineState) (end : End)
@@ -137,35 +132,35 @@ module _ (rules : Rules) where
         ends : EndsOpen lo ln ⊎ EndsAll lo ln
         ends = ⊎_elim
             (λ h. ⊎_elim
-            (λ o. inl (record {
-              taken = h.0.given ++ reader.held;
-              takes = h.0.takes;
-              ends = λ more. ap (ending rules) (append_assoc h.0.given reader.held more) ∙ refused_open h.0.given o.1 (reader.held ++ more);
-            }))
-            (λ c. inr (record {
-              taken = h.0.given;
-              takes = subst (Consumes lo ln) (ap (λ (t : List ℕ). h.0.given ++ t) (c.1).nothing ∙ append-nil h.0.given) h.0.takes;
-              at_end = (c.1).at_end;
-              ends = ap (ending_by rules h.0.given) (c.1).passes ∙ ap (completed_lines rules) (c.1).all ∙ refused_is _;
-            }))
+            (λ o. inl (
+              h.0.given ++ reader.held,
+              h.0.takes,
+              λ more. ap (ending rules) (append_assoc h.0.given reader.held more) ∙ refused_open h.0.given o.1 (reader.held ++ more),
+            ))
+            (λ c. inr (
+              h.0.given,
+              subst (Consumes lo ln) (ap (λ (t : List ℕ). h.0.given ++ t) (c.1).nothing ∙ append-nil h.0.given) h.0.takes,
+              (c.1).at_end,
+              ap (ending_by rules h.0.given) (c.1).passes ∙ ap (completed_lines rules) (c.1).all ∙ refused_is _,
+            ))
             h.0.place)
-            (λ h. inr (record {
-              taken = h.0.taken;
-              takes = h.0.takes;
-              at_end = h.0.at_end;
-              ends = ap (ending_by rules h.0.taken) h.0.passes ∙ ap (completed_lines rules) h.0.all
-                  ∙ ap (λ (b : List ℕ). completed rules b []) (sym h.1) ∙ refused_is _;
-            }))
+            (λ h. inr (
+              h.0.taken,
+              h.0.takes,
+              h.0.at_end,
+              ap (ending_by rules h.0.taken) h.0.passes ∙ ap (completed_lines rules) h.0.all
+                  ∙ ap (λ (b : List ℕ). completed rules b []) (sym h.1) ∙ refused_is _,
+            ))
             gives
 
         output : (x : List ℕ) → lo ≡ Some x → (more : List ℕ) × ((ending rules x).output ≡ base_line words ++ more)
         output x told = (
           [],
           ⊎_elim
-              (λ e. let l = left_is ln x e.taken (subst (λ (s : Option (List ℕ)). Consumes s ln e.taken) told e.takes) in
-              ap (λ (n : Ending). n.output) (ap (ending rules) l.2 ∙ e.ends l.0))
-              (λ e. ap (λ (n : Ending). n.output) (ap (ending rules) (taken_is lo ln x e.taken told e.takes e.at_end) ∙ e.ends))
-              ends ∙ sym (append-nil (base_line words)),
+              (λ e. let l = left_is ln x e.0 (subst (λ (s : Option (List ℕ)). Consumes s ln e.0) told e.1) in
+              ap (λ (n : Ending). n.output) (ap (ending rules) l.2 ∙ e.2 l.0))
+              (λ e. ap (λ (n : Ending). n.output) (ap (ending rules) (taken_is lo ln x e.0 told e.1 e.2) ∙ e.3)) ends
+              ∙ sym (append-nil (base_line words)),
         )
 
         by_end : (e : End) → RefusesBase words ko kn e → KeepsRoom ko.room_left kn.room_left (base_line words) (e ≢ SinkFailed)
@@ -173,18 +168,18 @@ module _ (rules : Rules) where
         by_end BadBase q k =
             ran_by (base_line words) (⊎_elim
             (λ e. inl (record {
-              taken = e.taken;
-              takes = e.takes;
-              ends = λ more. ap (λ (n : Ending). n.status) (e.ends more);
-              writes = λ more. subst (Appends ko.written kn.written) (sym (ap (λ (n : Ending). n.output) (e.ends more))) q.0;
+              taken = e.0;
+              takes = e.1;
+              ends = λ more. ap (λ (n : Ending). n.status) (e.2 more);
+              writes = λ more. subst (Appends ko.written kn.written) (sym (ap (λ (n : Ending). n.output) (e.2 more))) q.0;
               sink = q.1;
             }))
             (λ e. inr (record {
-              taken = e.taken;
-              takes = e.takes;
-              at_end = e.at_end;
-              ends = ap (λ (n : Ending). n.status) e.ends;
-              writes = subst (Appends ko.written kn.written) (sym (ap (λ (n : Ending). n.output) e.ends)) q.0;
+              taken = e.0;
+              takes = e.1;
+              at_end = e.2;
+              ends = ap (λ (n : Ending). n.status) e.3;
+              writes = subst (Appends ko.written kn.written) (sym (ap (λ (n : Ending). n.output) e.3)) q.0;
               sink = q.1;
             }))
             ends) output (whole_prefix q.0) k later (omega (arith, q.1))

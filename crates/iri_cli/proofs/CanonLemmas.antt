@@ -1,10 +1,10 @@
 -- The answers of `canon`.
-use Rattle.iri_cli.proofs.Common.{◌≡◌, ◌≢◌, ℕ, ◌+◌, ◌≤◌, Bool, List, [], length, None, Result, Ok, Err, refl, sym, ap, subst, arith, ◌∙◌}
+use Rattle.iri_cli.proofs.Common.{◌≡◌, ◌≢◌, ℕ, ◌+◌, ◌≤◌, Bool, false, List, [], length, None, Result, Ok, Err, refl, sym, ap, subst, arith, ◌∙◌}
 use Rattle.iri_cli.proofs.Common.{Tests, IsSpec, bytes_fault, reference_fault, PutsAll, KeepsRoom, SinkState, Appends-none, room-same}
 use Rattle.iri_cli.proofs.Common.{room-so, Failed, CanonMode, canonical_in, longest_line, answer_room, refusal, answer_in, Answering}
 use Rattle.iri_cli.proofs.Common.{AnswersLine, PutsAnswer, canon_rules_in, is_ok, AnswerError, SinkFailed, Rules, begun, OnOk}
 use Rattle.iri_normal.proofs.LengthLaws.{length-canonical_in}
-use Rattle.iri_cli.specs.inside.Puts.{PutsLine, told_of, IsCanonAt}
+use Rattle.iri_cli.specs.inside.Puts.{told_of, IsCanonAt}
 use Rattle.iri_cli.specs.declared.run.answers.AnswerError.TheVariants.{Memory}
 use Rattle.iri_cli.specs.canon.Prepared.{prepared}
 use Rattle.iri_cli.proofs.PreparedLaws.{same_answer, prepared_taken}
@@ -27,10 +27,10 @@ pub closes_nothing : (at : Answering) (k : SinkState) → at.rules.closing at.ba
 closes_nothing at k none = subst (λ t. PutsAll k k (Ok tt) t) (sym none) (puts_nothing k)
 
 -- pieces that were put, and what is said of them
-puts_line : {ko kn : SinkState} (good : Bool) (r : Result (Unit {0}) Failed) (text : List ℕ)
-    → PutsAll ko kn r text → good ≡ is_ok text → PutsLine ko kn text (told_of good r)
-puts_line good (Ok x) text p e = (p.whole, p.same, e)
-puts_line good (Err f) text p e = (p.prefix, p.cause, p.later)
+pub puts_line : {ko kn : SinkState} (is_good : List ℕ → Bool) (wants good : Bool) (r : Result (Unit {0}) Failed) (text : List ℕ)
+    → PutsAll ko kn r text → good ≡ is_good text → PutsAnswer is_good ko kn wants text (told_of good r)
+puts_line is_good wants good (Ok x) text p e = (p.whole, p.same, e)
+puts_line is_good wants good (Err f) text p e = (p.prefix, p.cause, p.later)
 
 pub line_room : {ko kn : SinkState} (good : Bool) (r : Result (Unit {0}) Failed) (text : List ℕ)
     → PutsAll ko kn r text → KeepsRoom ko.room_left kn.room_left text (told_of good r ≢ Err SinkFailed)
@@ -40,9 +40,10 @@ line_room good (Err f) text p = room-so (λ h. absurd (cc h)) p.room
 -- the same of an answer that is told by a result
 pub told_line : {ko kn : SinkState} (good : Bool) (r : Result (Unit {0}) Failed) (text line : List ℕ)
     (result : Result Bool AnswerError) → result ≡ told_of good r → good ≡ is_ok text → text ≡ line → PutsAll ko kn r text
-    → PutsLine ko kn line result
+    → PutsAnswer is_ok ko kn false line result
 told_line {ko} {kn} good r text line result told e is p =
-    subst (λ x. PutsLine ko kn line x) (sym told) (subst (λ t. PutsLine ko kn t (told_of good r)) is (puts_line good r text p e))
+    subst (λ x. PutsAnswer is_ok ko kn false line x) (sym told)
+    (subst (λ t. PutsAnswer is_ok ko kn false t (told_of good r)) is (puts_line is_ok false good r text p e))
 
 pub told_room : {ko kn : SinkState} (good : Bool) (r : Result (Unit {0}) Failed) (text line : List ℕ)
     (result : Result Bool AnswerError) → result ≡ told_of good r → text ≡ line → PutsAll ko kn r text
@@ -78,17 +79,18 @@ canon_opened s m line text output k is taken short room =
 
 -- the answer to a line
 pub puts_answer : (rules : Rules) (ko kn : SinkState) (r : Result Bool AnswerError) (wants : Bool) (text : List ℕ)
-    → is_ok text ≡ rules.is_good text → PutsLine ko kn text r → PutsAnswer rules ko kn wants text r
+    → is_ok text ≡ rules.is_good text → PutsAnswer is_ok ko kn false text r → PutsAnswer rules.is_good ko kn wants text r
 puts_answer rules ko kn (Ok good) wants text e p = (p.0, p.1, p.2 ∙ e)
 puts_answer rules ko kn (Err SinkFailed) wants text e p = p
-puts_answer rules ko kn (Err Memory) wants text e p = absurd p
+puts_answer rules ko kn (Err Memory) wants text e p = let never = p.0 in cc
 
 pub on_ok : {X : Type 0} (r : Result Bool AnswerError) → X → OnOk r X
 on_ok (Ok x) h = h
 on_ok (Err x) h = tt
 
 pub answers_line : (s : Tests) (m : CanonMode) (base line : List ℕ) (output new : ℕ) (at : Answering) (ko kn : SinkState)
-    (r : Result Bool AnswerError) → IsCanonAt s m base output at → output ≤ new → PutsLine ko kn (answer_in s m base line) r
+    (r : Result Bool AnswerError) → IsCanonAt s m base output at → output ≤ new
+    → PutsAnswer is_ok ko kn false (answer_in s m base line) r
     → KeepsRoom ko.room_left kn.room_left (answer_in s m base line) (r ≢ Err SinkFailed)
     → AnswersLine (IsCanonAt s m base new) at line ko kn r
 answers_line s m base line output new at ko kn r is grows p room =
@@ -98,7 +100,7 @@ answers_line s m base line output new at ko kn r is grows p room =
       puts =
           let text = at.rules.answer at.base at.between line in
           puts_answer at.rules ko kn r (at.rules.wants_memory at.base at.between line) text (ap (λ (rules : Rules). rules.is_good text) (sym is.rules))
-          (subst (λ t. PutsLine ko kn t r) e p);
+          (subst (λ t. PutsAnswer is_ok ko kn false t r) e p);
       next = on_ok r (record { rules = is.rules; same = is.same; taken = is.taken; short = is.short; room = omega (arith, grows, is.room) });
       room = subst (λ t. KeepsRoom ko.room_left kn.room_left t (r ≢ Err SinkFailed)) e room;
     }

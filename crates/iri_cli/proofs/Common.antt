@@ -11,7 +11,7 @@ pub use Rattle.std.proofs.lemmas.Str.{is_utf8-from_IsUtf8}
 pub use Rattle.std.specs.List.{concat, list_all}
 pub use Rattle.std.specs.Prelude.{OnOk, nat_lt, get_or, codes, is_some, IsSome}
 unfoldable pub use Rattle.std.specs.Str.{is_utf8}
-pub use Rattle.std.specs.Vec.{vec_capacity, with_items}
+pub use Rattle.std.specs.Vec.{with_items}
 pub use Rattle.std.specs.declared.alloc.AllocError.{AllocError}
 pub use Rattle.iri_docs.specs.Expanded.{expansion_limit}
 pub use Rattle.iri_grammar.proofs.FaultLaws.{absolute-law, of_bytes, reference-utf8}
@@ -57,10 +57,10 @@ pub use Rattle.iri_cli.specs.docs.Answers.{read_answer}
 unfoldable pub use Rattle.iri_cli.specs.docs.Answers.{docs_answer}
 pub use Rattle.iri_cli.specs.expand.Answers.{expansion_answer}
 unfoldable pub use Rattle.iri_cli.specs.expand.Answers.{template_answer}
-pub use Rattle.iri_cli.specs.expand.Lines.{Values, with_value, changed}
+pub use Rattle.iri_cli.specs.expand.Lines.{Values, with_value}
 pub use Rattle.iri_cli.specs.generator.References.{more_segments, gen_reference, gen_base, gen_text}
 pub use Rattle.iri_cli.specs.inside.Opening.{begun}
-pub use Rattle.iri_cli.specs.inside.Puts.{PutsLine, told_of}
+pub use Rattle.iri_cli.specs.inside.Puts.{told_of}
 pub use Rattle.iri_cli.specs.inside.RobotsAt.{IsRobotsAt}
 pub use Rattle.iri_cli.specs.register.Answers.{entry_lines, more_numbers, joined}
 pub use Rattle.iri_cli.specs.register.Lines.{line_of, command_of, commands_from}

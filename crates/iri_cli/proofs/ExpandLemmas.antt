@@ -2,23 +2,20 @@
 use Rattle.iri_cli.proofs.Common.{◌≡◌, ◌≢◌, ◌∙◌, ◌<◌, ◌≤◌, ℕ, Bool, true, false, List, [], ◌∷◌, ◌++◌, length, Option, None, Some, Result}
 use Rattle.iri_cli.proofs.Common.{Ok, Err, refl, sym, ap, subst, arith, append_assoc, codes, decimal, nat_lt, nat_tests, Tests}
 use Rattle.iri_cli.proofs.Common.{bytes_fault, reference_fault, ErrorKind, canonical, KeepsRoom, SinkState, Appends-none, room-same}
-use Rattle.iri_cli.proofs.Common.{expansion_limit, value_in, expansion, shown_value, pieces_of, optional, answer_room, longest_line}
-use Rattle.iri_cli.proofs.Common.{refusal, answer_by, answer_in, Answering, AnswersLine, PutsAnswer, PutsLine, Rules, expansion_answer}
-use Rattle.iri_cli.proofs.Common.{template_answer, Values, is_ok, begun, AnswerError, SinkFailed}
-use Rattle.std.proofs.Math.Path.{fun_ext}
+use Rattle.iri_cli.proofs.Common.{expansion_limit, expansion, pieces_of}
+use Rattle.iri_cli.proofs.Common.{answer_by, answer_in, Answering, AnswersLine, PutsAnswer, Rules, expansion_answer}
+use Rattle.iri_cli.proofs.Common.{template_answer, Values, is_ok, AnswerError, SinkFailed}
 use Rattle.iri_percent.specs.declared.canon_mode.CanonMode.TheVariants.{Default}
-use Rattle.iri_template.specs.Contexts.{value_at}
 use Rattle.iri_template.specs.ErrorTexts.{description}
 use Rattle.iri_template.specs.TypeFaults.{expansion_fault}
 use Rattle.iri_template.specs.declared.error.Error.{Error}
-use Rattle.iri_template.specs.declared.simple_context.SimpleContext.{SimpleContext}
 use Rattle.iri_docs.specs.Expanded.{expansion_within, within_limit}
 use Rattle.iri_docs.specs.declared.expand_error.DocExpandError.{DocExpandError}
 use Rattle.iri_docs.specs.declared.expand_error.DocExpandError.TheVariants.{Template, TooLong, Invalid, Memory as OutOfMemory}
 use Rattle.iri_docs.proofs.ExpandLemmas.{by_length, faulty}
 use Rattle.iri_cli.specs.expand.Answers.{answer_to}
 use Rattle.iri_cli.specs.expand.Lines.{ExpandLine, after_line, line_of, values_after}
-use Rattle.iri_cli.specs.expand.Rules.{expand_rules, is_ok_or_none}
+use Rattle.iri_cli.specs.expand.Rules.{is_ok_or_none}
 use Rattle.iri_cli.specs.inside.ExpandAt.{IsExpandAt}
 use Rattle.iri_cli.proofs.CanonLemmas.{on_ok, puts_answer}
 use Rattle.iri_cli.proofs.VariableLemmas.{values-more}
@@ -94,11 +91,11 @@ module _ (s : Tests) (base expansion : List ℕ) (output : ℕ) (values : Values
     pub answers_text : (expansion_new : List ℕ) (output_new : ℕ) (r : Result Bool AnswerError) → length expansion_new ≡ length expansion
         → output ≤ output_new → values ≡ after_line values said
         → is_ok_or_none (answer_to s base values said) ≡ is_ok (answer_to s base values said)
-        → PutsLine ko kn (answer_to s base values said) r
+        → PutsAnswer is_ok ko kn false (answer_to s base values said) r
         → KeepsRoom ko.room_left kn.room_left (answer_to s base values said) (r ≢ Err SinkFailed)
         → AnswersLine (IsExpandAt s base expansion_new output_new values) at line ko kn r
     answers_text expansion_new output_new r expansion_size output_grows same good p room = let text = answer_to s base values said in record {
-      puts = subst (λ t. PutsAnswer at.rules ko kn (at.rules.wants_memory at.base at.between line) t r) (sym answer_is)
+      puts = subst (λ t. PutsAnswer at.rules.is_good ko kn (at.rules.wants_memory at.base at.between line) t r) (sym answer_is)
           (puts_answer at.rules ko kn r _ text (sym good ∙ ap (λ (r : Rules). r.is_good text) (sym is.rules)) p);
       next = on_ok r (next_at expansion_new output_new values expansion_size output_grows same);
       room = subst (λ t. KeepsRoom ko.room_left kn.room_left t (r ≢ Err SinkFailed)) (sym answer_is) room;
@@ -116,23 +113,8 @@ module _ (s : Tests) (base expansion : List ℕ) (output : ℕ) (values : Values
     pub answers_nothing : (new : Values) → new ≡ after_line values said
         → AnswersLine (IsExpandAt s base expansion output new) at line k k (Ok true)
     answers_nothing new after = record {
-      puts = subst (λ t. PutsAnswer at.rules k k (at.rules.wants_memory at.base at.between line) t (Ok true)) (sym text_is)
+      puts = subst (λ t. PutsAnswer at.rules.is_good k k (at.rules.wants_memory at.base at.between line) t (Ok true)) (sym text_is)
           (Appends-none k.written, refl, ap (λ (x : Rules). x.is_good []) (sym is.rules));
       next = next_at expansion output new refl (omega arith) after;
       room = room-same k.room_left text (λ _ h. cc h);
     }
-
--- `expand` stands after a base line, with buffers and no values
-pub expand_opened : (s : Tests) (line expansion : List ℕ) (output : ℕ) (context : SimpleContext) → refusal s line ≡ None
-    → length line ≤ longest_line → length expansion ≡ expansion_limit → answer_room ≤ output
-    → ((q : List ℕ) → value_at context q ≡ None)
-    → IsExpandAt s line expansion output (value_in context) (begun (expand_rules s) line)
-expand_opened s line expansion output context taken short expansion_room output_room none = record {
-  rules = refl;
-  base_is = refl;
-  values_are = fun_ext (λ q. ap (optional shown_value) (none q));
-  taken = taken;
-  short = short;
-  expansion_room = expansion_room;
-  output_room = output_room;
-}

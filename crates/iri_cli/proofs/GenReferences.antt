@@ -29,6 +29,7 @@ use Rattle.iri_grammar.proofs.MadeLaws.{made-reference}
 use Rattle.iri_grammar.specs.WholeFault.{fault_before_fragment, parts_fault}
 use Rattle.iri_grammar.proofs.UriLaws.{absolute-wider}
 use Rattle.iri_grammar.specs.inside.Laws.{uri_is_spec}
+use Rattle.iri_normal.proofs.TargetLaws.{slash_in_path}
 use Rattle.iri_normal.proofs.TripletHeads.{head-apart}
 use Rattle.iri_cli.specs.generator.References.{gen_segments, gen_segment}
 
@@ -102,10 +103,6 @@ module _ (s : Tests) (k : IsSpec s) where
   unfolding path_char is_ascii_path is_ascii_pchar
   in_path c h = rw h refl
 
-  slash_in_path : path_char s 47 ≡ true
-  unfolding path_char is_ascii_path is_ascii_pchar is_ascii_reg_name is_ascii_unreserved is_sub_delim
-  slash_in_path = refl
-
   -- in ASCII, over the characters of a path
   record IsPathText (xs : List ℕ) : Type 0 where
     pub ascii : IsAscii xs
@@ -118,7 +115,7 @@ module _ (s : Tests) (k : IsSpec s) where
   segment_text x h = record { ascii = h.ascii; over = over_wider is_ascii_reg_name (path_char s) in_path x h.over }
 
   slash_text : IsPathText (47 ∷ [])
-  slash_text = record { ascii = slash_ascii; over = plain 47 [] slash_in_path done }
+  slash_text = record { ascii = slash_ascii; over = plain 47 [] (slash_in_path s) done }
 
   more_text : (count number : ℕ) → IsPathText (more_segments count number)
   more_text zero number = record { ascii = no_bytes; over = done }

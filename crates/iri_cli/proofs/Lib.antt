@@ -1,5 +1,4 @@
 mod Common
-pub mod AnswerLemmas
 pub mod PreparedPaths
 pub mod PreparedLaws
 pub mod BytesLemmas
@@ -11,7 +10,6 @@ pub mod BaseLine
 pub mod RunLemmas
 pub mod WriterLemmas
 pub mod CanonLemmas
-pub mod GenLemmas
 pub mod GenReferences
 pub mod WordLemmas
 pub mod OpeningLemmas

@@ -1,15 +1,16 @@
 -- The answers of `links`.
-use Rattle.iri_cli.proofs.Common.{◌≡◌, ◌≤◌, ◌<◌, ◌^◌, ◌==◌, ◌&&◌, ◌∙◌, ℕ, true, false, not, List, [], ◌∷◌, ◌++◌, length, map, Option, None}
+use Rattle.iri_cli.proofs.Common.{◌≡◌, ◌≤◌, ◌<◌, ◌^◌, ◌==◌, ◌&&◌, ◌∙◌, ℕ, true, not, List, [], ◌∷◌, ◌++◌, length, map, Option, None}
 use Rattle.iri_cli.proofs.Common.{Some, refl, sym, ap, arith, length-append, ◌||◌, codes, decimal, list_all, is_utf8, length-decimal-le}
 use Rattle.iri_cli.proofs.Common.{is_utf8-from_IsUtf8, both, before, lacks, reference_fault, ErrorKind, IsSpec, Tests, refusal, good_answer}
 use Rattle.std.specs.Option.{is_none}
-use Rattle.std.proofs.Math.Bool.{and-false, or-true}
-use Rattle.iri_grammar.proofs.CutLaws.{before-delimited, by_test}
+use Rattle.std.proofs.Math.Bool.{or-true}
+use Rattle.iri_grammar.proofs.CutLaws.{before-delimited}
 use Rattle.iri_grammar.specs.Characters.{comma}
 use Rattle.iri_grammar.specs.ErrorTexts.{description}
 use Rattle.iri_grammar.specs.declared.error.ErrorKind.TheVariants.{InvalidScheme, InvalidUserInfo, InvalidHost, InvalidRegName, InvalidPort}
 use Rattle.iri_grammar.specs.declared.error.ErrorKind.TheVariants.{InvalidPath, InvalidQuery, InvalidFragment, UnexpectedFragment}
 use Rattle.iri_grammar.specs.declared.error.ErrorKind.TheVariants.{UnexpectedRelative, InvalidUtf8}
+use Rattle.iri_normal.proofs.OutputLaws.{lacks_there}
 use Rattle.iri_link.specs.ErrorTexts.{displayed, words}
 use Rattle.iri_link.specs.Refusals.{RefusedBy}
 use Rattle.iri_grammar.specs.Blanks.{is_blank}
@@ -67,15 +68,10 @@ pub field_takes : (s : Tests) (line : List ℕ) (links : List LinkValue) → Has
 field_takes s line links has =
     ap (λ f. is_none f || (is_utf8 line && keeps_target s line)) (links_without_fault s line links has)
 
--- a delimiter is found after any bytes
-has_one : (c : ℕ) (xs rest : List ℕ) → lacks c (xs ++ c ∷ rest) ≡ false
-has_one c [] rest = by_test c c (λ b. (not b && lacks c rest) ≡ false) (λ h. refl) (λ n. absurd (n refl))
-has_one c (x ∷ xs) rest = ap (λ b. not (x == c) && b) (has_one c xs rest) ∙ and-false (not (x == c))
-
 target_there : (s : Tests) (target rest : List ℕ) → lacks 62 target ≡ true → reference_fault s target ≡ None
     → has_target s (target ++ 62 ∷ rest) ≡ true
 target_there s target rest closed valid =
-    ap (λ b. not b && is_none (reference_fault s (before 62 (target ++ 62 ∷ rest)))) (has_one 62 target rest)
+    ap (λ b. not b && is_none (reference_fault s (before 62 (target ++ 62 ∷ rest)))) (lacks_there 62 target rest)
     ∙ ap (λ t. is_none (reference_fault s t)) (before-delimited 62 target (Some rest) closed) ∙ ap is_none valid
 
 kept_from : (s : Tests) (prefix target rest : List ℕ) → list_all (λ c. is_blank c || c == comma) prefix ≡ true → lacks 62 target ≡ true

@@ -1,7 +1,7 @@
 -- How a run begins.
-use Rattle.iri_cli.proofs.Common.{◌≡◌, ℕ, ◌≤◌, List, [], ◌∷◌, true, Option, None, refl, sym, ◌∙◌, ap, subst, arith, ⊎_elim, Tests}
+use Rattle.iri_cli.proofs.Common.{◌≡◌, ℕ, ◌≤◌, List, [], ◌∷◌, true, Option, None, refl, ◌∙◌, ap, subst, arith, ⊎_elim, Tests}
 use Rattle.iri_cli.proofs.Common.{bytes_fault, absolute_fault, LineState, Appends-none, room-same, SinkState, refusal, Answering, IsReady}
-use Rattle.iri_cli.proofs.Common.{Rules, ending, begun, HasRead, IsGoing, outside, Ran, Memory}
+use Rattle.iri_cli.proofs.Common.{Rules, begun, HasRead, IsGoing, outside, Ran, Memory}
 use Rattle.iri_normal.proofs.CanonLemmas.{fault_none}
 use Rattle.iri_cli.specs.run.Buffers.{AreBuffers, IsNew}
 use Rattle.iri_cli.specs.inside.Opening.{BeginsAsCanon}

@@ -110,49 +110,22 @@ module _ (rules : Rules) where
 
         from_open : (old.ended ≡ false) × IsOpen rules go.given whole → HasRead rules lo ln new (whole ++ no_cr a.says.raw ∷ [])
         from_open o =
+            let all = length-append old.held a.moved in
             ⊎_elim
-            (λ r. record {
+            (λ r.
+            let line = length-append a.says.raw (10 ∷ new.held) in
+            let ended = length-append a.says.raw (10 ∷ []) in
+            record {
               given = go.given ++ (a.says.raw ++ 10 ∷ []);
-              taken = omega (
-                arith,
-                a.counted,
-                go.taken,
-                ap length r.0,
-                length-append old.held a.moved,
-                length-append a.says.raw (10 ∷ new.held),
-                length-append go.given (a.says.raw ++ 10 ∷ []),
-                length-append a.says.raw (10 ∷ []),
-              );
+              taken = let size = length-append go.given (a.says.raw ++ 10 ∷ []) in omega (arith, ap length r.0);
               takes = subst (Consumes lo ln) (ap (λ (t : List ℕ). go.given ++ t) (r.0 ∙ sym (append_assoc a.says.raw (10 ∷ []) new.held))
                   ∙ sym (append_assoc go.given (a.says.raw ++ 10 ∷ []) new.held))
                   (takes_more lo lm ln go.given old.held a.moved go.takes a.moves);
-              place = inl (
-                r.1,
-                open_line go.given a.says.raw whole o.1 a.says.whole short
-                    (omega (
-                      arith,
-                      a.says.within,
-                      a.input_limit,
-                      is.input_limit,
-                      a.counted,
-                      go.taken,
-                      ap length r.0,
-                      length-append old.held a.moved,
-                      length-append a.says.raw (10 ∷ new.held),
-                    )),
-              );
+              place = inl (r.1, open_line go.given a.says.raw whole o.1 a.says.whole short (omega (arith, a.says.within, ap length r.0)));
             })
             (λ r. record {
               given = go.given ++ a.says.raw;
-              taken = omega (
-                arith,
-                a.counted,
-                go.taken,
-                ap length r.0,
-                ap length r.2,
-                length-append old.held a.moved,
-                length-append go.given a.says.raw,
-              );
+              taken = let size = length-append go.given a.says.raw in omega (arith, ap length r.0, ap length r.2);
               takes = subst (Consumes lo ln) (ap (λ (t : List ℕ). go.given ++ t) r.0 ∙ sym (append-nil (go.given ++ a.says.raw))
                   ∙ ap (λ (t : List ℕ). (go.given ++ a.says.raw) ++ t) (sym r.2))
                   (takes_more lo lm ln go.given old.held a.moved go.takes a.moves);
@@ -160,17 +133,7 @@ module _ (rules : Rules) where
                 r.4,
                 record {
                   passes = open_bytes go.given a.says.raw whole o.1 a.says.whole short
-                      (omega (
-                        arith,
-                        a.says.within,
-                        a.input_limit,
-                        is.input_limit,
-                        a.counted,
-                        go.taken,
-                        ap length r.0,
-                        ap length r.2,
-                        length-append old.held a.moved,
-                      ));
+                      (omega (arith, a.says.within, ap length r.0, ap length r.2));
                   all = o.1.all a.says.raw ∙ ap (λ (t : List (List ℕ)). whole ++ t) (lines-last a.says.raw a.says.whole r.1);
                   nothing = r.2;
                   at_end = r.3;
@@ -249,19 +212,7 @@ module _ (rules : Rules) where
             past_prefix 7 l.prefix (l.last ∷ t.rest) o.1 l.whole a.moved
             (sym t.split ∙ ap (λ (b : List ℕ). b ++ t.rest) l.split ∙ append_assoc l.prefix (l.last ∷ []) t.rest) a.moves
             (λ more. past_long rules (length go.given) l.last l.prefix (t.rest ++ more) l.whole l.other l.size
-            (omega (
-              arith,
-              l.size,
-              t.within,
-              t.long,
-              a.line_limit,
-              is.line_limit,
-              a.input_limit,
-              is.input_limit,
-              a.counted,
-              go.taken,
-              length-append old.held a.moved,
-            )))
+            (let all = length-append old.held a.moved in omega (arith, t.within, t.long)))
 
     -- The input is too long.
     pub reads_over : Advances old new lm ln fo fn (Err InputTooLong) → ReadsPast rules 8 lo ln whole
@@ -272,65 +223,24 @@ module _ (rules : Rules) where
             let t = a.says.1 in
             past_prefix 8 t.prefix (t.last ∷ []) o.1 t.whole a.moved (sym t.split) a.moves
             (λ more. past_over rules (length go.given) t.last t.prefix more t.whole (omega (arith, t.short, a.line_limit, is.line_limit))
-            (omega (
-              arith,
-              t.over,
-              ap length t.split,
-              length-append t.prefix (t.last ∷ []),
-              a.input_limit,
-              is.input_limit,
-              a.counted,
-              go.taken,
-              length-append old.held a.moved,
-            )))
+            (let all = length-append old.held a.moved in
+            let line = length-append t.prefix (t.last ∷ []) in omega (arith, t.over, ap length t.split)))
 
   module _ (lm ln : Option (List ℕ)) (fo fn : ℕ) (old new : LineState) (is : IsGoing rules old) where
     -- A line that is given goes with at least one byte.
     pub falls : Advances old new lm ln fo fn (Ok true)
         → (new.input_limit + length new.held) - new.taken < (old.input_limit + length old.held) - old.taken
     falls a =
-        ⊎_elim
-        (λ r. omega (
-          arith,
-          a.says.within,
-          a.input_limit,
-          is.input_limit,
-          is.within,
-          a.counted,
-          ap length r.0,
-          length-append old.held a.moved,
-          length-append a.says.raw (10 ∷ new.held),
-        ))
-        (λ r. let some : 0 < length a.says.raw = nonempty a.says.raw r.1 in
-        omega (
-          arith,
-          a.says.within,
-          a.input_limit,
-          is.input_limit,
-          is.within,
-          a.counted,
-          ap length r.0,
-          ap length r.2,
-          length-append old.held a.moved,
-        ))
-        a.says.rest
-      where
-        nonempty : (xs : List ℕ) → xs ≢ [] → 0 < length xs
-        nonempty [] h = absurd (h refl)
-        nonempty (x ∷ xs) h = omega arith
+        let all = length-append old.held a.moved in
+        ⊎_elim (λ r. let line = length-append a.says.raw (10 ∷ new.held) in omega (arith, a.says.within, ap length r.0))
+        (λ r. let some = some_byte a.says.raw r.1 in omega (arith, a.says.within, ap length r.0, ap length r.2)) a.says.rest
 
     -- of the bytes that were taken at least one more is held no longer
     pub counts_more : Advances old new lm ln fo fn (Ok true) → length new.held + old.taken + 1 ≤ new.taken + length old.held
     counts_more a =
         let all = length-append old.held a.moved in
-        ⊎_elim
-        (λ r.
-        let line = length-append a.says.raw (10 ∷ new.held) in
-        omega (arith, ap length r.0, all, line, a.counted))
-        (λ r.
-        let some = some_byte a.says.raw r.1 in
-        omega (arith, ap length r.0, ap length r.2, all, some, a.counted))
-        a.says.rest
+        ⊎_elim (λ r. let line = length-append a.says.raw (10 ∷ new.held) in omega (arith, ap length r.0))
+        (λ r. let some = some_byte a.says.raw r.1 in omega (arith, ap length r.0, ap length r.2)) a.says.rest
 
     pub goes_on : Advances old new lm ln fo fn (Ok true) → IsGoing rules new
     goes_on a = record {

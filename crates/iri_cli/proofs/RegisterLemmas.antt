@@ -130,7 +130,7 @@ entries_left es i e =
 
 -- what is said of an answer, where it was put or the sink failed
 said_of : (rules : Rules) (ko kn : SinkState) (good : Bool) (r : Result (Unit {0}) Failed)
-    (wants : Bool) (text : List ℕ) → PutsAll ko kn r text → good ≡ rules.is_good text → PutsAnswer rules ko kn wants text (told_of good r)
+    (wants : Bool) (text : List ℕ) → PutsAll ko kn r text → good ≡ rules.is_good text → PutsAnswer rules.is_good ko kn wants text (told_of good r)
 said_of rules ko kn good (Ok x) wants text p e = (p.whole, p.same, e)
 said_of rules ko kn good (Err f) wants text p e = (p.prefix, p.cause, p.later)
 
@@ -172,7 +172,7 @@ answers_line s against kept new answered count at line text ko kn good r is coun
     let e = answer_is s against kept answered at line text is answer in
     let test : good ≡ at.rules.is_good text = good_is ∙ ap (λ (rules : Rules). rules.is_good text) (sym is.rules) in
     record {
-      puts = subst (λ t. PutsAnswer at.rules ko kn (at.rules.wants_memory at.base at.between line) t (told_of good r)) e
+      puts = subst (λ t. PutsAnswer at.rules.is_good ko kn (at.rules.wants_memory at.base at.between line) t (told_of good r)) e
           (said_of at.rules ko kn good r (at.rules.wants_memory at.base at.between line) text p test);
       next = on_told good r (next_at s against kept new answered count at line is counted base entries);
       room = subst (λ t. KeepsRoom ko.room_left kn.room_left t (told_of good r ≢ Err SinkFailed)) e (line_room good r text p);

@@ -14,9 +14,9 @@ use Rattle.iri_cli.specs.robots.Answers.{same_part, same_site, verdict_word}
 use Rattle.iri_cli.specs.robots.Lines.{RobotsLine, line_of, fed, records_after}
 use Rattle.iri_cli.specs.robots.Memory.{takes_memory}
 use Rattle.iri_cli.specs.declared.run.answers.AnswerError.TheVariants.{Memory}
-use Rattle.iri_cli.specs.inside.RobotsAt.{Replies, PutsReply}
+use Rattle.iri_cli.specs.inside.RobotsAt.{PutsReply}
 use Rattle.iri_cli.specs.inside.Sites.{IsSiteOf, is_of_site}
-use Rattle.iri_cli.proofs.CanonLemmas.{line_room}
+use Rattle.iri_cli.proofs.CanonLemmas.{line_room, puts_line}
 
 -- ---- what the rules say
 
@@ -47,11 +47,7 @@ same_site_by scheme authority p target is =
 
 pub replies : {ko kn : SinkState} (good : Bool) (r : Result (Unit {0}) Failed) (text : List ℕ)
     → PutsAll ko kn r text → good ≡ is_not_bad text → PutsReply ko kn text (told_of good r)
-replies {ko} {kn} good r text p e = record { puts = by r p; room = line_room good r text p }
-  where
-    by : (r : Result (Unit {0}) Failed) → PutsAll ko kn r text → Replies ko kn text (told_of good r)
-    by (Ok x) p = (p.whole, p.same, e)
-    by (Err f) p = (p.prefix, p.cause, p.later)
+replies good r text p e = record { puts = puts_line is_not_bad true good r text p e; room = line_room good r text p }
 
 pub no_reply : (ko : SinkState) → PutsReply ko ko [] (Ok true)
 no_reply ko = record { puts = (Appends-none ko.written, refl, refl); room = room-same ko.room_left [] (λ _ h. cc h) }
@@ -64,10 +60,10 @@ records_more between line =
     flat_map-append (λ l. fed (line_of l)) between (line ∷ []) ∙ ap (λ t. records_after between ++ t) (append-nil (fed (line_of line)))
 
 puts_by : (rules : Rules) (ko kn : SinkState) (wants : Bool) (text : List ℕ) (r : Result Bool AnswerError) → rules.is_good ≡ is_not_bad
-    → (r ≡ Err Memory → wants ≡ true) → Replies ko kn text r → PutsAnswer rules ko kn wants text r
+    → (r ≡ Err Memory → wants ≡ true) → PutsAnswer is_not_bad ko kn true text r → PutsAnswer rules.is_good ko kn wants text r
 puts_by rules ko kn wants text (Ok good) e m p = (p.0, p.1, p.2 ∙ ap (λ f. f text) (sym e))
 puts_by rules ko kn wants text (Err SinkFailed) e m p = p
-puts_by rules ko kn wants text (Err Memory) e m p = (m refl, p.0, p.1)
+puts_by rules ko kn wants text (Err Memory) e m p = (m refl, p.1, p.2)
 
 next_at : (s : Tests) (token base : List ℕ) (scheme authority : Option (List ℕ)) (records new : List FileRecord) (at : Answering) (line : List ℕ)
     → IsRobotsAt s token base scheme authority records at → new ≡ records ++ fed (line_of line)
@@ -96,7 +92,7 @@ answers_line s token base scheme authority records new at line text ko kn r is a
     ∙ ap (λ rs. answer_to s token at.base rs (line_of line)) is.records_are
     ∙ ap (λ (rules : Rules). rules.answer at.base at.between line) (sym is.rules) in
     record {
-      puts = subst (λ t. PutsAnswer at.rules ko kn (at.rules.wants_memory at.base at.between line) t r) whole
+      puts = subst (λ t. PutsAnswer at.rules.is_good ko kn (at.rules.wants_memory at.base at.between line) t r) whole
           (puts_by at.rules ko kn (at.rules.wants_memory at.base at.between line) text r (ap (λ (rules : Rules). rules.is_good) is.rules)
           (λ h. ap (λ (rules : Rules). rules.wants_memory at.base at.between line) is.rules ∙ wants h) p.puts);
       next = on_next s token base scheme authority records new at line r is e;

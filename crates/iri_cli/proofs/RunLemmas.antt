@@ -1,7 +1,7 @@
 -- What each status of a run says.
-use Rattle.iri_cli.proofs.Common.{◌≡◌, ◌≢◌, ◌⊎◌, ℕ, ◌+◌, ◌≤◌, List, [], ◌∷◌, length, false, Option, Some, refl, sym, ◌∙◌, ap, subst, arith}
-use Rattle.iri_cli.proofs.Common.{inl, inr, ⊎_elim, Rose, Consumes, IsAtEnd, Appends, AppendsPrefix, KeepsRoom, SinkState, room-so, Rules}
-use Rattle.iri_cli.proofs.Common.{ending, Outside, outside, Finishes, Decides, StopsShort, RanTo, Ran, status_of, End, Done, SomeBad}
+use Rattle.iri_cli.proofs.Common.{◌≡◌, ◌≢◌, ◌⊎◌, ℕ, ◌+◌, List, [], ◌∷◌, length, false, Option, Some, refl, sym, ◌∙◌, ap, subst, arith}
+use Rattle.iri_cli.proofs.Common.{inl, inr, ⊎_elim, Rose, Consumes, Appends, AppendsPrefix, KeepsRoom, SinkState, Rules}
+use Rattle.iri_cli.proofs.Common.{ending, Outside, outside, Finishes, Decides, RanTo, Ran, status_of, End, Done, SomeBad}
 use Rattle.iri_cli.proofs.Common.{BadBase, SourceFailed, Memory, LineTooLong, InputTooLong}
 use Rattle.iri_text.proofs.Puts.{room-less}
 use Rattle.iri_text.specs.Sink.{HasRoom}

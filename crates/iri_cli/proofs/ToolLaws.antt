@@ -1,5 +1,5 @@
 -- What is said of the answers of the tools' commands.
-use Rattle.iri_cli.proofs.Common.{◌≡◌, ◌≤◌, ℕ, Bool, true, false, List, length, Option, None, Some, Result, Ok, Err, refl, sym, ◌∙◌, ap}
+use Rattle.iri_cli.proofs.Common.{◌≡◌, ℕ, Bool, true, false, List, length, Option, None, Some, Result, Ok, Err, refl, sym, ◌∙◌, ap}
 use Rattle.iri_cli.proofs.Common.{arith, nat_lt, if◌then◌else◌, nat_tests, expansion_limit, both, IsSpec, Tests, Parts}
 use Rattle.iri_cli.proofs.Common.{split_of, canonical, is_allowed, expansion, pieces_of, docs_answer, read_answer, template_answer}
 use Rattle.std.proofs.lemmas.Slice.Eq.{bytes_eq-Decides}

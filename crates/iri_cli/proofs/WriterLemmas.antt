@@ -1,6 +1,6 @@
 -- A run over a sink that tells no bytes, and the flush after it.
 use Rattle.iri_cli.proofs.Common.{◌≡◌, ◌≤◌, ℕ, List, [], Option, None, refl, sym, ap, subst, arith, inl, inr, ⊎_elim, Rose, AppendsPrefix}
-use Rattle.iri_cli.proofs.Common.{KeepsRoom, Rules, ending, Outside, RunsLines, outside}
+use Rattle.iri_cli.proofs.Common.{KeepsRoom, Rules, Outside, RunsLines, outside}
 use Rattle.iri_text.specs.Streams.{untold}
 use Rattle.iri_cli.specs.help.Notices.{MakesText, PutsText, Tells}
 use Rattle.iri_cli.specs.inside.HandsOn.{HandsOn}

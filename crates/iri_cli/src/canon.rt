@@ -1,5 +1,5 @@
 // The answers of `canon`.
-ghost use Rattle.std.specs.Prelude.{◌≡◌, ◌≢◌, ◌≤◌, ◌+◌, [], ◌∷◌, ◌++◌, None, Some, Err, codes, length, MatchResult};
+ghost use Rattle.std.specs.Prelude.{◌≡◌, ◌≢◌, ◌≤◌, ◌+◌, [], ◌∷◌, ◌++◌, false, None, Some, Err, codes, length, MatchResult};
 ghost use Rattle.std.specs.Vec.{vec_capacity};
 ghost use Rattle.iri_text.specs.Sink.{PutsAll, KeepsRoom, sink_state};
 ghost use Rattle.iri_text.specs.SliceText.{slice_taken};
@@ -9,7 +9,8 @@ ghost use Rattle.iri_normal.specs.NormalForm.{canonical_in};
 ghost use Rattle.iri_normal.specs.Resolver.{base_text};
 ghost use Rattle.iri_cli.specs.canon.Answers.{refusal};
 ghost use Rattle.iri_normal.specs.Answers.{answer_in};
-ghost use Rattle.iri_cli.specs.inside.Puts.{PutsLine};
+ghost use Rattle.iri_cli.specs.canon.Rules.{is_ok};
+ghost use Rattle.iri_cli.specs.run.Answering.{PutsAnswer};
 ghost use Rattle.iri_cli.specs.declared.run.answers.AnswerError.TheVariants.{SinkFailed};
 ghost use Rattle.iri_text.specs.LineEnds.{line_feed};
 
@@ -103,7 +104,7 @@ pub(crate) fn put_answer<S: Spec, O: Sink>(
     requires room { length (base_text resolver.now) + length line.now + 4
         ≤ vec_capacity output.old }
     ensures puts { let state = sink_state O.written O.faults O.room_left in
-        PutsLine (state sink.old) (state sink.new)
+        PutsAnswer is_ok (state sink.old) (state sink.new) false
         (answer_in S.tests mode (base_text resolver.now) line.now) result }
     ensures room { KeepsRoom (O.room_left sink.old) (O.room_left sink.new)
         (answer_in S.tests mode (base_text resolver.now) line.now) (result ≢ Err SinkFailed) }

@@ -1,5 +1,5 @@
 // The answers of `expand`.
-ghost use Rattle.std.specs.Prelude.{◌≡◌, ◌≢◌, ◌≤◌, ◌++◌, ◌∷◌, [], codes, decimal, length, Err, None, MatchResult};
+ghost use Rattle.std.specs.Prelude.{◌≡◌, ◌≢◌, ◌≤◌, ◌++◌, ◌∷◌, [], codes, decimal, false, length, Err, None, MatchResult};
 ghost use Rattle.std.specs.Vec.{vec_capacity};
 ghost use Rattle.iri_template.specs.Contexts.{value_in};
 ghost use Rattle.iri_template.specs.ExpandedTexts.{expanded_text};
@@ -7,7 +7,8 @@ ghost use Rattle.iri_text.specs.Sink.{KeepsRoom, PutsAll, sink_state};
 ghost use Rattle.iri_normal.specs.Resolver.{base_text};
 ghost use Rattle.iri_cli.specs.run.Limits.{longest_line, answer_room};
 ghost use Rattle.iri_cli.specs.canon.Answers.{refusal};
-ghost use Rattle.iri_cli.specs.inside.Puts.{PutsLine};
+ghost use Rattle.iri_cli.specs.canon.Rules.{is_ok};
+ghost use Rattle.iri_cli.specs.run.Answering.{PutsAnswer};
 ghost use Rattle.iri_cli.specs.inside.Opening.{RefusesLine};
 ghost use Rattle.iri_cli.specs.expand.Answers.{expansion_answer, template_answer};
 ghost use Rattle.iri_docs.specs.Expanded.{expansion_limit, within_limit};
@@ -59,7 +60,7 @@ fn put_expansion<S: Spec, O: Sink>(
     requires room { length expansion.old ≡ expansion_limit }
     requires output_room { answer_room ≤ vec_capacity output.old }
     ensures puts { let state = sink_state O.written O.faults O.room_left in
-        PutsLine (state sink.old) (state sink.new) (expansion_answer S.tests
+        PutsAnswer is_ok (state sink.old) (state sink.new) false (expansion_answer S.tests
         (base_text resolver.entry) (within_limit (expanded_text S.tests value_in expanded.now)))
         result }
     ensures room { KeepsRoom (O.room_left sink.old) (O.room_left sink.new)
@@ -94,7 +95,7 @@ pub(crate) fn put_template<'a, S: Spec, O: Sink>(
     requires room { length expansion.old ≡ expansion_limit }
     requires output_room { answer_room ≤ vec_capacity output.old }
     ensures puts { let state = sink_state O.written O.faults O.room_left in
-        PutsLine (state sink.old) (state sink.new) (template_answer S.tests
+        PutsAnswer is_ok (state sink.old) (state sink.new) false (template_answer S.tests
         (base_text resolver.entry) (value_in values.now) template.now) result }
     ensures room { KeepsRoom (O.room_left sink.old) (O.room_left sink.new)
         (template_answer S.tests (base_text resolver.entry) (value_in values.now) template.now)

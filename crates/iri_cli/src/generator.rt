@@ -8,7 +8,7 @@ ghost use Rattle.iri_normal.specs.NormalForm.{canonical};
 ghost use Rattle.iri_normal.specs.Resolver.{base_text};
 ghost use Rattle.iri_cli.specs.help.Notices.{PutsText};
 ghost use Rattle.iri_cli.specs.run.Words.{tests_of};
-ghost use Rattle.iri_cli.specs.generator.References.{gen_segment, more_segments, gen_reference, gen_base, gen_bytes, gen_sum, gen_text};
+ghost use Rattle.iri_cli.specs.generator.References.{gen_segment, more_segments, gen_reference, gen_base, gen_text, gen_total};
 ghost use Rattle.iri_cli.specs.generator.References.{most_references};
 
 use crate::canon::resolver_of;
@@ -127,7 +127,7 @@ fn totals_of<S: Spec>(
     requires base { base_text resolver ≡ gen_base }
     requires most { count ≤ most_references }
     ensures { IfOk result
-        (λ t. (t.bytes ≡ gen_bytes S.tests count) × (t.sum ≡ gen_sum S.tests count)) }
+        (λ t. (t.bytes ≡ gen_total length S.tests count) × (t.sum ≡ gen_total sum S.tests count)) }
 {
     let mut reference = String::new(alloc);
     let mut text = String::new(alloc);

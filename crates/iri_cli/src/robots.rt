@@ -7,7 +7,7 @@ ghost use Rattle.iri_grammar.specs.WholeFault.{iri_fault, reference_fault};
 ghost use Rattle.iri_normal.specs.NormalForm.{canonical};
 ghost use Rattle.iri_normal.specs.Resolver.{base_text};
 ghost use Rattle.iri_text.specs.LineEnds.{line_feed};
-ghost use Rattle.iri_text.specs.Sink.{PutsAll, sink_state};
+ghost use Rattle.iri_text.specs.Sink.{sink_state};
 ghost use Rattle.iri_types.specs.SplitText.{split_text};
 ghost use Rattle.iri_types.specs.Texts.{text};
 ghost use Rattle.iri_robots.specs.Compared.{subject};
@@ -32,7 +32,7 @@ use crate::run::MEMORY;
 use crate::run::answers::{AnswerError, Answers, BaseError};
 use crate::run::buffers::CanonBuffers;
 use crate::run::opening::run_lines;
-use crate::run::puts::{put_bad, put_bad_line, told};
+use crate::run::puts::{put_bad, put_bad_line, put_line, told};
 use iri_grammar::spec::Spec;
 use iri_normal::resolver::FixedBaseResolver;
 use iri_robots::{Robots, RobotsError, Verdict, subject_of_split};
@@ -84,17 +84,6 @@ fn verdict_word<S: Spec>(site: &Site, target: RiStr<'_, S>) -> Result<&'static s
     }
 }
 
-// Puts a word and a target, as a line.
-fn put_target<O: Sink>(sink: &mut O, word: &str, target: &str) -> Result<(), Failed>
-    ensures { let state = sink_state O.written O.faults O.room_left in
-        PutsAll (state sink.old) (state sink.new) result
-        (word.now ++ (target.now ++ line_feed ∷ [])) }
-{
-    sink.put_all(word.as_bytes())?;
-    sink.put_all(target.as_bytes())?;
-    sink.put_all(b"\n")
-}
-
 // Puts the answer to a target.
 fn put_verdict<S: Spec, O: Sink>(
     sink: &mut O,
@@ -109,7 +98,7 @@ fn put_verdict<S: Spec, O: Sink>(
         ++ (text target.entry ++ line_feed ∷ [])) result }
 {
     match verdict_word(site, target) {
-        Ok(word) => told(true, put_target(sink, word, target.as_str())),
+        Ok(word) => told(true, put_line(sink, word, target.as_str())),
         Err(_) => Err(AnswerError::Memory),
     }
 }

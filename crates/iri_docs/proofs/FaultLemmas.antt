@@ -42,8 +42,10 @@ fault_mapped f (Err e) = refl
 
 -- ---- what is told of it
 pub tells_err : {A B E : Type 0} (r : Result B E) (e : E) → r ≡ Err e → TellsFault {A = A} (Err e) r
-tells_err r e is f also =
-    ap Err (ap (error_or e) (sym is ∙ also))
+tells_err r e is f also = ap Err (ap (error_or e) (sym is ∙ also))
+
+pub tells_fault : {A B E : Type 0} (r : Result B E) (e : E) → Some e ≡ result_err r → TellsFault {A = A} (Err e) r
+tells_fault r e h = tells_err r e (fault_is r e h)
 
 pub tells_ok : {A B E : Type 0} (x : Result A E) (r : Result B E) (v : B) → r ≡ Ok v → TellsFault x r
 tells_ok x r v is f also = absurd (true≢false (ap is_ok (sym is ∙ also)))

@@ -29,15 +29,10 @@ if_name name (Some rest) = if is_varname name then Some (name, rest) else None
 abbrev pub named : List ℕ → Option (List ℕ × List ℕ)
 named fields = if_name (before space fields) (after space fields)
 
--- `NAME VALUE`
-abbrev pub string_line : Option (List ℕ × List ℕ) → ExpandLine
-string_line None = bad
-string_line (Some p) = changes (sets p.0 p.1)
-
--- `NAME ITEM`
-abbrev pub item_line : Option (List ℕ × List ℕ) → ExpandLine
-item_line None = bad
-item_line (Some p) = changes (adds_item p.0 p.1)
+-- `NAME VALUE`, or `NAME ITEM`
+abbrev pub field_line : (List ℕ → List ℕ → Change) → Option (List ℕ × List ℕ) → ExpandLine
+field_line change None = bad
+field_line change (Some p) = changes (change p.0 p.1)
 
 -- `NAME KEY VALUE`; the key may be empty
 abbrev pub with_key : List ℕ → List ℕ → Option (List ℕ) → ExpandLine
@@ -55,8 +50,8 @@ unset_line name = if is_varname name then changes (unsets name) else bad
 -- a line that changes a variable, by its letter and its fields: `s`, `l`, `a` or `u`
 abbrev pub change_line : ℕ → List ℕ → ExpandLine
 change_line letter fields =
-    if letter == 115 then string_line (named fields)
-    else (if letter == 108 then item_line (named fields)
+    if letter == 115 then field_line sets (named fields)
+    else (if letter == 108 then field_line adds_item (named fields)
     else (if letter == 97 then pair_line (named fields)
     else (if letter == 117 then unset_line fields else bad)))
 

@@ -38,16 +38,12 @@ gen_base = codes "http://a/b/c/d;p?q"
 abbrev pub gen_canonical : Tests → ℕ → List ℕ
 gen_canonical s state = canonical s gen_base (gen_reference state)
 
--- how many bytes the canonical texts of the first references have, and the sum of the values of these bytes
-abbrev pub gen_bytes : Tests → ℕ → ℕ
-gen_bytes s zero = 0
-gen_bytes s (suc count) = gen_bytes s count + length (gen_canonical s (gen_state (suc count)))
-
-abbrev pub gen_sum : Tests → ℕ → ℕ
-gen_sum s zero = 0
-gen_sum s (suc count) = gen_sum s count + sum (gen_canonical s (gen_state (suc count)))
+-- the sum of a number that the canonical text of each of the first references has, as that of its bytes, or the sum of their values
+abbrev pub gen_total : (List ℕ → ℕ) → Tests → ℕ → ℕ
+gen_total number s zero = 0
+gen_total number s (suc count) = gen_total number s count + number (gen_canonical s (gen_state (suc count)))
 
 -- the three lines
 abbrev pub gen_text : Tests → ℕ → List ℕ
 gen_text s count = codes "lines " ++ decimal count
-    ++ (codes "\nbytes " ++ decimal (gen_bytes s count) ++ (codes "\nsum " ++ decimal (gen_sum s count) ++ 10 ∷ []))
+    ++ (codes "\nbytes " ++ decimal (gen_total length s count) ++ (codes "\nsum " ++ decimal (gen_total sum s count) ++ 10 ∷ []))

@@ -1,24 +1,15 @@
 -- What the answers of `canon` do to a sink.
 use Rattle.std.specs.Prelude.{◌≡◌, ◌≤◌, ℕ, Bool, List, length, None, Result, Ok, Err}
 use Rattle.iri_grammar.specs.Classes.{Tests}
-use Rattle.iri_text.specs.Sink.{Appends, SinkState}
 use Rattle.iri_text.specs.declared.Failed.{Failed}
 use Rattle.iri_percent.specs.declared.canon_mode.CanonMode.{CanonMode}
 use Rattle.iri_cli.specs.run.Limits.{longest_line, answer_room}
 use Rattle.iri_cli.specs.canon.Answers.{refusal}
 use Rattle.iri_normal.specs.Answers.{answer_in}
-use Rattle.iri_cli.specs.run.Answering.{Answering, FailsWithin}
-use Rattle.iri_cli.specs.canon.Rules.{canon_rules_in, is_ok}
+use Rattle.iri_cli.specs.run.Answering.{Answering}
+use Rattle.iri_cli.specs.canon.Rules.{canon_rules_in}
 use Rattle.iri_cli.specs.declared.run.answers.AnswerError.{AnswerError}
-use Rattle.iri_cli.specs.declared.run.answers.AnswerError.TheVariants.{SinkFailed, Memory}
-
--- The whole answer was written, and it is said whether it is good; or the sink failed, and a prefix of it was written.
-abbrev pub PutsLine : (old new : SinkState) → List ℕ → Result Bool AnswerError → Type 0
-PutsLine old new answer (Ok good) =
-    Appends old.written new.written answer × (new.faults ≡ old.faults) × (good ≡ is_ok answer)
-PutsLine old new answer (Err SinkFailed) =
-    FailsWithin old new answer
-PutsLine old new answer (Err Memory) = ⊥
+use Rattle.iri_cli.specs.declared.run.answers.AnswerError.TheVariants.{SinkFailed}
 
 -- what is said of an answer that is good or not, where its pieces were put or the sink failed
 abbrev pub told_of : Bool → Result (Unit {0}) Failed → Result Bool AnswerError

@@ -1,17 +1,17 @@
 -- Where `robots` stands after lines, and what its answers do to a sink.
-use Rattle.std.specs.Prelude.{◌≡◌, ◌≢◌, ℕ, Bool, List, Option, Result, Ok, Err}
+use Rattle.std.specs.Prelude.{◌≡◌, ◌≢◌, ℕ, Bool, true, List, Option, Result, Err}
 use Rattle.iri_grammar.specs.Classes.{Tests}
 use Rattle.iri_grammar.specs.Split.{split_of}
 use Rattle.iri_robots.specs.Records.{FileRecord}
-use Rattle.iri_text.specs.Sink.{Appends, KeepsRoom, SinkState}
-use Rattle.iri_cli.specs.run.Answering.{Answering, FailsWithin}
+use Rattle.iri_text.specs.Sink.{KeepsRoom, SinkState}
+use Rattle.iri_cli.specs.run.Answering.{Answering, PutsAnswer}
 use Rattle.iri_cli.specs.run.Refused.{is_not_bad}
 use Rattle.iri_cli.specs.robots.Answers.{normal_base}
 use Rattle.iri_cli.specs.robots.Lines.{records_after}
 use Rattle.iri_cli.specs.robots.Rules.{robots_rules}
 use Rattle.iri_cli.specs.inside.Sites.{IsSiteOf}
 use Rattle.iri_cli.specs.declared.run.answers.AnswerError.{AnswerError}
-use Rattle.iri_cli.specs.declared.run.answers.AnswerError.TheVariants.{SinkFailed, Memory}
+use Rattle.iri_cli.specs.declared.run.answers.AnswerError.TheVariants.{SinkFailed}
 
 -- It has the token, the base, the scheme and the authority of its normal form, and the records after the lines that were answered.
 pub record IsRobotsAt (s : Tests) (token base : List ℕ) (scheme authority : Option (List ℕ)) (records : List FileRecord) (at : Answering)
@@ -21,15 +21,8 @@ pub record IsRobotsAt (s : Tests) (token base : List ℕ) (scheme authority : Op
   pub site_is : IsSiteOf scheme authority (split_of (normal_base s base))
   pub records_are : records ≡ records_after at.between
 
--- The whole answer was put, and it is said whether it is refused; or the sink failed within it; or allocation failed, and nothing was put.
-abbrev pub Replies : (old new : SinkState) → List ℕ → Result Bool AnswerError → Type 0
-Replies old new answer (Ok good) =
-    Appends old.written new.written answer × (new.faults ≡ old.faults) × (good ≡ is_not_bad answer)
-Replies old new answer (Err SinkFailed) =
-    FailsWithin old new answer
-Replies old new answer (Err Memory) = (new.written ≡ old.written) × (new.faults ≡ old.faults)
-
--- The same, and a sink that is known to have room for the answer didn't fail.
+-- The whole answer was put, and it is said whether it is refused; or the sink failed within it; or allocation failed, and nothing was put. A
+-- sink that is known to have room for the answer didn't fail.
 pub record PutsReply (old new : SinkState) (answer : List ℕ) (result : Result Bool AnswerError) : Type 0 where
-  pub puts : Replies old new answer result
+  pub puts : PutsAnswer is_not_bad old new true answer result
   pub room : KeepsRoom old.room_left new.room_left answer (result ≢ Err SinkFailed)

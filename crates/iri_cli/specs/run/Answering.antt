@@ -30,15 +30,14 @@ RefusesBase words old new SinkFailed =
     FailsWithin old new (base_line words)
 RefusesBase words old new end = ⊥
 
-module _ (rules : Rules) (old new : SinkState) where
-  -- The whole answer was written, and it is said whether it is good; or the sink failed; or memory is wanted, allocation failed, and nothing
-  -- was written.
-  abbrev pub PutsAnswer : (wants : Bool) → List ℕ → Result Bool AnswerError → Type 0
-  PutsAnswer wants answer (Ok good) =
-      Appends old.written new.written answer × (new.faults ≡ old.faults) × (good ≡ rules.is_good answer)
-  PutsAnswer wants answer (Err AnswerFailed) =
-      FailsWithin old new answer
-  PutsAnswer wants answer (Err AnswerMemory) = (wants ≡ true) × (new.written ≡ old.written) × (new.faults ≡ old.faults)
+-- The whole answer was written, and it is said whether it is good; or the sink failed; or memory is wanted, allocation failed, and nothing
+-- was written.
+abbrev pub PutsAnswer : (is_good : List ℕ → Bool) (old new : SinkState) (wants : Bool) → List ℕ → Result Bool AnswerError → Type 0
+PutsAnswer is_good old new wants answer (Ok good) =
+    Appends old.written new.written answer × (new.faults ≡ old.faults) × (good ≡ is_good answer)
+PutsAnswer is_good old new wants answer (Err AnswerFailed) =
+    FailsWithin old new answer
+PutsAnswer is_good old new wants answer (Err AnswerMemory) = (wants ≡ true) × (new.written ≡ old.written) × (new.faults ≡ old.faults)
 
 -- The text after all answers was written, which ends the run; or the sink failed within it.
 abbrev pub ClosesRun : (old new : SinkState) → Bool → List ℕ → End → Type 0
@@ -54,8 +53,8 @@ ClosesRun old new good text end = ⊥
 pub record AnswersLine (is_new : Answering → Type 0) (at : Answering) (line : List ℕ) (old new : SinkState)
     (result : Result Bool AnswerError)
     : Type 0 where
-  pub puts : PutsAnswer at.rules old new (at.rules.wants_memory at.base at.between line) (at.rules.answer at.base at.between line)
-      result
+  pub puts : PutsAnswer at.rules.is_good old new (at.rules.wants_memory at.base at.between line)
+      (at.rules.answer at.base at.between line) result
   pub next : OnOk result (is_new (record at { between = at.between ++ line ∷ [] }))
   pub room : KeepsRoom old.room_left new.room_left (at.rules.answer at.base at.between line) (result ≢ Err AnswerFailed)
 

@@ -1,6 +1,6 @@
 // What the lines of `expand` say.
 ghost use Rattle.std.specs.Prelude.{◌≡◌};
-ghost use Rattle.iri_cli.specs.expand.Lines.{change_line, fields_line, item_line, line_of, named, pair_line, string_line, unset_line};
+ghost use Rattle.iri_cli.specs.expand.Lines.{adds_item, change_line, field_line, fields_line, line_of, named, pair_line, sets, unset_line};
 ghost use Rattle.iri_cli.specs.inside.Said.{named_now, said};
 
 use iri_grammar::cutting::cut;
@@ -43,7 +43,7 @@ fn named(fields: &str) -> Option<(VarName<'_>, &str)>
 }
 
 fn string_line(fields: &str) -> Said<'_>
-    ensures { said result ≡ string_line (named fields.now) }
+    ensures { said result ≡ field_line sets (named fields.now) }
 {
     match named(fields) {
         Some((name, value)) => Said::Changes(Change::Sets(name, value)),
@@ -52,7 +52,7 @@ fn string_line(fields: &str) -> Said<'_>
 }
 
 fn item_line(fields: &str) -> Said<'_>
-    ensures { said result ≡ item_line (named fields.now) }
+    ensures { said result ≡ field_line adds_item (named fields.now) }
 {
     match named(fields) {
         Some((name, item)) => Said::Changes(Change::AddsItem(name, item)),

@@ -1,7 +1,7 @@
 // The base line.
 ghost use Rattle.std.specs.Prelude.{◌≡◌, ◌≢◌, ◌≤◌, false, length};
 ghost use Rattle.std.specs.Vec.{vec_capacity};
-ghost use Rattle.iri_text.specs.Sink.{PutsAll, KeepsRoom, sink_state};
+ghost use Rattle.iri_text.specs.Sink.{KeepsRoom, sink_state};
 ghost use Rattle.iri_cli.specs.run.Ending.{Rules, base_line};
 ghost use Rattle.iri_cli.specs.run.Buffers.{IsNew};
 ghost use Rattle.iri_cli.specs.run.Steps.{ReadsBase};
@@ -9,6 +9,7 @@ ghost use Rattle.iri_cli.specs.run.Answering.{RefusesBase};
 ghost use Rattle.iri_cli.specs.declared.run.end.End.TheVariants.{SinkFailed};
 
 use crate::run::end::End;
+use crate::run::puts::put_line;
 use iri_text::{Failed, LineFault, LineReader, Sink, Source};
 use std::alloc::AllocError;
 
@@ -56,17 +57,8 @@ pub fn refuse_base<O: Sink>(sink: &mut O, words: &str) -> End
     ensures room { KeepsRoom (O.room_left sink.old) (O.room_left sink.new) (base_line words.now)
         (result ≢ SinkFailed) }
 {
-    match put_refusal(sink, words) {
+    match put_line(sink, "base ", words) {
         Ok(()) => End::BadBase,
         Err(Failed) => End::SinkFailed,
     }
-}
-
-fn put_refusal<O: Sink>(sink: &mut O, words: &str) -> Result<(), Failed>
-    ensures { let state = sink_state O.written O.faults O.room_left in
-        PutsAll (state sink.old) (state sink.new) result (base_line words.now) }
-{
-    sink.put_all(b"base ")?;
-    sink.put_all(words.as_bytes())?;
-    sink.put_all(b"\n")
 }

@@ -29,15 +29,24 @@ pub(crate) fn put_good_text<O: Sink>(sink: &mut O, text: &str) -> Result<(), Fai
     sink.put_all(text.as_bytes())
 }
 
+/// Puts a line: a mark with the space after it, a text and an LF.
+pub(crate) fn put_line<O: Sink>(sink: &mut O, mark: &str, text: &str) -> Result<(), Failed>
+    ensures { let state = sink_state O.written O.faults O.room_left in
+        PutsAll (state sink.old) (state sink.new) result
+        (mark.now ++ (text.now ++ line_feed ∷ [])) }
+{
+    sink.put_all(mark.as_bytes())?;
+    sink.put_all(text.as_bytes())?;
+    sink.put_all(b"\n")
+}
+
 /// Puts the answer to a refused reference: `bad `, the words for its fault and an LF.
 pub(crate) fn put_bad<O: Sink>(sink: &mut O, words: &str) -> Result<(), Failed>
     ensures { let state = sink_state O.written O.faults O.room_left in
         PutsAll (state sink.old) (state sink.new) result
         (codes "bad " ++ (words.now ++ line_feed ∷ [])) }
 {
-    sink.put_all(b"bad ")?;
-    sink.put_all(words.as_bytes())?;
-    sink.put_all(b"\n")
+    put_line(sink, "bad ", words)
 }
 
 /// Puts the answer to a line that asks nothing.

@@ -1,8 +1,9 @@
-use Rattle.iri_cli.proofs.Common.{◌≡◌, ◌≢◌, ◌<◌, ◌≤◌, ◌∙◌, ℕ, Err, true, false, refl, arith, rules, subst, ap, length, KeepsRoom}
-use Rattle.iri_cli.proofs.Common.{sink_state, base_text, value_in, expansion_limit, answer_in, codes, PutsLine, SinkFailed}
+use Rattle.iri_cli.proofs.Common.{sink_state, ◌≡◌, ◌<◌, ◌≤◌, ◌∙◌, ℕ, true, false, refl, arith, rules, subst, ap, length, is_ok}
+use Rattle.iri_cli.proofs.Common.{base_text, value_in, expansion_limit, answer_in, PutsAnswer}
 use Rattle.iri_percent.specs.declared.canon_mode.CanonMode.TheVariants.{Default}
 use Rattle.iri_template.specs.ExpandedTexts.{expanded_text}
 use Rattle.iri_cli.proofs.CanonLemmas.{told_line, told_room}
+use Rattle.iri_cli.proofs.PutLemmas.{room_text}
 use Rattle.iri_cli.proofs.ExpandLemmas.{long_answer, short_answer}
 use Rattle.iri_cli.proofs.expand.put_expansion.Goals as goal
 
@@ -19,25 +20,21 @@ returns-in-Ok g c =
     let state = sink_state g.O.Sink.written g.O.Sink.faults g.O.Sink.room_left in
     let s = g.S.Spec.tests in
     let base = base_text c.args.resolver in
-    let text = expanded_text s value_in c.args.expanded.now in
     let is = ap (answer_in s Default base) (c.as_bytes.ensures.value ∙ c.in-Ok.ensures.text)
-    ∙ short_answer s base text (within _ _ expansion_limit (c.in-Ok.ensures.exact.1) c.requires.room) in
+    ∙ short_answer s base (expanded_text s value_in c.args.expanded.now) (within _ _ expansion_limit (c.in-Ok.ensures.exact.1) c.requires.room) in
     record {
-      puts = subst (λ t. PutsLine (state c.args.sink.now) (state c.put_answer.new.sink) t c.put_answer.result) is c.put_answer.ensures.puts;
-      room =
-          subst (λ t. KeepsRoom (g.O.Sink.room_left c.args.sink.now) (g.O.Sink.room_left c.put_answer.new.sink) t
-          (c.put_answer.result ≢ Err SinkFailed)) is c.put_answer.ensures.room;
+      puts = subst (λ t. PutsAnswer is_ok (state c.args.sink.now) (state c.put_answer.new.sink) false t c.put_answer.result) is c.put_answer.ensures.puts;
+      room = room_text is c.put_answer.ensures.room;
       capacity = search rules;
     }
 
 pub returns-in-Err : goal.returns-in-Err
 returns-in-Err g c =
-    let s = g.S.Spec.tests in
-    let base = base_text c.args.resolver in
     let long = (c.in-Err.ensures {u = tt}).exact.0 refl in
-    let is = long_answer s base (expanded_text s value_in c.args.expanded.now) (omega (arith, long, c.requires.room)) in
+    let is = long_answer g.S.Spec.tests (base_text c.args.resolver) (expanded_text g.S.Spec.tests value_in c.args.expanded.now)
+    (omega (arith, long, c.requires.room)) in
     record {
-      puts = told_line false c.put_all.result (codes "bad expansion too long\n") _ c.told.result c.told.ensures refl is c.put_all.ensures;
-      room = told_room false c.put_all.result (codes "bad expansion too long\n") _ c.told.result c.told.ensures is c.put_all.ensures;
+      puts = told_line false _ _ _ _ c.told.ensures refl is c.put_all.ensures;
+      room = told_room false _ _ _ _ c.told.ensures is c.put_all.ensures;
       capacity = search rules;
     }

@@ -1,9 +1,9 @@
-use Rattle.iri_cli.proofs.Common.{◌≡◌, ◌≢◌, ◌∙◌, ℕ, List, Err, None, false, refl, rules, subst, ap, Tests, KeepsRoom, sink_state, base_text}
-use Rattle.iri_cli.proofs.Common.{value_in, expansion, pieces_of, PutsLine, expansion_answer, template_answer, Values}
-use Rattle.iri_cli.proofs.Common.{SinkFailed}
+use Rattle.iri_cli.proofs.Common.{sink_state, ◌≡◌, ◌∙◌, ℕ, List, None, false, refl, rules, subst, ap, Tests, is_ok, base_text}
+use Rattle.iri_cli.proofs.Common.{value_in, expansion, pieces_of, PutsAnswer, expansion_answer, template_answer, Values}
 use Rattle.iri_docs.specs.Expanded.{within_limit}
 use Rattle.iri_template.specs.TypeFaults.{expansion_fault}
 use Rattle.iri_cli.proofs.CanonLemmas.{told_line, told_room}
+use Rattle.iri_cli.proofs.PutLemmas.{room_text}
 use Rattle.iri_cli.proofs.ExpandLemmas.{template_expanded, template_refused}
 use Rattle.iri_cli.proofs.expand.put_template.Goals as goal
 
@@ -21,10 +21,8 @@ returns-in-Ok g c =
     let is = expanded_is g.S.Spec.tests (base_text c.args.resolver) (value_in c.args.values.now) _ c.args.template.now _ e.fault
     (ap value_in e.expanded.1) e.expanded.0 in
     record {
-      puts = subst (λ t. PutsLine (state c.args.sink.now) (state c.put_expansion.new.sink) t c.put_expansion.result) is c.put_expansion.ensures.puts;
-      room =
-          subst (λ t. KeepsRoom (g.O.Sink.room_left c.args.sink.now) (g.O.Sink.room_left c.put_expansion.new.sink) t
-          (c.put_expansion.result ≢ Err SinkFailed)) is c.put_expansion.ensures.room;
+      puts = subst (λ t. PutsAnswer is_ok (state c.args.sink.now) (state c.put_expansion.new.sink) false t c.put_expansion.result) is c.put_expansion.ensures.puts;
+      room = room_text is c.put_expansion.ensures.room;
       capacity = search rules;
     }
 
@@ -33,7 +31,7 @@ returns-in-Err g c =
     let is = template_refused g.S.Spec.tests (base_text c.args.resolver) (value_in c.args.values.now) c.args.template.now c.in-Err.error
     c.in-Err.ensures.fault in
     record {
-      puts = told_line false c.put_refusal.result _ _ c.told.result c.told.ensures refl is c.put_refusal.ensures;
-      room = told_room false c.put_refusal.result _ _ c.told.result c.told.ensures is c.put_refusal.ensures;
+      puts = told_line false _ _ _ _ c.told.ensures refl is c.put_refusal.ensures;
+      room = told_room false _ _ _ _ c.told.ensures is c.put_refusal.ensures;
       capacity = search rules;
     }

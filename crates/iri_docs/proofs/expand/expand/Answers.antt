@@ -1,7 +1,5 @@
-use Rattle.iri_docs.proofs.Common.{◌≡◌, ◌∙◌, Ok, Err, refl, sym, ap, value_in, expansion_within, Template, TooLong, Memory}
+use Rattle.iri_docs.proofs.Common.{◌≡◌, ◌∙◌, Ok, refl, sym, ap, value_in}
 use Rattle.std.proofs.Common.{None}
-use Rattle.iri_template.specs.Expansion.{expansion}
-use Rattle.iri_template.specs.Reading.{pieces_of}
 use Rattle.iri_template.specs.TypeFaults.{expansion_fault}
 use Rattle.iri_docs.proofs.FaultLemmas.{tells_err, tells_ok}
 use Rattle.iri_docs.proofs.ExpandLemmas.{faulty, too_long, short, same_expansion}
@@ -11,9 +9,8 @@ pub returns-in-Err : goal.returns-in-Err
 returns-in-Err g c =
     let s = g.S.Spec.tests in
     let v = value_in c.args.context.now in
-    let t = c.args.template.now in
-    let is = faulty s v t c.in-Err.error (ap (expansion_fault v) (sym c.as_bytes.ensures.value) ∙ c.in-Err.ensures.fault) in
-    record { answer = λ _. is; fault = tells_err (expansion_within s v t) (Template c.in-Err.error) is }
+    let is = faulty s v _ c.in-Err.error (ap (expansion_fault v) (sym c.as_bytes.ensures.value) ∙ c.in-Err.ensures.fault) in
+    record { answer = λ _. is; fault = tells_err _ _ is }
 
 pub returns-in-Ok-None : goal.returns-in-Ok-None
 returns-in-Ok-None g c =
@@ -24,7 +21,7 @@ returns-in-Ok-None g c =
     let long = rw c.in-Ok-None.field-0-is at c.in-Ok-None.ensures in
     let same = same_expansion s _ _ _ _ c.in-Ok.ensures.expanded.1 (c.in-Ok.ensures.expanded.0 ∙ text) in
     let is = too_long s v c.args.template.now good (rw same at long) in
-    record { answer = λ _. is; fault = tells_err (expansion_within s v c.args.template.now) TooLong is }
+    record { answer = λ _. is; fault = tells_err _ _ is }
 
 pub returns-in-Ok-Some : goal.returns-in-Ok-Some
 returns-in-Ok-Some g c =
@@ -35,21 +32,14 @@ returns-in-Ok-Some g c =
     let within = rw c.in-Ok-Some.field-0-is at c.in-Ok-Some.ensures in
     let same = same_expansion s _ _ _ _ c.in-Ok.ensures.expanded.1 (c.in-Ok.ensures.expanded.0 ∙ text) in
     let is = short s v c.args.template.now good (rw same at within.1) in
-    record {
-      answer = is ∙ ap Ok (sym (within.0 ∙ same));
-      fault = tells_ok (Ok c.in-Ok-Some.text) (expansion_within s v c.args.template.now) (expansion s v (pieces_of c.args.template.now)) is;
-    }
+    record { answer = is ∙ ap Ok (sym (within.0 ∙ same)); fault = tells_ok _ _ _ is }
 
 pub returns-in-Err-try_into_text_within : goal.returns-in-Err-try_into_text_within
 returns-in-Err-try_into_text_within g c =
     let s = g.S.Spec.tests in
     let v = value_in c.args.context.now in
-    let t = c.args.template.now in
     let text = c.as_bytes.ensures.value in
-    let good : expansion_fault v t ≡ None = ap (expansion_fault v) (sym text) ∙ c.in-Ok.ensures.fault in
+    let good : expansion_fault v c.args.template.now ≡ None = ap (expansion_fault v) (sym text) ∙ c.in-Ok.ensures.fault in
     let same = same_expansion s _ _ _ _ c.in-Ok.ensures.expanded.1 (c.in-Ok.ensures.expanded.0 ∙ text) in
-    let is = short s v t good (rw same at c.in-Err-try_into_text_within.ensures) in
-    record {
-      answer = λ not. absurd (not refl);
-      fault = tells_ok (Err Memory) (expansion_within s v t) (expansion s v (pieces_of t)) is;
-    }
+    let is = short s v _ good (rw same at c.in-Err-try_into_text_within.ensures) in
+    record { answer = λ not. absurd (not refl); fault = tells_ok _ _ _ is }

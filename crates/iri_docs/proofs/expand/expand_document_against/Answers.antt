@@ -18,7 +18,7 @@ returns-in-Ok g c =
     record {
       expanded = all_expanded s g.met.S.Spec.lawful (base_text c.args.resolver.now) (held d) c.canonicalize.result told;
       answer = told;
-      fault = tells_ok c.canonicalize.result (expansion_within s (value_in d.context) (string_bytes d.template)) c.as_str.result.now is;
+      fault = tells_ok _ _ _ is;
     }
 
 pub returns-in-Err-clause-fault : goal.returns-in-Err-clause-fault

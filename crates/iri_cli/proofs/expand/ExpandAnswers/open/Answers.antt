@@ -1,14 +1,20 @@
-use Rattle.iri_cli.proofs.Common.{◌≡◌, None, subst, vec_capacity, refusal}
-use Rattle.iri_cli.proofs.ExpandLemmas.{expand_opened}
+use Rattle.iri_cli.proofs.Common.{◌≡◌, None, ap, refl, subst, refusal, optional, shown_value}
+use Rattle.std.proofs.Math.Path.{fun_ext}
 use Rattle.iri_cli.proofs.expand.ExpandAnswers.open.Goals as goal
 
 pub returns-in-Ok : goal.returns-in-Ok
 returns-in-Ok g c =
-    let s = g.S.Spec.tests in
     let q = c.in-Ok.ensures in
-    let taken = subst (λ t. refusal s t ≡ None) c.deref.ensures.value q.1 in (
+    let taken = subst (λ t. refusal g.S.Spec.tests t ≡ None) c.deref.ensures.value q.1 in (
       taken,
       taken,
-      expand_opened s c.args.base.now.items c.in-Ok.expansion.items (vec_capacity c.args.output) c.new.result taken c.requires.short q.0
-          c.requires.room c.new.ensures,
+      record {
+        rules = refl;
+        base_is = refl;
+        values_are = fun_ext (λ n. ap (optional shown_value) (c.new.ensures n));
+        taken = taken;
+        short = c.requires.short;
+        expansion_room = q.0;
+        output_room = c.requires.room;
+      },
     )

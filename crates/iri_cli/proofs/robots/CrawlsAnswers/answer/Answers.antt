@@ -13,50 +13,40 @@ returns-in-Ok g c = λ at is.
     let s = g.S.Spec.tests in
     let site = c.args.self.now.site in
     let base = base_text c.args.resolver.now in
-    let token = string_bytes site.robots.token in
     let records = record_texts site.robots.records.items in
     let new = record_texts c.feed_line.new.self.records.items in
-    let state = sink_state g.O.Sink.written g.O.Sink.faults g.O.Sink.room_left in
-    let old = state c.args.sink.now in
-    subst (λ t. AnswersLine (IsRobotsAt s t base site.scheme site.authority new) at c.args.line.now old old (Ok true))
-    (sym c.in-Ok.ensures.token)
-    (answers_line s token base site.scheme site.authority records new at c.args.line.now [] old old (Ok true) is
-    (ap (answer_to s token base records) c.in-Feeds.ensures)
+    let old = sink_state g.O.Sink.written g.O.Sink.faults g.O.Sink.room_left c.args.sink.now in
+    subst (λ t. AnswersLine (IsRobotsAt s t base site.scheme site.authority new) at c.args.line.now old old (Ok true)) (sym c.in-Ok.ensures.token)
+    (answers_line s _ base _ _ records new at c.args.line.now [] old old (Ok true) is
+    (ap (answer_to s (string_bytes site.robots.token) base records) c.in-Feeds.ensures)
     (c.in-Ok.ensures.records ∙ ap (λ l. records ++ fed l) c.in-Feeds.ensures) (λ h. absurd (cc h)) (no_reply old))
 
 pub returns-in-Err : goal.returns-in-Err
 returns-in-Err g c = λ at is.
     let s = g.S.Spec.tests in
-    let state = sink_state g.O.Sink.written g.O.Sink.faults g.O.Sink.room_left in
-    answers_memory (robots_rules s (string_bytes c.args.self.now.site.robots.token)) at c.args.line.now (state c.args.sink.now) _ is.rules
+    answers_memory (robots_rules s (string_bytes c.args.self.now.site.robots.token)) at _ _ _ is.rules
     (ap (takes_memory s) (sym c.in-Feeds.ensures) ∙ feeds_record _ c.in-Err.ensures.none)
 
 pub returns-in-Asks : goal.returns-in-Asks
 returns-in-Asks g c = λ at is.
     let s = g.S.Spec.tests in
-    let site = c.args.self.now.site in
+    let robots = c.args.self.now.site.robots in
     let base = base_text c.args.resolver.now in
-    let token = string_bytes site.robots.token in
-    let records = record_texts site.robots.records.items in
-    let reference = asks c.in-Asks.reference.now in
-    answers_line s token base site.scheme site.authority records records at c.args.line.now (answer_to s token base records reference)
-    _ _ c.put_answer.result is (ap (answer_to s token base records) c.in-Asks.ensures)
-    (unfed c.put_answer.result records reference c.args.line.now c.in-Asks.ensures refl)
+    let records = record_texts robots.records.items in
+    answers_line s _ base _ _ records records at c.args.line.now _ _ _ _ is
+    (ap (answer_to s (string_bytes robots.token) base records) c.in-Asks.ensures)
+    (unfed c.put_answer.result records (asks c.in-Asks.reference.now) c.args.line.now c.in-Asks.ensures refl)
     (λ h. ap (takes_memory s) (sym c.in-Asks.ensures) ∙ ap is_none (c.put_answer.ensures.memory h)) c.put_answer.ensures.reply
 
 pub returns-in-Bad : goal.returns-in-Bad
 returns-in-Bad g c = λ at is.
     let s = g.S.Spec.tests in
-    let site = c.args.self.now.site in
+    let robots = c.args.self.now.site.robots in
     let base = base_text c.args.resolver.now in
-    let token = string_bytes site.robots.token in
-    let records = record_texts site.robots.records.items in
-    let state = sink_state g.O.Sink.written g.O.Sink.faults g.O.Sink.room_left in
-    let old = state c.args.sink.now in
-    let new = state c.put_bad_line.new.sink in
+    let records = record_texts robots.records.items in
     let told = told_of false c.put_bad_line.result in
-    subst (AnswersLine (IsRobotsAt s token base site.scheme site.authority records) at c.args.line.now old new) (sym c.told.ensures)
-    (answers_line s token base site.scheme site.authority records records at c.args.line.now bad_line old new told is
-    (ap (answer_to s token base records) c.in-Bad.ensures) (unfed told records bad c.args.line.now c.in-Bad.ensures refl)
-    (never_memory false c.put_bad_line.result)
+    subst (AnswersLine _ at _ _ _) (sym c.told.ensures)
+    (answers_line s _ base _ _ records records at c.args.line.now bad_line _ _ told is
+    (ap (answer_to s (string_bytes robots.token) base records) c.in-Bad.ensures)
+    (unfed told records bad c.args.line.now c.in-Bad.ensures refl) (never_memory false c.put_bad_line.result)
     (replies false c.put_bad_line.result bad_line c.put_bad_line.ensures refl))
