@@ -77,6 +77,6 @@ class Robots(Immutable):
         return self._verdict(self._links.canonical_bytes(asked))
 
     def allows_many(self, links: Iterable[Text]) -> list[bool | None]:
-        """The same for each link; None also for each that is no reference, or too long."""
+        """For each link, whether it may be fetched; None where it is of another site than the file, no reference, or too long."""
         asked = [one if len(one) <= LINE - 2 else b"%" for one in map(bytes_of, several(links))]
         return [None if target is None else self._verdict(target.encode()) for target in self._links.canonical_many(asked)]

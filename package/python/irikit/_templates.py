@@ -41,7 +41,7 @@ class Template(Immutable):
         return self._variables
 
     def expand(self, values: Mapping[Any, Any] | None = None, /, **more: Any) -> str:
-        """The expansion by values of variables: as the function `expand`."""
+        """The expansion by values of variables, as the function `expand` gives it."""
         text, grammar = self._made_of
         return _expanded(text, grammar, values, more)
 

@@ -84,15 +84,15 @@ class _Parted(Identifier):
         return type(self)(normalize(self, mode, self._grammar))
 
     def with_host(self: _Same, host: Text) -> _Same:
-        """The same with another host. Raises `Refused` where that is none, or where there is no host to replace."""
+        """The link with another host. Raises `Refused` where that isn't a host, or where there is no host to replace."""
         return type(self)(with_host(self, host, grammar=self._grammar))
 
     def with_fragment(self: _Same, fragment: Text | None) -> _Same:
-        """The same with another fragment, or with none where that is None. Raises `Refused` where that is none."""
+        """The link with another fragment, or without one where that is None. Raises `Refused` where that isn't a fragment."""
         return type(self)(with_fragment(self, fragment, self._grammar))
 
     def without_password(self: _Same) -> _Same:
-        """The same without the password and the colon before it."""
+        """The link without its password and the colon before it."""
         return type(self)(without_password(self, self._grammar))
 
 

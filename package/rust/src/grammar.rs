@@ -213,7 +213,7 @@ impl Grammar {
         self.steps_in(text, Mode::Normal)
     }
 
-    /// The same to the normal form by scheme rules (section 6.2.3).
+    /// The steps that lead a text with a scheme to its normal form by scheme rules (RFC 3986 section 6.2.3), as [`steps`](Self::steps).
     ///
     /// # Errors
     ///
@@ -328,7 +328,7 @@ impl Grammar {
         })
     }
 
-    /// The same of a registered name alone.
+    /// A reference with another host in place of a registered name (RFC 3986 section 3.2.2).
     ///
     /// # Errors
     ///

@@ -21,31 +21,31 @@ macro_rules! texts {
                 &self.0
             }
 
-            /// Its parts.
+            /// The parts of the text.
             #[must_use]
             pub fn parts(&self) -> Parts<'_> {
                 $grammar.split(&self.0).expect(VALID)
             }
 
-            /// The same with another fragment, or with none (RFC 3986 section 3.5).
+            /// The text with another fragment, or with none (RFC 3986 section 3.5).
             ///
             /// # Errors
             ///
-            /// [`Error::Part`] where the fragment is none.
+            /// [`Error::Part`] where the new fragment isn't one.
             pub fn with_fragment(&self, fragment: Option<&str>) -> Result<Self, Error> {
                 $grammar.with_fragment(&self.0, fragment).map(Self)
             }
 
-            /// The same with another host (RFC 3986 section 3.2.2); of an IP literal with its brackets.
+            /// The text with another host (RFC 3986 section 3.2.2), an IP literal with its brackets.
             ///
             /// # Errors
             ///
-            /// [`Error::Part`] where the new host is none, [`Error::NoHost`] where there is no authority.
+            /// [`Error::Part`] where the new host isn't one, [`Error::NoHost`] where there is no authority.
             pub fn with_host(&self, host: &str) -> Result<Self, Error> {
                 $grammar.with_host(&self.0, host).map(Self)
             }
 
-            /// The same without its password and the colon before it (RFC 3986 section 3.2.1).
+            /// The text without its password and the colon before it (RFC 3986 section 3.2.1).
             #[must_use]
             pub fn without_password(&self) -> Self {
                 Self($grammar.without_password(&self.0).expect(VALID))
