@@ -77,6 +77,18 @@ pub fn show_canonical<'a, S: Spec, W: TextSink>(
 /// # Errors
 ///
 /// Those of [`show_canonical`].
+///
+/// ```
+/// use iri::format::SliceSink;
+/// use iri::normalize::{CanonMode, show_canonical_in};
+/// use iri::resolve::FixedBaseResolver;
+/// use iri::types::{SplitView, UriAbsoluteStr};
+/// let page = FixedBaseResolver::new(UriAbsoluteStr::new("http://a/b")?);
+/// let mut buffer = [0; 32];
+/// let mut sink = SliceSink::new(&mut buffer);
+/// assert!(rt; show_canonical_in(&mut sink, CanonMode::Scheme, &page, &SplitView::new("//h:80")?).is_ok());
+/// assert_eq!(rt; sink.as_str(), "http://h/");
+/// ```
 pub fn show_canonical_in<'a, S: Spec, W: TextSink>(
     sink: &mut W,
     mode: CanonMode,

@@ -127,6 +127,14 @@ impl<'a, S: Spec, K: NormalKind> NormalizedText<'a, S, K> {
     }
 
     /// The same parts in normal form (RFC 3986 section 6.2.2).
+    ///
+    /// ```
+    /// use iri::prelude::{ResolveAgainst, ToStringFallible};
+    /// use iri::types::{UriAbsoluteStr, UriReferenceStr};
+    /// let base = UriAbsoluteStr::new("HTTP://a/b")?;
+    /// let target = UriReferenceStr::new("%7eg")?.resolve_against(base).and_normalize();
+    /// assert_eq!(rt; target.try_to_string(rt.alloc())?.as_str(), "http://a/~g");
+    /// ```
     pub fn and_normalize(self) -> Self
         ensures { written result ≡ record (written self.entry) { mode = Normal } }
     {

@@ -74,6 +74,12 @@ impl<S: Spec, K: Kind> Owned<S, K> {
     /// - `Invalid` with `InvalidUtf8` where the bytes aren't UTF-8, which is tested first.
     /// - `Invalid` exactly where the text isn't in its production: its first fault.
     /// - `Memory` where allocation fails; the text has no fault then.
+    ///
+    /// ```
+    /// use iri::types::{CreateError, UriString};
+    /// assert_eq!(rt; UriString::try_from_bytes(rt.alloc(), b"http://a/")?.as_str(), "http://a/");
+    /// assert!(rt; matches!(UriString::try_from_bytes(rt.alloc(), b"a/b"), Err(CreateError::Invalid(_))));
+    /// ```
     pub fn try_from_bytes(alloc: Global, b: &[u8]) -> Result<Self, CreateError>
         ensures { MatchResult result (λ t. t.text ≡ b.now) (λ e. RefusedFor e (bytes_fault (K.fault S.tests) b.now)) }
     {
@@ -166,6 +172,12 @@ impl<S: Spec, K: Kind> Owned<S, K> {
     }
 
     /// The text as a string. It takes no memory.
+    ///
+    /// ```
+    /// use iri::types::UriString;
+    /// let link = UriString::try_from_str(rt.alloc(), "http://a/")?;
+    /// assert_eq!(rt; link.into_string().as_str(), "http://a/");
+    /// ```
     pub fn into_string(self) -> String
         ensures text { owned_text result ≡ self }
         ensures valid { K.fault S.tests (string_bytes result) ≡ None }
@@ -231,6 +243,12 @@ impl<S: Spec, K: Kind> Owned<S, K> {
     /// # Errors
     ///
     /// Where allocation fails.
+    ///
+    /// ```
+    /// use iri::types::UriString;
+    /// let link = UriString::try_from_str(rt.alloc(), "http://a/")?;
+    /// assert_eq!(rt; link.try_clone(rt.alloc())?.as_str(), "http://a/");
+    /// ```
     pub fn try_clone(&self, alloc: Global) -> Result<Self, AllocError>
         ensures { IfOk result (λ t. t.text ≡ self.now.text) }
     {

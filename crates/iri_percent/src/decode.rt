@@ -121,6 +121,12 @@ impl<'a> PercentDecodedWhatwgBytes<'a> {
     /// # Errors
     ///
     /// Where allocation fails, only where there are bytes to decode.
+    ///
+    /// ```
+    /// use iri::percent_encode::decode::decode_whatwg_bytes;
+    /// let bytes = decode_whatwg_bytes(b"%FF50%").into_bytes(rt.alloc())?;
+    /// assert_eq!(rt; bytes.as_slice(), b"\xFF50%".as_slice());
+    /// ```
     pub fn into_bytes(&self, alloc: Global) -> Result<Vec<u8>, AllocError>
         ensures decoded { IfOk result (λ bytes. bytes.items ≡ decoding self.now.source.now) }
         ensures memory { OnErr result (0 < length self.now.source.now) }

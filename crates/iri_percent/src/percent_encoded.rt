@@ -98,6 +98,13 @@ impl<T: Show, S: Spec> PercentEncoded<T, S> {
 
     /// Encodes for the password in a `userinfo`: the characters of a `userinfo` but the `:` are kept (RFC 3986 section
     /// 3.2.1).
+    ///
+    /// ```
+    /// use iri::format::ToStringFallible;
+    /// use iri::percent_encode::PercentEncodedForUri;
+    /// let password = PercentEncodedForUri::from_password("p:w@");
+    /// assert_eq!(rt; password.try_to_string(rt.alloc())?.as_str(), "p%3Aw%40");
+    /// ```
     pub fn from_password(raw: T) -> Self
         ensures raw { result.raw ≡ raw }
         ensures context { result.context ≡ UserOrPassword }
@@ -106,6 +113,13 @@ impl<T: Show, S: Spec> PercentEncoded<T, S> {
     }
 
     /// Encodes for one segment of a path: `pchar` is kept, and so each `/` is encoded (RFC 3986 section 3.3).
+    ///
+    /// ```
+    /// use iri::format::ToStringFallible;
+    /// use iri::percent_encode::PercentEncodedForUri;
+    /// let segment = PercentEncodedForUri::from_path_segment("a/b c;d");
+    /// assert_eq!(rt; segment.try_to_string(rt.alloc())?.as_str(), "a%2Fb%20c;d");
+    /// ```
     pub fn from_path_segment(raw: T) -> Self
         ensures raw { result.raw ≡ raw }
         ensures context { result.context ≡ PathSegment }

@@ -341,6 +341,18 @@ impl<S: Spec> Register<S> {
     /// # Errors
     ///
     /// Those of [`remove`](Register::remove).
+    ///
+    /// ```
+    /// use iri::register::Register;
+    /// use iri::resolve::FixedBaseResolver;
+    /// use iri::types::{UriAbsoluteStr, UriAbsoluteString};
+    /// let base = UriAbsoluteString::try_from_str(rt.alloc(), "http://a/")?;
+    /// let mut links = Register::new(rt.alloc(), base);
+    /// links.add(b"b", 2)?;
+    /// let page = FixedBaseResolver::new(UriAbsoluteStr::new("http://a/c/d")?);
+    /// assert_eq!(rt; links.remove_against(&page, b"../b")?, Some(1));
+    /// assert_eq!(rt; links.len(), 0);
+    /// ```
     pub fn remove_against(
         &mut self,
         resolver: &FixedBaseResolver<'_, S>,

@@ -82,6 +82,18 @@ pub fn join_steps<S: Spec>(
 /// # Errors
 ///
 /// Where allocation fails.
+///
+/// ```
+/// use iri::normalize::CanonMode;
+/// use iri::resolve::FixedBaseResolver;
+/// use iri::steps::join_steps_in;
+/// use iri::types::{UriAbsoluteStr, UriReferenceStr};
+/// let page = FixedBaseResolver::new(UriAbsoluteStr::new("http://a/b")?);
+/// let one = page.target(rt.alloc(), UriReferenceStr::new("//h:80/")?)?;
+/// let other = page.target(rt.alloc(), UriReferenceStr::new("//h/")?)?;
+/// assert!(rt; join_steps_in(rt.alloc(), CanonMode::Default, &one, &other)?.is_none());
+/// assert!(rt; join_steps_in(rt.alloc(), CanonMode::Scheme, &one, &other)?.is_some());
+/// ```
 pub fn join_steps_in<S: Spec>(
     alloc: Global,
     mode: CanonMode,

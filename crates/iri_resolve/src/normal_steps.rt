@@ -55,6 +55,18 @@ pub fn steps_to_normal<S: Spec>(alloc: Global, target: &Target<S>) -> Result<Ste
 /// # Errors
 ///
 /// Where allocation fails.
+///
+/// ```
+/// use iri::normalize::CanonMode;
+/// use iri::resolve::FixedBaseResolver;
+/// use iri::steps::{Step, steps_to_normal_in};
+/// use iri::types::{UriAbsoluteStr, UriReferenceStr};
+/// let page = FixedBaseResolver::new(UriAbsoluteStr::new("http://a/b")?);
+/// let target = page.target(rt.alloc(), UriReferenceStr::new("//h:80")?)?;
+/// let steps = steps_to_normal_in(rt.alloc(), CanonMode::Scheme, &target)?;
+/// assert!(rt; matches!(steps.get(0), Some(Step::DefaultPort)));
+/// assert!(rt; matches!(steps.get(1), Some(Step::SlashPath)));
+/// ```
 pub fn steps_to_normal_in<S: Spec>(
     alloc: Global,
     mode: CanonMode,
@@ -134,6 +146,17 @@ pub fn show_steps<S: Spec, K: NormalKind, W: TextSink>(
 /// # Errors
 ///
 /// Those of [`show_steps`].
+///
+/// ```
+/// use iri::format::SliceSink;
+/// use iri::normalize::CanonMode;
+/// use iri::steps::show_steps_in;
+/// use iri::types::UriStr;
+/// let mut buffer = [0; 64];
+/// let mut sink = SliceSink::new(&mut buffer);
+/// assert!(rt; show_steps_in(&mut sink, CanonMode::Scheme, UriStr::new("http://a:80")?).is_ok());
+/// assert_eq!(rt; sink.as_str(), "default port\nempty path\n");
+/// ```
 pub fn show_steps_in<S: Spec, K: NormalKind, W: TextSink>(
     sink: &mut W,
     mode: CanonMode,

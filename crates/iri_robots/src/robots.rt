@@ -135,6 +135,14 @@ impl Robots {
     /// # Errors
     ///
     /// Where allocation fails, only where the line has a record; nothing has changed then.
+    ///
+    /// ```
+    /// use iri::robots::{Robots, Verdict};
+    /// let mut rules = Robots::new(rt.alloc(), "ExampleBot")?;
+    /// rules.feed_line(b"User-agent: examplebot/2.0 # any case")?;
+    /// rules.feed_line(b"Disallow: /private")?;
+    /// assert!(rt; matches!(rules.verdict("/private/a"), Verdict::Disallow));
+    /// ```
     pub fn feed_line(&mut self, line: &[u8]) -> Result<(), AllocError>
         ensures token { string_bytes self.new.token ≡ string_bytes self.old.token }
         ensures records { MatchResult result (λ _. record_texts self.new.records.items

@@ -225,6 +225,16 @@ impl<'a, S: Spec, C: Context> Expanded<'a, S, C> {
     /// # Errors
     ///
     /// Where allocation fails, only where it has at most `limit` bytes.
+    ///
+    /// ```
+    /// use iri::spec::UriSpec;
+    /// use iri::template::UriTemplateStr;
+    /// use iri::template::simple_context::SimpleContext;
+    /// let values = SimpleContext::new(rt.alloc());
+    /// let expanded = UriTemplateStr::new("/search")?.expand::<UriSpec, SimpleContext>(&values)?;
+    /// assert!(rt; expanded.try_into_text_within(rt.alloc(), 6)?.is_none());
+    /// assert!(rt; expanded.try_into_text_within(rt.alloc(), 7)?.is_some());
+    /// ```
     pub fn try_into_text_within(
         &self,
         alloc: Global,

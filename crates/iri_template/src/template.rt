@@ -84,6 +84,13 @@ impl<'a> UriTemplateStr<'a> {
     ///
     /// - `InvalidUtf8` where the bytes aren't UTF-8; its place is after the longest prefix that is.
     /// - Otherwise the first fault of the text, exactly where it is no template, and its place in bytes.
+    ///
+    /// ```
+    /// use iri::template::{ErrorKind, UriTemplateStr};
+    /// let error = UriTemplateStr::try_from_bytes(b"a\xFF").err().ok_or("a fault")?;
+    /// assert_eq!(rt; error.kind(), ErrorKind::InvalidUtf8);
+    /// assert_eq!(rt; error.location(), 1);
+    /// ```
     pub fn try_from_bytes(b: &'a [u8]) -> Result<Self, Error>
         ensures fault { Answers result (template_fault b.now) }
         ensures text { IfOk result (λ v. text v ≡ b.now) }
@@ -180,6 +187,20 @@ impl<'a> UriTemplateStr<'a> {
     ///   then.
     /// - `WriteFailed` only where the sink stopped, at the first byte of the varspec, or of the literals and
     ///   percent-encoded octets between expressions, within whose text it stopped; all text before it was written.
+    ///
+    /// ```
+    /// use iri::format::SliceSink;
+    /// use iri::spec::UriSpec;
+    /// use iri::template::UriTemplateStr;
+    /// use iri::template::context::Fixed;
+    /// use iri::template::simple_context::SimpleContext;
+    /// let values = SimpleContext::new(rt.alloc());
+    /// let mut fixed = Fixed::new(&values);
+    /// let mut buffer = [0; 32];
+    /// let mut sink = SliceSink::new(&mut buffer);
+    /// UriTemplateStr::new("/search{?q}")?.expand_dynamic::<UriSpec, SliceSink<'_>, Fixed<'_, SimpleContext>>(&mut sink, &mut fixed)?;
+    /// assert_eq!(rt; sink.as_str(), "/search");
+    /// ```
     pub fn expand_dynamic<S: Spec, W: TextSink, C: DynamicContext>(
         self,
         writer: &mut W,
