@@ -12,12 +12,12 @@
  *
  * What each call does: it reads what is passed, writes to `out` and to what its comment names, takes no memory, keeps
  * nothing, and returns. (irikit_robots_rules, irikit_robots_allows and irikit_run take memory, and give all of it back.) So calls
- * may run in several threads at once, each with its own `out` and `told`.
+ * may run in several threads at once, each with its own `out` and `detail`.
  *
  * Numbers: those of the enums below but statuses differ from each other, so that one in the place of another, as a mode for a
  * grammar, is answered as unknown. So is every other number.
  *
- * Statuses: each call but irikit_run and irikit_version returns one of irikit_status, and always writes `told`:
+ * Statuses: each call but irikit_run and irikit_version returns one of irikit_status, and always writes `detail`:
  *
  *   IRIKIT_OK, IRIKIT_SHORT   where a text is written: its length in bytes; of a template's variables: how many there are.
  *                             Otherwise 0
@@ -29,8 +29,8 @@
  * IRIKIT_BAD_TEXT or IRIKIT_BAD_BASE; IRIKIT_BAD_REFERENCE; IRIKIT_BAD_PART; IRIKIT_NO_HOST; IRIKIT_SHORT.
  *
  * A text that is written stands at the start of `out`, and what comes after it stays as it was. Where it is longer than
- * `size`, `out` holds its first `size` bytes, the status is IRIKIT_SHORT, and `told` is the size that is wanted: so a call
- * with size 0 measures. At every other status `out` stays as it was. Of many lines and of a run what is told is in their
+ * `size`, `out` holds its first `size` bytes, the status is IRIKIT_SHORT, and `detail` is the size that is wanted: so a call
+ * with size 0 measures. At every other status `out` stays as it was. What it is of many lines, and `out_len` of a run, is in their
  * comments.
  */
 #ifndef IRIKIT_H
@@ -154,12 +154,12 @@ struct irikit_text {
 /* Whether a text is of a kind, by its first fault.
  *
  * Takes: the number of a grammar and of a kind; the text.
- * Writes: nothing but `*told`.
+ * Writes: nothing but `*detail`.
  * Returns: IRIKIT_OK: it is; IRIKIT_BAD_TEXT: it isn't; IRIKIT_UNKNOWN: grammar or kind.
  *
- *   irikit_validate(IRIKIT_URI, IRIKIT_REFERENCE, "../b", 4, &told);    // IRIKIT_OK
- *   irikit_validate(IRIKIT_URI, IRIKIT_WITH_SCHEME, "../b", 4, &told);  // IRIKIT_BAD_TEXT, told IRIKIT_UNEXPECTED_RELATIVE */
-uint8_t irikit_validate(uint32_t grammar, uint32_t kind, const char *text, size_t len, size_t *told);
+ *   irikit_validate(IRIKIT_URI, IRIKIT_REFERENCE, "../b", 4, &detail);    // IRIKIT_OK
+ *   irikit_validate(IRIKIT_URI, IRIKIT_WITH_SCHEME, "../b", 4, &detail);  // IRIKIT_BAD_TEXT, detail IRIKIT_UNEXPECTED_RELATIVE */
+uint8_t irikit_validate(uint32_t grammar, uint32_t kind, const char *text, size_t len, size_t *detail);
 
 /* The words for a kind of fault, as `irikit canon` answers them, in ASCII.
  *
@@ -167,10 +167,10 @@ uint8_t irikit_validate(uint32_t grammar, uint32_t kind, const char *text, size_
  * Writes: the words to `out`.
  * Returns: IRIKIT_OK; IRIKIT_SHORT; IRIKIT_UNKNOWN: no kind has this number.
  *
- *   irikit_fault_words(IRIKIT_INVALID_PATH, out, sizeof out, &told);  // "invalid path" */
-uint8_t irikit_fault_words(size_t fault, char *out, size_t size, size_t *told);
+ *   irikit_fault_words(IRIKIT_INVALID_PATH, out, sizeof out, &detail);  // "invalid path" */
+uint8_t irikit_fault_words(size_t fault, char *out, size_t size, size_t *detail);
 
-/* Where the part of a text stands that has a kind of fault, as another call told it of that text: the part that the fault names, in
+/* Where the part of a text stands that has a kind of fault, as another call returned it for that text: the part that the fault names, in
  * the split of the text by its first delimiters, whatever stands in its parts. A scheme is cut off only where what stands before
  * the first `:` is one; otherwise the whole is read as relative: as a reference `1a:b` has a faulty path, and no scheme.
  *
@@ -189,9 +189,9 @@ uint8_t irikit_fault_words(size_t fault, char *out, size_t size, size_t *told);
  * Returns: IRIKIT_OK; IRIKIT_UNKNOWN: kind or fault.
  *
  *   const char *text = "//u@h h:8/p";
- *   irikit_fault_part(IRIKIT_REFERENCE, IRIKIT_INVALID_HOST, text, 11, &part, &told);
+ *   irikit_fault_part(IRIKIT_REFERENCE, IRIKIT_INVALID_HOST, text, 11, &part, &detail);
  *   fwrite(text + part.offset, 1, part.len, stdout);  // "h h" */
-uint8_t irikit_fault_part(uint32_t kind, size_t fault, const char *text, size_t len, struct irikit_slot *part, size_t *told);
+uint8_t irikit_fault_part(uint32_t kind, size_t fault, const char *text, size_t len, struct irikit_slot *part, size_t *detail);
 
 /* The parts of a reference.
  *
@@ -200,9 +200,9 @@ uint8_t irikit_fault_part(uint32_t kind, size_t fault, const char *text, size_t 
  * Returns: IRIKIT_OK; IRIKIT_BAD_TEXT: it is no reference; IRIKIT_UNKNOWN: grammar.
  *
  *   const char *text = "//u@h:8/p";
- *   irikit_split(IRIKIT_URI, text, 9, &parts, &told);
+ *   irikit_split(IRIKIT_URI, text, 9, &parts, &detail);
  *   fwrite(text + parts.host.offset, 1, parts.host.len, stdout);  // "h" */
-uint8_t irikit_split(uint32_t grammar, const char *text, size_t len, struct irikit_parts *parts, size_t *told);
+uint8_t irikit_split(uint32_t grammar, const char *text, size_t len, struct irikit_parts *parts, size_t *detail);
 
 /* The normal form of a text with a scheme (RFC 3986 section 6.2.2; by scheme rules section 6.2.3).
  *
@@ -210,18 +210,18 @@ uint8_t irikit_split(uint32_t grammar, const char *text, size_t len, struct irik
  * Writes: the normal form to `out`. It has at most len + 3 bytes.
  * Returns: IRIKIT_OK; IRIKIT_SHORT; IRIKIT_BAD_TEXT: it is no URI; IRIKIT_UNKNOWN: grammar or mode.
  *
- *   irikit_normalize(IRIKIT_URI, IRIKIT_BY_SCHEME, "HTTP://a:80", 11, out, sizeof out, &told);  // "http://a/" */
-uint8_t irikit_normalize(uint32_t grammar, uint32_t mode, const char *text, size_t len, char *out, size_t size, size_t *told);
+ *   irikit_normalize(IRIKIT_URI, IRIKIT_BY_SCHEME, "HTTP://a:80", 11, out, sizeof out, &detail);  // "http://a/" */
+uint8_t irikit_normalize(uint32_t grammar, uint32_t mode, const char *text, size_t len, char *out, size_t size, size_t *detail);
 
 /* Whether a text with a scheme is its own normal form.
  *
  * Takes: the number of a grammar and of a mode; the text, a URI of the grammar.
- * Writes: nothing but `*told`.
+ * Writes: nothing but `*detail`.
  * Returns: IRIKIT_OK: it is; IRIKIT_NOT_NORMAL: it isn't; IRIKIT_BAD_TEXT: it is no URI; IRIKIT_UNKNOWN: grammar or mode.
  *
- *   irikit_is_normalized(IRIKIT_URI, IRIKIT_NORMAL, "http://a:80/", 12, &told);     // IRIKIT_OK
- *   irikit_is_normalized(IRIKIT_URI, IRIKIT_BY_SCHEME, "http://a:80/", 12, &told);  // IRIKIT_NOT_NORMAL */
-uint8_t irikit_is_normalized(uint32_t grammar, uint32_t mode, const char *text, size_t len, size_t *told);
+ *   irikit_is_normalized(IRIKIT_URI, IRIKIT_NORMAL, "http://a:80/", 12, &detail);     // IRIKIT_OK
+ *   irikit_is_normalized(IRIKIT_URI, IRIKIT_BY_SCHEME, "http://a:80/", 12, &detail);  // IRIKIT_NOT_NORMAL */
+uint8_t irikit_is_normalized(uint32_t grammar, uint32_t mode, const char *text, size_t len, size_t *detail);
 
 /* The steps that lead a text with a scheme to its normal form (RFC 3986 section 6.2.2; by scheme rules section 6.2.3), from
  * left to right, in words:
@@ -242,9 +242,9 @@ uint8_t irikit_is_normalized(uint32_t grammar, uint32_t mode, const char *text, 
  * Writes: to `out`, the steps, each with an LF after it: nothing where the text is its own normal form.
  * Returns: IRIKIT_OK; IRIKIT_SHORT; IRIKIT_BAD_TEXT: it is no URI; IRIKIT_UNKNOWN: grammar or mode.
  *
- *   irikit_steps(IRIKIT_URI, IRIKIT_BY_SCHEME, "Http://a:80/%7e", 15, out, sizeof out, &told);
- *   fwrite(out, 1, told, stdout);  // "scheme letter 0\ndecode path 1\ndefault port\n" */
-uint8_t irikit_steps(uint32_t grammar, uint32_t mode, const char *text, size_t len, char *out, size_t size, size_t *told);
+ *   irikit_steps(IRIKIT_URI, IRIKIT_BY_SCHEME, "Http://a:80/%7e", 15, out, sizeof out, &detail);
+ *   fwrite(out, 1, detail, stdout);  // "scheme letter 0\ndecode path 1\ndefault port\n" */
+uint8_t irikit_steps(uint32_t grammar, uint32_t mode, const char *text, size_t len, char *out, size_t size, size_t *detail);
 
 /* A reference of IRIs, mapped to one of URIs (RFC 3987 section 3.1): each character past ASCII becomes the
  * percent-encoded octets of its UTF-8.
@@ -253,8 +253,8 @@ uint8_t irikit_steps(uint32_t grammar, uint32_t mode, const char *text, size_t l
  * Writes: the mapped text to `out`. It has at most 3 * len bytes.
  * Returns: IRIKIT_OK; IRIKIT_SHORT; IRIKIT_BAD_TEXT: it is no reference of IRIs.
  *
- *   irikit_map_to_uri("http://a/\xC3\xA9", 11, out, sizeof out, &told);  // "http://a/%C3%A9" */
-uint8_t irikit_map_to_uri(const char *text, size_t len, char *out, size_t size, size_t *told);
+ *   irikit_map_to_uri("http://a/\xC3\xA9", 11, out, sizeof out, &detail);  // "http://a/%C3%A9" */
+uint8_t irikit_map_to_uri(const char *text, size_t len, char *out, size_t size, size_t *detail);
 
 /* A raw text, percent-encoded for its place in a reference (RFC 3986 sections 2.1 and 2.4): what may not stand there, `%`
  * among it, becomes the percent-encoded octets of its UTF-8.
@@ -264,8 +264,8 @@ uint8_t irikit_map_to_uri(const char *text, size_t len, char *out, size_t size, 
  * Returns: IRIKIT_BAD_TEXT: it isn't UTF-8, whatever the numbers are; then IRIKIT_UNKNOWN: grammar or place; IRIKIT_SHORT;
  * IRIKIT_OK.
  *
- *   irikit_encode(IRIKIT_URI, IRIKIT_IN_SEGMENT, "50% off/a", 9, out, sizeof out, &told);  // "50%25%20off%2Fa" */
-uint8_t irikit_encode(uint32_t grammar, uint32_t place, const char *text, size_t len, char *out, size_t size, size_t *told);
+ *   irikit_encode(IRIKIT_URI, IRIKIT_IN_SEGMENT, "50% off/a", 9, out, sizeof out, &detail);  // "50%25%20off%2Fa" */
+uint8_t irikit_encode(uint32_t grammar, uint32_t place, const char *text, size_t len, char *out, size_t size, size_t *detail);
 
 /* The bytes that a text decodes to (the URL Standard, section 1.3): each percent-encoded octet gives its byte, and
  * all else, a `%` that begins none among it, stays. They needn't be UTF-8.
@@ -274,8 +274,8 @@ uint8_t irikit_encode(uint32_t grammar, uint32_t place, const char *text, size_t
  * Writes: the decoded bytes to `out`. They are at most `len`.
  * Returns: IRIKIT_OK; IRIKIT_SHORT.
  *
- *   irikit_decode("50%25%20off%2Fa", 15, out, sizeof out, &told);  // "50% off/a" */
-uint8_t irikit_decode(const char *text, size_t len, char *out, size_t size, size_t *told);
+ *   irikit_decode("50%25%20off%2Fa", 15, out, sizeof out, &detail);  // "50% off/a" */
+uint8_t irikit_decode(const char *text, size_t len, char *out, size_t size, size_t *detail);
 
 /* ---- Links ---- */
 
@@ -287,10 +287,10 @@ uint8_t irikit_decode(const char *text, size_t len, char *out, size_t size, size
  * Returns: IRIKIT_OK; IRIKIT_SHORT; IRIKIT_BAD_BASE, IRIKIT_BAD_REFERENCE: the first fault of the one or the other, the base
  * first; IRIKIT_UNKNOWN: grammar or mode.
  *
- *   irikit_canonical(IRIKIT_URI, IRIKIT_NORMAL, "http://A/b", 10, "%7e", 3, out, sizeof out, &told);  // "http://a/~"
- *   irikit_canonical(IRIKIT_URI, IRIKIT_NORMAL, "http://A/b", 10, "%", 1, out, sizeof out, &told);  // IRIKIT_BAD_REFERENCE */
+ *   irikit_canonical(IRIKIT_URI, IRIKIT_NORMAL, "http://A/b", 10, "%7e", 3, out, sizeof out, &detail);  // "http://a/~"
+ *   irikit_canonical(IRIKIT_URI, IRIKIT_NORMAL, "http://A/b", 10, "%", 1, out, sizeof out, &detail);  // IRIKIT_BAD_REFERENCE */
 uint8_t irikit_canonical(uint32_t grammar, uint32_t mode, const char *base, size_t base_len, const char *reference,
-                         size_t reference_len, char *out, size_t size, size_t *told);
+                         size_t reference_len, char *out, size_t size, size_t *detail);
 
 /* A reference resolved against a base (RFC 3986 section 5.2), not in normal form.
  *
@@ -299,9 +299,9 @@ uint8_t irikit_canonical(uint32_t grammar, uint32_t mode, const char *base, size
  * Returns: IRIKIT_OK; IRIKIT_SHORT; IRIKIT_BAD_BASE, IRIKIT_BAD_REFERENCE: the first fault of the one or the other, the base
  * first; IRIKIT_UNKNOWN: grammar.
  *
- *   irikit_resolve(IRIKIT_URI, "http://A/b/c", 12, "../%7e", 6, out, sizeof out, &told);  // "http://A/%7e" */
+ *   irikit_resolve(IRIKIT_URI, "http://A/b/c", 12, "../%7e", 6, out, sizeof out, &detail);  // "http://A/%7e" */
 uint8_t irikit_resolve(uint32_t grammar, const char *base, size_t base_len, const char *reference, size_t reference_len,
-                       char *out, size_t size, size_t *told);
+                       char *out, size_t size, size_t *detail);
 
 /* The target of a reference against a base (RFC 3986 section 5.2.2), with its dot segments.
  *
@@ -310,9 +310,9 @@ uint8_t irikit_resolve(uint32_t grammar, const char *base, size_t base_len, cons
  * Returns: IRIKIT_OK; IRIKIT_SHORT; IRIKIT_BAD_BASE, IRIKIT_BAD_REFERENCE: the first fault of the one or the other, the base
  * first; IRIKIT_UNKNOWN: grammar.
  *
- *   irikit_target(IRIKIT_URI, "http://A/b/c", 12, "../%7e", 6, out, sizeof out, &told);  // "http://A/b/../%7e" */
+ *   irikit_target(IRIKIT_URI, "http://A/b/c", 12, "../%7e", 6, out, sizeof out, &detail);  // "http://A/b/../%7e" */
 uint8_t irikit_target(uint32_t grammar, const char *base, size_t base_len, const char *reference, size_t reference_len,
-                      char *out, size_t size, size_t *told);
+                      char *out, size_t size, size_t *detail);
 
 /* ---- Templates ---- */
 
@@ -348,31 +348,31 @@ enum irikit_template_fault {
  * Takes: the number of a grammar; the template; variables; a buffer.
  * Writes: the expansion to `out`; `*place`, which is 0 at every status but the two below.
  * Returns: IRIKIT_BAD_VARIABLE: `*place` is the index of the first such variable, whatever grammar and template are; then
- * IRIKIT_UNKNOWN: grammar; IRIKIT_BAD_TEXT: `*told` is the template's first fault, one of irikit_template_fault, and `*place` its
+ * IRIKIT_UNKNOWN: grammar; IRIKIT_BAD_TEXT: `*detail` is the template's first fault, one of irikit_template_fault, and `*place` its
  * place in bytes; IRIKIT_SHORT; IRIKIT_OK.
  *
  *   struct irikit_text word = {"two words", 9};
  *   struct irikit_variable q = {{"q", 1}, IRIKIT_STRING, &word, 1};
- *   irikit_expand(IRIKIT_URI, "/s{?q}", 6, &q, 1, out, sizeof out, &told, &place);  // "/s?q=two%20words" */
+ *   irikit_expand(IRIKIT_URI, "/s{?q}", 6, &q, 1, out, sizeof out, &detail, &place);  // "/s?q=two%20words" */
 uint8_t irikit_expand(uint32_t grammar, const char *template_text, size_t template_len,
-                      const struct irikit_variable *variables, size_t count, char *out, size_t size, size_t *told,
+                      const struct irikit_variable *variables, size_t count, char *out, size_t size, size_t *detail,
                       size_t *place);
 
 /* Where the names of a template's variables stand, from left to right, each as often as it stands there; or the template's
  * first fault.
  *
  * Takes: the template; `count` slots, of which no template wants more than template_len / 2.
- * Writes: to the start of `names`, where each name stands, as far as there is room; to `*told`, how many names there are;
+ * Writes: to the start of `names`, where each name stands, as far as there is room; to `*detail`, how many names there are;
  * `*place`, which is 0 but at IRIKIT_BAD_TEXT.
- * Returns: IRIKIT_OK: it is a template; IRIKIT_SHORT: it has more than `count` names; IRIKIT_BAD_TEXT: `*told` is its first
+ * Returns: IRIKIT_OK: it is a template; IRIKIT_SHORT: it has more than `count` names; IRIKIT_BAD_TEXT: `*detail` is its first
  * fault, one of irikit_template_fault, and `*place` its place in bytes; then `names` stays as it was.
  *
  *   const char *text = "/s{?q,n*}";
- *   irikit_template_variables(text, 9, names, 4, &told, &place);  // IRIKIT_OK, told 2
+ *   irikit_template_variables(text, 9, names, 4, &detail, &place);  // IRIKIT_OK, detail 2
  *   fwrite(text + names[1].offset, 1, names[1].len, stdout);  // "n"
- *   irikit_template_variables("/s{", 3, names, 4, &told, &place);  // IRIKIT_BAD_TEXT, place 2 */
+ *   irikit_template_variables("/s{", 3, names, 4, &detail, &place);  // IRIKIT_BAD_TEXT, place 2 */
 uint8_t irikit_template_variables(const char *template_text, size_t template_len, struct irikit_slot *names, size_t count,
-                                  size_t *told, size_t *place);
+                                  size_t *detail, size_t *place);
 
 /* The words for a kind of fault of a template, as `irikit expand` answers them, in ASCII.
  *
@@ -380,8 +380,8 @@ uint8_t irikit_template_variables(const char *template_text, size_t template_len
  * Writes: the words to `out`.
  * Returns: IRIKIT_OK; IRIKIT_SHORT; IRIKIT_UNKNOWN: no kind has this number.
  *
- *   irikit_template_fault_words(IRIKIT_EXPRESSION_NOT_CLOSED, out, sizeof out, &told);  // "expression not closed" */
-uint8_t irikit_template_fault_words(size_t fault, char *out, size_t size, size_t *told);
+ *   irikit_template_fault_words(IRIKIT_EXPRESSION_NOT_CLOSED, out, sizeof out, &detail);  // "expression not closed" */
+uint8_t irikit_template_fault_words(size_t fault, char *out, size_t size, size_t *detail);
 
 /* ---- Edits ---- */
 
@@ -391,8 +391,8 @@ uint8_t irikit_template_fault_words(size_t fault, char *out, size_t size, size_t
  * Writes: the masked text to `out`. It has at most `len` bytes.
  * Returns: IRIKIT_OK; IRIKIT_SHORT; IRIKIT_BAD_TEXT; IRIKIT_UNKNOWN: grammar.
  *
- *   irikit_mask_password(IRIKIT_URI, "http://u:pw@h/", 14, out, sizeof out, &told);  // "http://u:@h/" */
-uint8_t irikit_mask_password(uint32_t grammar, const char *text, size_t len, char *out, size_t size, size_t *told);
+ *   irikit_mask_password(IRIKIT_URI, "http://u:pw@h/", 14, out, sizeof out, &detail);  // "http://u:@h/" */
+uint8_t irikit_mask_password(uint32_t grammar, const char *text, size_t len, char *out, size_t size, size_t *detail);
 
 /* A reference without its password and the `:` before it.
  *
@@ -400,8 +400,8 @@ uint8_t irikit_mask_password(uint32_t grammar, const char *text, size_t len, cha
  * Writes: the text to `out`. It has at most `len` bytes.
  * Returns: IRIKIT_OK; IRIKIT_SHORT; IRIKIT_BAD_TEXT; IRIKIT_UNKNOWN: grammar.
  *
- *   irikit_remove_password(IRIKIT_URI, "http://u:pw@h/", 14, out, sizeof out, &told);  // "http://u@h/" */
-uint8_t irikit_remove_password(uint32_t grammar, const char *text, size_t len, char *out, size_t size, size_t *told);
+ *   irikit_remove_password(IRIKIT_URI, "http://u:pw@h/", 14, out, sizeof out, &detail);  // "http://u@h/" */
+uint8_t irikit_remove_password(uint32_t grammar, const char *text, size_t len, char *out, size_t size, size_t *detail);
 
 /* A reference with another text in place of its password; one without a colon in its userinfo stays as it is. The new text
  * is written as it stands, so the whole is a reference again only where it may stand in a userinfo (IRIKIT_IN_USER encodes
@@ -411,9 +411,9 @@ uint8_t irikit_remove_password(uint32_t grammar, const char *text, size_t len, c
  * Writes: the text to `out`. It has at most len + password_len bytes.
  * Returns: IRIKIT_OK; IRIKIT_SHORT; IRIKIT_BAD_TEXT; IRIKIT_BAD_PART: the password isn't UTF-8; IRIKIT_UNKNOWN: grammar.
  *
- *   irikit_replace_password(IRIKIT_URI, "http://u:pw@h/", 14, "***", 3, out, sizeof out, &told);  // "http://u:***@h/" */
+ *   irikit_replace_password(IRIKIT_URI, "http://u:pw@h/", 14, "***", 3, out, sizeof out, &detail);  // "http://u:***@h/" */
 uint8_t irikit_replace_password(uint32_t grammar, const char *text, size_t len, const char *password, size_t password_len,
-                                char *out, size_t size, size_t *told);
+                                char *out, size_t size, size_t *detail);
 
 /* A reference without its fragment and the `#` before it (RFC 3986 section 3.5).
  *
@@ -421,8 +421,8 @@ uint8_t irikit_replace_password(uint32_t grammar, const char *text, size_t len, 
  * Writes: the text to `out`. It has at most `len` bytes.
  * Returns: IRIKIT_OK; IRIKIT_SHORT; IRIKIT_BAD_TEXT; IRIKIT_UNKNOWN: grammar.
  *
- *   irikit_remove_fragment(IRIKIT_URI, "a?b#c", 5, out, sizeof out, &told);  // "a?b" */
-uint8_t irikit_remove_fragment(uint32_t grammar, const char *text, size_t len, char *out, size_t size, size_t *told);
+ *   irikit_remove_fragment(IRIKIT_URI, "a?b#c", 5, out, sizeof out, &detail);  // "a?b" */
+uint8_t irikit_remove_fragment(uint32_t grammar, const char *text, size_t len, char *out, size_t size, size_t *detail);
 
 /* A reference with a fragment in place of its own, or after a text that has none (RFC 3986 section 3.5).
  *
@@ -430,9 +430,9 @@ uint8_t irikit_remove_fragment(uint32_t grammar, const char *text, size_t len, c
  * Writes: the text to `out`. It has at most len + fragment_len + 1 bytes.
  * Returns: IRIKIT_OK; IRIKIT_SHORT; IRIKIT_BAD_TEXT; IRIKIT_BAD_PART: the fragment's first fault; IRIKIT_UNKNOWN: grammar.
  *
- *   irikit_set_fragment(IRIKIT_URI, "a?b#c", 5, "d", 1, out, sizeof out, &told);  // "a?b#d" */
+ *   irikit_set_fragment(IRIKIT_URI, "a?b#c", 5, "d", 1, out, sizeof out, &detail);  // "a?b#d" */
 uint8_t irikit_set_fragment(uint32_t grammar, const char *text, size_t len, const char *fragment, size_t fragment_len,
-                            char *out, size_t size, size_t *told);
+                            char *out, size_t size, size_t *detail);
 
 /* A reference with another host in place of its own (RFC 3986 section 3.2.2).
  *
@@ -442,18 +442,18 @@ uint8_t irikit_set_fragment(uint32_t grammar, const char *text, size_t len, cons
  * Returns: IRIKIT_OK; IRIKIT_SHORT; IRIKIT_BAD_TEXT; IRIKIT_BAD_PART: the new host is none; IRIKIT_NO_HOST: the text has no
  * authority; IRIKIT_UNKNOWN: grammar.
  *
- *   irikit_replace_host(IRIKIT_URI, "http://a:80/", 12, "[::1]", 5, out, sizeof out, &told);  // "http://[::1]:80/" */
+ *   irikit_replace_host(IRIKIT_URI, "http://a:80/", 12, "[::1]", 5, out, sizeof out, &detail);  // "http://[::1]:80/" */
 uint8_t irikit_replace_host(uint32_t grammar, const char *text, size_t len, const char *host, size_t host_len, char *out,
-                            size_t size, size_t *told);
+                            size_t size, size_t *detail);
 
 /* A reference with another host in place of a registered name (RFC 3986 section 3.2.2).
  *
  * Takes, writes: as irikit_replace_host.
  * Returns: as irikit_replace_host; IRIKIT_NO_HOST also where the text's host is an IP literal or an IPv4 address.
  *
- *   irikit_replace_reg_name(IRIKIT_URI, "//192.0.2.16/", 13, "a", 1, out, sizeof out, &told);  // IRIKIT_NO_HOST */
+ *   irikit_replace_reg_name(IRIKIT_URI, "//192.0.2.16/", 13, "a", 1, out, sizeof out, &detail);  // IRIKIT_NO_HOST */
 uint8_t irikit_replace_reg_name(uint32_t grammar, const char *text, size_t len, const char *host, size_t host_len, char *out,
-                                size_t size, size_t *told);
+                                size_t size, size_t *detail);
 
 /* The parts that a text is built from. */
 enum irikit_part {
@@ -477,15 +477,15 @@ struct irikit_given {
  *
  * Takes: the number of a grammar and of a kind; parts, in any order; a buffer.
  * Writes: the text to `out`. It has at most 7 bytes more than the texts of the parts together.
- * Returns: IRIKIT_UNKNOWN: a part; then IRIKIT_BAD_PART, told IRIKIT_INVALID_UTF8: a text isn't UTF-8, whatever grammar and kind
- * are; then IRIKIT_UNKNOWN: grammar or kind; then IRIKIT_BAD_PART: the parts make no text of the kind: told is the first faulty part's
+ * Returns: IRIKIT_UNKNOWN: a part; then IRIKIT_BAD_PART, `*detail` IRIKIT_INVALID_UTF8: a text isn't UTF-8, whatever grammar and kind
+ * are; then IRIKIT_UNKNOWN: grammar or kind; then IRIKIT_BAD_PART: the parts make no text of the kind: `*detail` is the first faulty part's
  * kind of fault, in the order of irikit_part, then what the kind refuses, then IRIKIT_INVALID_PATH for a path that can't stand there
  * (section 3.3); IRIKIT_SHORT; IRIKIT_OK.
  *
  *   struct irikit_given parts[] = {{IRIKIT_SCHEME, {"http", 4}}, {IRIKIT_HOST, {"a", 1}}, {IRIKIT_PATH, {"/b", 2}}};
- *   irikit_build(IRIKIT_URI, IRIKIT_WITH_SCHEME, parts, 3, out, sizeof out, &told);  // "http://a/b" */
+ *   irikit_build(IRIKIT_URI, IRIKIT_WITH_SCHEME, parts, 3, out, sizeof out, &detail);  // "http://a/b" */
 uint8_t irikit_build(uint32_t grammar, uint32_t kind, const struct irikit_given *parts, size_t count, char *out, size_t size,
-                     size_t *told);
+                     size_t *detail);
 
 /* ---- Many lines ---- */
 
@@ -494,16 +494,16 @@ uint8_t irikit_build(uint32_t grammar, uint32_t kind, const struct irikit_given 
  * Takes: the number of a grammar and of a mode; the base, an absolute-URI of the grammar; lines, each ended by an LF. One CR
  * before the LF isn't part of the reference; what follows the last LF is left alone. A buffer.
  * Writes: to `out`, the answers one after the other, each `ok TEXT` or `bad WORDS` and an LF, as far as there is room; to
- * `*told`, how many bytes the answers have that stand there whole; to `*consumed`, how many bytes of `lines` these answer,
+ * `*detail`, how many bytes the answers have that stand there whole; to `*consumed`, how many bytes of `lines` these answer,
  * LFs among them. So the next call goes on with `lines + *consumed`.
  * Returns: IRIKIT_OK: all lines are answered; IRIKIT_SHORT: the next answer has no room (one has at most the line's length +
- * base_len + 7 bytes, or 64); IRIKIT_BAD_BASE: `*told` is its first fault; IRIKIT_UNKNOWN: grammar or mode. At the last two
+ * base_len + 7 bytes, or 64); IRIKIT_BAD_BASE: `*detail` is its first fault; IRIKIT_UNKNOWN: grammar or mode. At the last two
  * `*consumed` is 0.
  *
- *   irikit_canonical_lines(IRIKIT_URI, IRIKIT_NORMAL, "http://a/b", 10, "c\n../d\n", 7, out, sizeof out, &consumed, &told);
- *   fwrite(out, 1, told, stdout);  // "ok http://a/c\nok http://a/d\n" */
+ *   irikit_canonical_lines(IRIKIT_URI, IRIKIT_NORMAL, "http://a/b", 10, "c\n../d\n", 7, out, sizeof out, &consumed, &detail);
+ *   fwrite(out, 1, detail, stdout);  // "ok http://a/c\nok http://a/d\n" */
 uint8_t irikit_canonical_lines(uint32_t grammar, uint32_t mode, const char *base, size_t base_len, const char *lines,
-                               size_t lines_len, char *out, size_t size, size_t *consumed, size_t *told);
+                               size_t lines_len, char *out, size_t size, size_t *consumed, size_t *detail);
 
 /* ---- Robots files ---- */
 
@@ -517,9 +517,9 @@ uint8_t irikit_canonical_lines(uint32_t grammar, uint32_t mode, const char *base
  * and in triplet normal form, as they are compared (section 2.2.2).
  * Returns: IRIKIT_OK; IRIKIT_SHORT; IRIKIT_BAD_TOKEN; IRIKIT_MEMORY.
  *
- *   irikit_robots_rules("bot", 3, "User-agent: *\nDisallow: /a # all\n", 33, out, sizeof out, &told);  // "disallow /a\n" */
+ *   irikit_robots_rules("bot", 3, "User-agent: *\nDisallow: /a # all\n", 33, out, sizeof out, &detail);  // "disallow /a\n" */
 uint8_t irikit_robots_rules(const char *token, size_t token_len, const char *file, size_t file_len, char *out, size_t size,
-                            size_t *told);
+                            size_t *detail);
 
 /* Whether rules allow a target: the longest pattern in bytes that matches its path and query decides, and an allow rule of patterns
  * that are equally long; what none matches is allowed, and `/robots.txt` always is (RFC 9309 section 2.2.2). `*` in a pattern matches
@@ -527,13 +527,13 @@ uint8_t irikit_robots_rules(const char *token, size_t token_len, const char *fil
  *
  * Takes: the number of a grammar; rules, a line each, as irikit_robots_rules writes them; the target, a URI of the grammar: what
  * irikit_canonical writes for a link. It takes memory.
- * Writes: nothing but `*told`.
+ * Writes: nothing but `*detail`.
  * Returns: IRIKIT_OK: they do; IRIKIT_DISALLOWED: they don't; IRIKIT_BAD_TEXT: the target is no URI; IRIKIT_UNKNOWN: grammar;
  * IRIKIT_MEMORY.
  *
- *   irikit_robots_allows(IRIKIT_URI, "disallow /a\n", 12, "http://h/b", 10, &told);   // IRIKIT_OK
- *   irikit_robots_allows(IRIKIT_URI, "disallow /a\n", 12, "http://h/ab", 11, &told);  // IRIKIT_DISALLOWED */
-uint8_t irikit_robots_allows(uint32_t grammar, const char *rules, size_t rules_len, const char *target, size_t len, size_t *told);
+ *   irikit_robots_allows(IRIKIT_URI, "disallow /a\n", 12, "http://h/b", 10, &detail);   // IRIKIT_OK
+ *   irikit_robots_allows(IRIKIT_URI, "disallow /a\n", 12, "http://h/ab", 11, &detail);  // IRIKIT_DISALLOWED */
+uint8_t irikit_robots_allows(uint32_t grammar, const char *rules, size_t rules_len, const char *target, size_t len, size_t *detail);
 
 /* ---- Run ---- */
 
@@ -554,12 +554,12 @@ enum irikit_run_status {
  * `--help` and `--version` take none.
  *
  * Takes: the words with one space between each two; the input; a buffer.
- * Writes: the output over the start of `out`; its length to `*told`, whatever the status is.
+ * Writes: the output over the start of `out`; its length in bytes to `*out_len`, whatever the status is.
  * Returns: one of irikit_run_status, which are the program's.
  *
- *   irikit_run("canon uri", 9, "http://a/b\n../c\n", 16, out, sizeof out, &told);  // "ok http://a/c\n" */
+ *   irikit_run("canon uri", 9, "http://a/b\n../c\n", 16, out, sizeof out, &out_len);  // "ok http://a/c\n" */
 uint8_t irikit_run(const char *words, size_t words_len, const char *input, size_t input_len, char *out, size_t size,
-                   size_t *told);
+                   size_t *out_len);
 
 #ifdef __cplusplus
 }

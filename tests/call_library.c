@@ -16,28 +16,28 @@ int main(int argc, char **argv)
 {
 	static char text[MOST], out[3 * MOST];
 	struct irikit_parts parts;
-	size_t told = 0, len = fread(text, 1, MOST, stdin);
+	size_t detail = 0, len = fread(text, 1, MOST, stdin);
 	if (argc != 3)
 		return 2;
 	uint32_t grammar = strcmp(argv[2], "iri") == 0 ? IRIKIT_IRI : IRIKIT_URI;
 	uint8_t status = IRIKIT_UNKNOWN;
 	const char *call = argv[1];
 	if (strcmp(call, "canonical") == 0)
-		status = irikit_canonical(grammar, IRIKIT_NORMAL, BASE, strlen(BASE), text, len, out, sizeof out, &told);
+		status = irikit_canonical(grammar, IRIKIT_NORMAL, BASE, strlen(BASE), text, len, out, sizeof out, &detail);
 	else if (strcmp(call, "canonical-base") == 0)
-		status = irikit_canonical(grammar, IRIKIT_NORMAL, text, len, REFERENCE, strlen(REFERENCE), out, sizeof out, &told);
+		status = irikit_canonical(grammar, IRIKIT_NORMAL, text, len, REFERENCE, strlen(REFERENCE), out, sizeof out, &detail);
 	else if (strcmp(call, "split") == 0)
-		status = irikit_split(grammar, text, len, &parts, &told);
+		status = irikit_split(grammar, text, len, &parts, &detail);
 	else if (strcmp(call, "is-normalized") == 0)
-		status = irikit_is_normalized(grammar, IRIKIT_NORMAL, text, len, &told);
+		status = irikit_is_normalized(grammar, IRIKIT_NORMAL, text, len, &detail);
 	else if (strcmp(call, "map") == 0)
-		status = irikit_map_to_uri(text, len, out, sizeof out, &told);
+		status = irikit_map_to_uri(text, len, out, sizeof out, &detail);
 	for (uint32_t kind = IRIKIT_REFERENCE; kind <= IRIKIT_RELATIVE; kind++)
 		if (strcmp(call, KINDS[kind - IRIKIT_REFERENCE]) == 0)
-			status = irikit_validate(grammar, kind, text, len, &told);
+			status = irikit_validate(grammar, kind, text, len, &detail);
 	if (status == IRIKIT_UNKNOWN || status == IRIKIT_SHORT)
 		return 2;
 	if (status == IRIKIT_OK && (strncmp(call, "canonical", 9) == 0 || strcmp(call, "map") == 0))
-		fwrite(out, 1, told, stdout);
+		fwrite(out, 1, detail, stdout);
 	return 0;
 }

@@ -52,8 +52,8 @@ static unsigned long long number(const char *side, const char *what)
 {
 	char name[32];
 	snprintf(name, sizeof name, "%s_%s", side, what);
-	const char *told = getenv(name);
-	return told ? strtoull(told, NULL, 10) : 0;
+	const char *detail = getenv(name);
+	return detail ? strtoull(detail, NULL, 10) : 0;
 }
 
 __attribute__((constructor)) static void begin(void)

@@ -33,7 +33,7 @@ const char *placed(enum slot slot, struct text text);
 /* An answer: its text, or what stood in the buffer. */
 struct answer {
 	uint8_t status;
-	size_t told;
+	size_t detail;
 	struct text out;
 };
 
@@ -55,7 +55,7 @@ size_t fewer(struct text text);
 #define WRITES(text, call, ...) \
 	(is_text(ANSWERED(call, (text).len, __VA_ARGS__), text) && is_beginning(ANSWERED(call, fewer(text), __VA_ARGS__), text))
 
-int is_answer(struct answer answer, uint8_t status, size_t told);
+int is_answer(struct answer answer, uint8_t status, size_t detail);
 int is_text(struct answer answer, struct text text);
 int is_beginning(struct answer answer, struct text text);
 

@@ -46,7 +46,7 @@ void fill(size_t size)
 struct answer answered(uint8_t status, size_t size)
 {
 	struct answer answer = {status, *TOLD_PLACE, {place(OUT, size), size}};
-	size_t written = status == IRIKIT_OK || status == IRIKIT_SHORT ? answer.told : 0;
+	size_t written = status == IRIKIT_OK || status == IRIKIT_SHORT ? answer.detail : 0;
 	holds((status == IRIKIT_SHORT) == (written > size), "a text is short where its buffer is");
 	for (size_t i = written; i < looked_at(size); i++)
 		holds(answer.out.at[i] == '.', "what is after a text stays");
@@ -59,9 +59,9 @@ size_t fewer(struct text text)
 	return text.len ? mixed(sizes, text.len) % text.len : 0;
 }
 
-int is_answer(struct answer answer, uint8_t status, size_t told)
+int is_answer(struct answer answer, uint8_t status, size_t detail)
 {
-	return answer.status == status && answer.told == told;
+	return answer.status == status && answer.detail == detail;
 }
 
 int is_text(struct answer answer, struct text text)

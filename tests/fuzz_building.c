@@ -124,14 +124,14 @@ void check_building(struct input input)
 	struct given given = read_parts(text);
 	struct answer wanted = first_fault(grammar, kind, &given);
 	struct text whole = recomposed(&to, given.last);
-	tell(mixed(wanted.status, wanted.told), whole);
+	tell(mixed(wanted.status, wanted.detail), whole);
 	read_parts(text);
 #define BUILT (const struct irikit_given *)place(PARTS, given.count * sizeof (struct irikit_given)), given.count
 	if (wanted.status == IRIKIT_OK) {
 		holds(WRITES(whole, irikit_build, grammar, kind, BUILT), "the text of parts");
 		holds(validated(grammar, kind, whole).status == IRIKIT_OK, "the text of parts is of its kind");
 	} else {
-		holds(is_answer(ANSWERED(irikit_build, whole.len, grammar, kind, BUILT), wanted.status, wanted.told), "parts that make no text");
+		holds(is_answer(ANSWERED(irikit_build, whole.len, grammar, kind, BUILT), wanted.status, wanted.detail), "parts that make no text");
 	}
 	free(to.at);
 	free(copy.at);

@@ -16,24 +16,24 @@ static struct text spliced(struct bytes *to, struct text text, const uint8_t *un
 	return (struct text){to->at, to->len};
 }
 
-/* What an edit comes to: a status, and what is told or the text. */
+/* What an edit comes to: a status, and its detail or the text. */
 struct edited {
 	uint8_t status;
-	size_t told;
+	size_t detail;
 	struct text text;
 };
 
 /* Whether an edit with a text for a part, or without one, answers so, in buffers of any size. */
-typedef uint8_t edit(uint32_t grammar, const char *text, size_t len, char *out, size_t size, size_t *told);
+typedef uint8_t edit(uint32_t grammar, const char *text, size_t len, char *out, size_t size, size_t *detail);
 typedef uint8_t edit_by(uint32_t grammar, const char *text, size_t len, const char *part, size_t part_len, char *out, size_t size,
-                        size_t *told);
+                        size_t *detail);
 
 static void check_edit(edit *call, uint32_t grammar, struct text text, struct edited wanted, const char *property)
 {
 	if (wanted.status == IRIKIT_OK)
 		holds(WRITES(wanted.text, call, grammar, placed(REFERENCE, text), text.len), property);
 	else
-		holds(is_answer(EDITED(call, text.len, grammar, text), wanted.status, wanted.told), property);
+		holds(is_answer(EDITED(call, text.len, grammar, text), wanted.status, wanted.detail), property);
 }
 
 static void check_edit_by(edit_by *call, uint32_t grammar, struct text text, struct text part, struct edited wanted,
@@ -42,19 +42,19 @@ static void check_edit_by(edit_by *call, uint32_t grammar, struct text text, str
 	if (wanted.status == IRIKIT_OK)
 		holds(WRITES(wanted.text, call, grammar, placed(REFERENCE, text), text.len, placed(BASE, part), part.len), property);
 	else
-		holds(is_answer(EDITED_BY(call, text.len, grammar, text, part), wanted.status, wanted.told), property);
+		holds(is_answer(EDITED_BY(call, text.len, grammar, text, part), wanted.status, wanted.detail), property);
 }
 
-static struct edited refused(uint8_t status, size_t told)
+static struct edited refused(uint8_t status, size_t detail)
 {
-	return (struct edited){status, told, {0}};
+	return (struct edited){status, detail, {0}};
 }
 
 /* What a text is refused with by each edit; the status is IRIKIT_OK where it isn't. */
 static struct edited of_text(uint32_t grammar, struct text text)
 {
 	struct answer answer = validated(grammar, IRIKIT_REFERENCE, text);
-	return refused(answer.status, answer.told);
+	return refused(answer.status, answer.detail);
 }
 
 /* The edits of the password: what is after the first colon of the userinfo. */
@@ -87,7 +87,7 @@ static void check_fragment(uint32_t grammar, struct text text, struct text part)
 	put_text(&whole, part);
 	struct answer of = validated(grammar, IRIKIT_REFERENCE, (struct text){whole.at, whole.len});
 	if (wanted.status == IRIKIT_OK && of.status != IRIKIT_OK)
-		wanted = refused(IRIKIT_BAD_PART, of.told);
+		wanted = refused(IRIKIT_BAD_PART, of.detail);
 	wanted.text = spliced(&to, text, hash ? hash : end, (struct text){whole.at, whole.len}, end);
 	check_edit_by(irikit_set_fragment, grammar, text, part, wanted, "a text with another fragment");
 	free(to.at);

@@ -81,7 +81,7 @@ static void do_step(struct bytes *text, const char *step, struct text form)
 	}
 }
 
-/* The steps that are told lead to the normal form. */
+/* The steps that are written lead to the normal form. */
 static void check_steps(uint32_t grammar, uint32_t mode, struct text text, struct text form)
 {
 	struct bytes done = {0}, to = {0};
@@ -136,13 +136,13 @@ static void check_mode(uint32_t grammar, uint32_t mode, struct text text)
 		return;
 	}
 	int status = known ? IRIKIT_BAD_TEXT : IRIKIT_UNKNOWN;
-	size_t told = known ? uri.told : 0;
+	size_t detail = known ? uri.detail : 0;
 	struct answer answer = TESTED(irikit_is_normalized, grammar, mode, placed(REFERENCE, text), text.len);
-	holds(is_answer(answer, status, told), "what isn't tested");
-	holds(is_answer(FORM(irikit_normalize, text.len, grammar, mode, text), status, told), "what has no normal form");
+	holds(is_answer(answer, status, detail), "what isn't tested");
+	holds(is_answer(FORM(irikit_normalize, text.len, grammar, mode, text), status, detail), "what has no normal form");
 	if (mode == IRIKIT_PRESERVING)
-		status = IRIKIT_UNKNOWN, told = 0;
-	holds(is_answer(FORM(irikit_steps, text.len, grammar, mode, text), status, told), "what has no steps");
+		status = IRIKIT_UNKNOWN, detail = 0;
+	holds(is_answer(FORM(irikit_steps, text.len, grammar, mode, text), status, detail), "what has no steps");
 }
 
 #define PLACES (IRIKIT_IN_REFERENCE - IRIKIT_IN_REG_NAME + 1)

@@ -8,10 +8,10 @@ struct question {
 	struct text base, lines;
 };
 
-static uint8_t call(const struct question *asked, struct text lines, char *out, size_t size, size_t *told)
+static uint8_t call(const struct question *asked, struct text lines, char *out, size_t size, size_t *detail)
 {
 	return irikit_canonical_lines(asked->grammar, asked->mode, placed(BASE, asked->base), asked->base.len, placed(REFERENCE, lines),
-	                              lines.len, out, size, TOLD_TOO_PLACE, told);
+	                              lines.len, out, size, TOLD_TOO_PLACE, detail);
 }
 
 /* The answers to lines that an LF ends, by the call for one. */
@@ -27,7 +27,7 @@ static void put_answers(const struct question *asked, struct bytes *answers)
 			put_text(answers, answer.out);
 		} else {
 			holds(answer.status == IRIKIT_BAD_REFERENCE, "the answer of a line");
-			size_t fault = answer.told;
+			size_t fault = answer.detail;
 			put_word(answers, "bad ");
 			put_text(answers, ANSWERED(irikit_fault_words, 64, fault).out);
 		}
@@ -51,16 +51,16 @@ static size_t count_of(struct text text)
 	return count;
 }
 
-/* One call in a buffer of a size: the answers that have room stand whole and are told, with as many lines. */
+/* One call in a buffer of a size: the answers that have room stand whole and are counted, with as many lines. */
 static size_t check_call(const struct question *asked, struct text lines, struct text answers, size_t size)
 {
 	fill(size);
 	uint8_t status = call(asked, lines, (char *)place(OUT, size), size, TOLD_PLACE);
-	size_t told = *TOLD_PLACE, consumed = *TOLD_TOO_PLACE, written = size < answers.len ? size : answers.len;
+	size_t detail = *TOLD_PLACE, consumed = *TOLD_TOO_PLACE, written = size < answers.len ? size : answers.len;
 	holds(status == (size < answers.len ? IRIKIT_SHORT : IRIKIT_OK), "how many lines end");
-	holds(told == whole_lines(answers, written), "the answers that are told stand whole");
+	holds(detail == whole_lines(answers, written), "the answers that are counted stand whole");
 	holds(consumed <= lines.len && (!consumed || lines.at[consumed - 1] == '\n'), "lines are consumed whole");
-	holds(count_of((struct text){lines.at, consumed}) == count_of((struct text){answers.at, told}), "each line has its answer");
+	holds(count_of((struct text){lines.at, consumed}) == count_of((struct text){answers.at, detail}), "each line has its answer");
 	holds(!written || !memcmp(place(OUT, size), answers.at, written), "the answers of many lines");
 	for (size_t i = written; i < size; i++)
 		holds(place(OUT, size)[i] == '.', "what is after the answers stays");
@@ -95,7 +95,7 @@ void check_lines(struct input input)
 		check_calls(&asked, (struct text){to.at, to.len});
 	} else {
 		struct answer answer = ANSWERED(call, 9, &asked, asked.lines);
-		holds(is_answer(answer, known ? IRIKIT_BAD_BASE : IRIKIT_UNKNOWN, known ? base.told : 0), "lines that are refused");
+		holds(is_answer(answer, known ? IRIKIT_BAD_BASE : IRIKIT_UNKNOWN, known ? base.detail : 0), "lines that are refused");
 		holds(!*TOLD_TOO_PLACE, "no lines are consumed that are refused");
 	}
 	free(to.at);

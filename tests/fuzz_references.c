@@ -13,12 +13,12 @@ static void check_kinds(uint32_t grammar, struct text text)
 	int is = reference.status == IRIKIT_OK, has_scheme = uri.status == IRIKIT_OK;
 	size_t no_scheme = text.len && memchr(text.at, ':', text.len) ? IRIKIT_INVALID_SCHEME : IRIKIT_UNEXPECTED_RELATIVE;
 	struct parts parts = is ? split(text) : (struct parts){0};
-	tell(reference.told, WORD("a"));
-	tell(uri.told, WORD("b"));
+	tell(reference.detail, WORD("a"));
+	tell(uri.detail, WORD("b"));
 	holds(has_scheme == (is && parts.scheme.at), "a reference is a URI where it has a scheme");
 	holds((relative.status == IRIKIT_OK) == (is && !parts.scheme.at), "a reference is relative where it has none");
 	holds((absolute.status == IRIKIT_OK) == (has_scheme && !parts.fragment.at), "a URI is absolute where it has no fragment");
-	holds(is || reference.told < IRIKIT_UNEXPECTED_FRAGMENT || reference.told == IRIKIT_INVALID_UTF8,
+	holds(is || reference.detail < IRIKIT_UNEXPECTED_FRAGMENT || reference.detail == IRIKIT_INVALID_UTF8,
 	      "the fault of a reference");
 	holds(!has_scheme || absolute.status == IRIKIT_OK || is_answer(absolute, IRIKIT_BAD_TEXT, IRIKIT_UNEXPECTED_FRAGMENT),
 	      "the fault of a URI with a fragment as an absolute one");
@@ -48,11 +48,11 @@ static void check_parts(uint32_t grammar, struct text text)
 	memset(parts, '.', sizeof *parts);
 	struct answer reference = validated(grammar, IRIKIT_REFERENCE, text);
 	struct answer answer = TESTED(irikit_split, grammar, placed(REFERENCE, text), text.len, parts);
-	holds(is_answer(answer, reference.status, reference.told), "a split is that of a reference");
+	holds(is_answer(answer, reference.status, reference.detail), "a split is that of a reference");
 	if (answer.status != IRIKIT_OK) {
 		for (size_t i = 0; i < sizeof *parts; i++)
 			holds(((uint8_t *)parts)[i] == '.', "the parts of what is no reference stay");
-		check_fault_part(answer.told, text);
+		check_fault_part(answer.detail, text);
 		return;
 	}
 	struct parts wanted = split(text);
@@ -71,7 +71,7 @@ static void check_mapping(struct text text)
 	struct text wanted = mapped(text, &to);
 	if (reference.status != IRIKIT_OK) {
 		struct answer answer = ANSWERED(irikit_map_to_uri, wanted.len, placed(REFERENCE, text), text.len);
-		holds(is_answer(answer, reference.status, reference.told), "what is no reference isn't mapped");
+		holds(is_answer(answer, reference.status, reference.detail), "what is no reference isn't mapped");
 	} else {
 		holds(WRITES(wanted, irikit_map_to_uri, placed(REFERENCE, text), text.len), "the text of a mapping");
 		holds(validated(IRIKIT_URI, IRIKIT_REFERENCE, wanted).status == IRIKIT_OK, "a mapped reference is one of URIs");
@@ -87,10 +87,10 @@ static void check_numbers(uint8_t number, struct text text)
 	if (!is_one_of(fault, IRIKIT_INVALID_SCHEME, IRIKIT_INVALID_UTF8)) {
 		holds(is_answer(words, IRIKIT_UNKNOWN, 0), "the words of a fault that is none");
 	} else {
-		holds(words.status == IRIKIT_OK && words.told, "the words of a fault");
-		size_t told = words.told, size = text.len % told;
+		holds(words.status == IRIKIT_OK && words.detail, "the words of a fault");
+		size_t detail = words.detail, size = text.len % detail;
 		words = ANSWERED(irikit_fault_words, size, fault);
-		holds(is_answer(words, IRIKIT_SHORT, told), "the words of a fault in a shorter buffer");
+		holds(is_answer(words, IRIKIT_SHORT, detail), "the words of a fault in a shorter buffer");
 	}
 	holds(is_answer(canonical(none, IRIKIT_NORMAL, text, text, 9), IRIKIT_UNKNOWN, 0), "a grammar that is none");
 	holds(is_answer(validated(none, IRIKIT_REFERENCE, text), IRIKIT_UNKNOWN, 0), "a grammar of a test that is none");
@@ -133,9 +133,9 @@ static void check_canonical(const struct reading *reading, struct text reference
 	struct bytes text = {0};
 	tell(answer.status, answer.out);
 	if (base.status != IRIKIT_OK) {
-		holds(is_answer(answer, IRIKIT_BAD_BASE, base.told), "a base that is refused");
+		holds(is_answer(answer, IRIKIT_BAD_BASE, base.detail), "a base that is refused");
 	} else if (of.status != IRIKIT_OK) {
-		holds(is_answer(answer, IRIKIT_BAD_REFERENCE, of.told), "a reference that is refused");
+		holds(is_answer(answer, IRIKIT_BAD_REFERENCE, of.detail), "a reference that is refused");
 	} else {
 		holds(answer.status == IRIKIT_OK, "at most three bytes more than base and reference");
 		put_text(&text, answer.out);
@@ -202,10 +202,10 @@ static void check_resolution(uint32_t grammar, struct text base, struct text ref
 	struct answer target = RESOLVED(irikit_target, grammar, base, reference, most);
 	struct answer answer = RESOLVED(irikit_resolve, grammar, base, reference, most);
 	if (of_base.status != IRIKIT_OK) {
-		holds(is_answer(answer, IRIKIT_BAD_BASE, of_base.told) && is_answer(target, IRIKIT_BAD_BASE, of_base.told), "a base that is refused");
+		holds(is_answer(answer, IRIKIT_BAD_BASE, of_base.detail) && is_answer(target, IRIKIT_BAD_BASE, of_base.detail), "a base that is refused");
 	} else if (of.status != IRIKIT_OK) {
-		holds(is_answer(answer, IRIKIT_BAD_REFERENCE, of.told), "a reference that isn't resolved");
-		holds(is_answer(target, IRIKIT_BAD_REFERENCE, of.told), "a reference that has no target");
+		holds(is_answer(answer, IRIKIT_BAD_REFERENCE, of.detail), "a reference that isn't resolved");
+		holds(is_answer(target, IRIKIT_BAD_REFERENCE, of.detail), "a reference that has no target");
 	} else {
 		holds(answer.status == IRIKIT_OK, "at most three bytes more than base and reference");
 		check_resolved(grammar, base, reference, kept(&resolved, answer.out));

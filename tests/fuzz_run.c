@@ -13,24 +13,24 @@ static uint8_t run_with(const char *words, struct text input, size_t size)
 static void check_output(const char *words, struct text input, struct bytes *output)
 {
 	uint8_t status = run_with(words, input, ROOM);
-	size_t told = *TOLD_PLACE;
-	struct text wanted = kept(output, (struct text){place(OUT, ROOM), told});
+	size_t out_len = *TOLD_PLACE;
+	struct text wanted = kept(output, (struct text){place(OUT, ROOM), out_len});
 	tell(status, wanted);
-	holds(status <= IRIKIT_RUN_BAD_BASE || (status == IRIKIT_RUN_SHORT && told <= ROOM), "how a run ends");
-	holds(status != IRIKIT_RUN_NO_COMMAND || !told, "what is no command writes nothing");
+	holds(status <= IRIKIT_RUN_BAD_BASE || (status == IRIKIT_RUN_SHORT && out_len <= ROOM), "how a run ends");
+	holds(status != IRIKIT_RUN_NO_COMMAND || !out_len, "what is no command writes nothing");
 	if (status == IRIKIT_RUN_SHORT)
 		return;
-	holds(run_with(words, input, told) == status && *TOLD_PLACE == told, "a run in a buffer of its length");
-	holds(is_same((struct text){place(OUT, told), told}, wanted), "the output of a run");
+	holds(run_with(words, input, out_len) == status && *TOLD_PLACE == out_len, "a run in a buffer of its length");
+	holds(is_same((struct text){place(OUT, out_len), out_len}, wanted), "the output of a run");
 	size_t size = fewer(wanted);
-	holds(!told || run_with(words, input, size) == IRIKIT_RUN_SHORT, "a run in a shorter buffer");
-	holds(!told || (*TOLD_PLACE <= size && !memcmp(place(OUT, size), wanted.at, *TOLD_PLACE)), "a run's output begins as ever");
+	holds(!out_len || run_with(words, input, size) == IRIKIT_RUN_SHORT, "a run in a shorter buffer");
+	holds(!out_len || (*TOLD_PLACE <= size && !memcmp(place(OUT, size), wanted.at, *TOLD_PLACE)), "a run's output begins as ever");
 }
 
-static uint8_t answer_lines(int grammar, struct text base, struct text lines, char *out, size_t size, size_t *told)
+static uint8_t answer_lines(int grammar, struct text base, struct text lines, char *out, size_t size, size_t *out_len)
 {
 	return irikit_canonical_lines(grammar, IRIKIT_NORMAL, placed(BASE, base), base.len, placed(REFERENCE, lines), lines.len, out, size,
-	                              TOLD_TOO_PLACE, told);
+	                              TOLD_TOO_PLACE, out_len);
 }
 
 /* `canon` answers what the call for many lines answers, if the base is taken and an LF ends the last line. */

@@ -69,10 +69,10 @@ static struct variables read_variables(struct text text)
 	return is;
 }
 
-static uint8_t expand(uint32_t grammar, struct text text, const struct variables *variables, char *out, size_t size, size_t *told)
+static uint8_t expand(uint32_t grammar, struct text text, const struct variables *variables, char *out, size_t size, size_t *detail)
 {
 	const struct irikit_variable *passed = (const struct irikit_variable *)place(PARTS, variables->count * sizeof *passed);
-	return irikit_expand(grammar, placed(REFERENCE, text), text.len, passed, variables->count, out, size, told, TOLD_TOO_PLACE);
+	return irikit_expand(grammar, placed(REFERENCE, text), text.len, passed, variables->count, out, size, detail, TOLD_TOO_PLACE);
 }
 
 /* That names stand in a text one after the other, and have what a name has (RFC 6570 section 2.3). */
@@ -94,21 +94,21 @@ static struct answer check_variables(struct text text)
 	struct irikit_slot *names = (struct irikit_slot *)place(OUT, size);
 	fill(size);
 	uint8_t status = irikit_template_variables(placed(REFERENCE, text), text.len, names, most, TOLD_PLACE, TOLD_TOO_PLACE);
-	size_t told = *TOLD_PLACE, where = *TOLD_TOO_PLACE, written = status == IRIKIT_OK ? told * sizeof *names : 0;
-	struct answer fault = {status, status == IRIKIT_OK ? 0 : told, {text.at, status == IRIKIT_OK ? 0 : where}};
+	size_t detail = *TOLD_PLACE, where = *TOLD_TOO_PLACE, written = status == IRIKIT_OK ? detail * sizeof *names : 0;
+	struct answer fault = {status, status == IRIKIT_OK ? 0 : detail, {text.at, status == IRIKIT_OK ? 0 : where}};
 	struct bytes kept = {0};
-	int refused = status == IRIKIT_BAD_TEXT && IS_FAULT(told) && where <= text.len;
-	holds(status == IRIKIT_OK ? told <= most && !where : refused, "how names are told");
+	int refused = status == IRIKIT_BAD_TEXT && IS_FAULT(detail) && where <= text.len;
+	holds(status == IRIKIT_OK ? detail <= most && !where : refused, "how names are counted");
 	for (size_t i = written; i < size; i++)
 		holds(((uint8_t *)names)[i] == '.', "slots after the names stay");
 	if (status == IRIKIT_OK)
-		check_names(text, names, told);
+		check_names(text, names, detail);
 	put(&kept, names, written);
-	few = few < told ? few : told;
+	few = few < detail ? few : detail;
 	names = (struct irikit_slot *)place(OUT, few * sizeof *names);
 	uint8_t again = irikit_template_variables(placed(REFERENCE, text), text.len, names, few, TOLD_PLACE, TOLD_TOO_PLACE);
-	holds(status != IRIKIT_OK || again == (few < told ? IRIKIT_SHORT : IRIKIT_OK), "names in fewer slots");
-	holds(status != IRIKIT_OK || (*TOLD_PLACE == told && !memcmp(names, kept.at, few * sizeof *names)), "the first names");
+	holds(status != IRIKIT_OK || again == (few < detail ? IRIKIT_SHORT : IRIKIT_OK), "names in fewer slots");
+	holds(status != IRIKIT_OK || (*TOLD_PLACE == detail && !memcmp(names, kept.at, few * sizeof *names)), "the first names");
 	free(kept.at);
 	return fault;
 }
@@ -152,11 +152,11 @@ static void check_words(uint8_t number, struct text text)
 {
 	size_t fault = IRIKIT_EXPRESSION_NOT_CLOSED - 1 + number;
 	struct answer words = ANSWERED(irikit_template_fault_words, 64, fault);
-	holds(IS_FAULT(fault) ? words.status == IRIKIT_OK && words.told : is_answer(words, IRIKIT_UNKNOWN, 0), "the words of a fault");
+	holds(IS_FAULT(fault) ? words.status == IRIKIT_OK && words.detail : is_answer(words, IRIKIT_UNKNOWN, 0), "the words of a fault");
 	if (IS_FAULT(fault)) {
-		size_t told = words.told;
-		words = ANSWERED(irikit_template_fault_words, text.len % told, fault);
-		holds(is_answer(words, IRIKIT_SHORT, told), "the words of a fault in a shorter buffer");
+		size_t detail = words.detail;
+		words = ANSWERED(irikit_template_fault_words, text.len % detail, fault);
+		holds(is_answer(words, IRIKIT_SHORT, detail), "the words of a fault in a shorter buffer");
 	}
 }
 
@@ -167,7 +167,7 @@ void check_templates(struct input input)
 	struct text text = input.one.at ? input.one : input.other, lines = input.one.at ? input.other : WORD("");
 	struct answer fault = check_variables(text), answer;
 	struct variables variables = read_variables(lines);
-	tell(mixed(fault.status, fault.told), text);
+	tell(mixed(fault.status, fault.detail), text);
 	check_words(number, text);
 	answer = ANSWERED(expand, ROOM, grammar, text, &variables);
 	size_t where = *TOLD_TOO_PLACE;
@@ -176,7 +176,7 @@ void check_templates(struct input input)
 	else if (!IS_GRAMMAR(grammar))
 		holds(is_answer(answer, IRIKIT_UNKNOWN, 0) && !where, "a grammar that is none");
 	else if (fault.status == IRIKIT_BAD_TEXT)
-		holds(is_answer(answer, IRIKIT_BAD_TEXT, fault.told) && where == fault.out.len, "a template that is refused");
+		holds(is_answer(answer, IRIKIT_BAD_TEXT, fault.detail) && where == fault.out.len, "a template that is refused");
 	else
 		check_expansion(text, &variables);
 }

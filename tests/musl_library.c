@@ -7,7 +7,7 @@
 
 int main(int argc, char **argv) {
   char out[1024];
-  size_t told = 0;
+  size_t detail = 0;
   void *library = argc == 4 ? dlopen(argv[1], RTLD_NOW) : NULL;
   if (library == NULL) {
     return printf("%s\n", argc == 4 ? dlerror() : "usage: musl_library LIBRARY BASE LINK"), 2;
@@ -17,7 +17,7 @@ int main(int argc, char **argv) {
   if (canonical == NULL) {
     return printf("%s\n", dlerror()), 2;
   }
-  uint8_t status = canonical(IRIKIT_URI, IRIKIT_NORMAL, argv[2], strlen(argv[2]), argv[3], strlen(argv[3]), out, sizeof out, &told);
-  printf("%.*s\n", (int)told, out);
+  uint8_t status = canonical(IRIKIT_URI, IRIKIT_NORMAL, argv[2], strlen(argv[2]), argv[3], strlen(argv[3]), out, sizeof out, &detail);
+  printf("%.*s\n", (int)detail, out);
   return status;
 }

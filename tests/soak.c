@@ -114,10 +114,10 @@ static struct entry *slot_of(struct entry *slots, struct text text)
 static void ask_entries(struct soak *soak, struct asked *asked, struct entry **order, size_t count)
 {
 	for (size_t i = 0; i < count; i++) {
-		char told[32];
+		char detail[32];
 		struct bytes wanted = {0};
-		snprintf(told, sizeof told, "%zu ", i + 1);
-		put_word(&wanted, told);
+		snprintf(detail, sizeof detail, "%zu ", i + 1);
+		put_word(&wanted, detail);
 		put(&wanted, order[i]->lines.at, order[i]->lines.len - 1);
 		put_byte(&wanted, ' ');
 		put_text(&wanted, order[i]->text);
@@ -134,7 +134,7 @@ static void check_register(struct soak *soak)
 	struct entry *slots = calloc(SLOTS, sizeof *slots), **order = taken(NULL, (soak->count + 1) * sizeof *order);
 	struct bytes other = {0};
 	size_t count = 0;
-	char told[64];
+	char detail[64];
 	for (size_t i = 0, number = 2; i < soak->count; i++, number++) {
 		struct text answer = soak->answers[i];
 		if (!is_good(answer)) {
@@ -147,14 +147,14 @@ static void check_register(struct soak *soak)
 			*entry = (struct entry){text_of(answer), {0}, count + 1};
 			order[count++] = entry;
 		}
-		put(&entry->lines, told, snprintf(told, sizeof told, "%zu,", number));
-		int len = snprintf(told, sizeof told, "%s %zu", is_new ? "new" : "old", entry->place);
-		ask(soak, &asked, "a ", soak->lines[i], (struct text){(uint8_t *)told, len}, "register takes lines with one text for one link");
+		put(&entry->lines, detail, snprintf(detail, sizeof detail, "%zu,", number));
+		int len = snprintf(detail, sizeof detail, "%s %zu", is_new ? "new" : "old", entry->place);
+		ask(soak, &asked, "a ", soak->lines[i], (struct text){(uint8_t *)detail, len}, "register takes lines with one text for one link");
 		if (below(&soak->spelling, 4) == 0) {
 			other.len = 0;
 			put_spelling(&soak->spelling, &soak->reading, soak->lines[i], &other);
-			len = snprintf(told, sizeof told, "at %zu", entry->place);
-			ask(soak, &asked, "f ", (struct text){other.at, other.len}, (struct text){(uint8_t *)told, len}, "register finds another spelling");
+			len = snprintf(detail, sizeof detail, "at %zu", entry->place);
+			ask(soak, &asked, "f ", (struct text){other.at, other.len}, (struct text){(uint8_t *)detail, len}, "register finds another spelling");
 			number++;
 		}
 	}
@@ -167,11 +167,11 @@ static void check_register(struct soak *soak)
 
 #ifdef LIBRARY
 /* The answer of the library for C to a line, with a buffer of a size. */
-static uint8_t called(const struct soak *soak, struct text line, uint8_t *out, size_t size, size_t *told)
+static uint8_t called(const struct soak *soak, struct text line, uint8_t *out, size_t size, size_t *detail)
 {
 	struct text base = soak->reading.base;
 	return irikit_canonical(GRAMMAR(soak->reading), IRIKIT_NORMAL, (const char *)base.at, base.len, (const char *)line.at, line.len,
-	                        (char *)out, size, told);
+	                        (char *)out, size, detail);
 }
 
 /* The library for C has the program's text, in a buffer of its length and in a shorter one, and the program's words. */
@@ -179,18 +179,18 @@ static void check_library(struct soak *soak)
 {
 	for (size_t i = 0; i < soak->count; i++) {
 		struct text answer = soak->answers[i], line = soak->lines[i], text = is_good(answer) ? text_of(answer) : (struct text){0};
-		size_t told = 0, size = text.len ? below(&soak->spelling, text.len) : 0, words = 0;
+		size_t detail = 0, size = text.len ? below(&soak->spelling, text.len) : 0, words = 0;
 		uint8_t *out = taken(NULL, text.len + 1), *few = taken(NULL, size + 1), fault_words[64] = "bad ";
-		uint8_t status = called(soak, line, out, text.len, &told);
+		uint8_t status = called(soak, line, out, text.len, &detail);
 		if (is_good(answer)) {
-			if (status != IRIKIT_OK || !is_same(text, (struct text){out, told}))
-				fault(soak, "the library's text", soak->reading.base, line, text, (struct text){out, told < text.len ? told : text.len});
-			if (called(soak, line, few, size, &told) != IRIKIT_SHORT || told != text.len || memcmp(few, out, size))
+			if (status != IRIKIT_OK || !is_same(text, (struct text){out, detail}))
+				fault(soak, "the library's text", soak->reading.base, line, text, (struct text){out, detail < text.len ? detail : text.len});
+			if (called(soak, line, few, size, &detail) != IRIKIT_SHORT || detail != text.len || memcmp(few, out, size))
 				fault(soak, "the library's text in a shorter buffer", soak->reading.base, line, text, (struct text){few, size});
-			if (irikit_is_normalized(GRAMMAR(soak->reading), IRIKIT_NORMAL, (const char *)text.at, text.len, &told) != IRIKIT_OK)
+			if (irikit_is_normalized(GRAMMAR(soak->reading), IRIKIT_NORMAL, (const char *)text.at, text.len, &detail) != IRIKIT_OK)
 				fault(soak, "an answer is in normal form by the library", soak->reading.base, line, text, text);
 		} else {
-			irikit_fault_words(told, (char *)fault_words + 4, sizeof fault_words - 4, &words);
+			irikit_fault_words(detail, (char *)fault_words + 4, sizeof fault_words - 4, &words);
 			if (status != IRIKIT_BAD_REFERENCE || !is_same(answer, (struct text){fault_words, words + 4}))
 				fault(soak, "the library's fault", soak->reading.base, line, answer, (struct text){fault_words, words + 4});
 		}

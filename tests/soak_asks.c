@@ -143,9 +143,9 @@ void check(struct soak *soak, struct asked *asked, struct text base, const char 
 			fault(soak, row->property, base, line, wanted, got);
 	}
 	if (output.status != bad || output.count != asked->count) {
-		char told[99];
-		int len = snprintf(told, sizeof told, "status %d, %zu lines of %zu", output.status, output.count, asked->count);
-		fault(soak, "status and number of answers", base, WORD(""), WORD(""), (struct text){(uint8_t *)told, len});
+		char detail[99];
+		int len = snprintf(detail, sizeof detail, "status %d, %zu lines of %zu", output.status, output.count, asked->count);
+		fault(soak, "status and number of answers", base, WORD(""), WORD(""), (struct text){(uint8_t *)detail, len});
 	}
 	soak->asked += asked->count;
 	free(output.at);

@@ -1,7 +1,7 @@
 // Canonical texts of URI and IRI references, by the proved library as a WebAssembly module. One file for browsers and Node;
 // irikit.d.ts has the types, and says what each call does.
 //
-// A text crosses as UTF-8 in the module's own memory, after what the module itself uses there: first come `told` (8 bytes) and
+// A text crosses as UTF-8 in the module's own memory, after what the module itself uses there: first come `detail` (8 bytes) and
 // the parts of a split (128), whose first 8 bytes are also what some calls tell besides; then the base, or another text that comes
 // first, which stays for the next call; then another text, or structs and their texts; and last, up to the memory's end, what is
 // written. Each has its place, which moves only where one needs more room.
@@ -138,7 +138,7 @@ const linesOf = (text) => text.split("\n").slice(0, -1);
 const eights = (bytes) => 8 * Math.ceil(bytes / 8);
 
 class Kit {
-  #calls; #memory; #pages; #start; #told; #slots;
+  #calls; #memory; #pages; #start; #detail; #slots;
   #base; #baseLen; #baseRoom = 0; #textRoom = 0; #outRoom = 0;
   #bytes; #words; #cells; #baseAt; #textAt; #outAt; #outSize; #baseBytes; #textBytes; #out;
 
@@ -148,8 +148,8 @@ class Kit {
     // A memory of 64-bit addresses counts its pages by BigInts.
     try { this.#memory.grow(0n); this.#pages = BigInt; } catch { this.#pages = Number; }
     this.#start = eights(Number(calls.__heap_base.value));
-    this.#told = BigInt(this.#start);
-    this.#slots = this.#told + 8n;
+    this.#detail = BigInt(this.#start);
+    this.#slots = this.#detail + 8n;
     this.#room(4096, 12288);
   }
 
@@ -223,10 +223,10 @@ class Kit {
   // Runs a call that writes a text, and where it wants more room runs it again: what stands before the buffer comes first. The
   // last number is for those that tell a place; others aren't handed it.
   #run(call, ...before) {
-    const status = call(...before, this.#outAt, this.#outSize, this.#told, this.#slots);
+    const status = call(...before, this.#outAt, this.#outSize, this.#detail, this.#slots);
     if (status !== SHORT) return status;
     this.#room(0, 0, this.#words[0]);
-    return call(...before, this.#outAt, this.#outSize, this.#told, this.#slots);
+    return call(...before, this.#outAt, this.#outSize, this.#detail, this.#slots);
   }
 
   // What a call wrote, unless it refuses.
@@ -316,7 +316,7 @@ class Kit {
     let left = BigInt(len), at = this.#textAt, answers = "";
     for (;;) {
       const status = this.#calls.irikit_canonical_lines(
-        ...numbers, this.#baseAt, this.#baseLen, at, left, this.#outAt, this.#outSize, this.#slots, this.#told);
+        ...numbers, this.#baseAt, this.#baseLen, at, left, this.#outAt, this.#outSize, this.#slots, this.#detail);
       if (status !== OK && status !== SHORT) throw this.#refusal(status);
       answers += this.#read(this.#out, this.#words[0]);
       if (status === OK) return answers;
@@ -343,21 +343,21 @@ class Kit {
 
   isNormalized(text, grammar = "uri", mode = "normal") {
     const numbers = [GRAMMARS.numberOf(grammar), MODES.numberOf(mode)];
-    const len = this.#put(text), status = this.#calls.irikit_is_normalized(...numbers, this.#textAt, len, this.#told);
+    const len = this.#put(text), status = this.#calls.irikit_is_normalized(...numbers, this.#textAt, len, this.#detail);
     if (status !== OK && status !== NOT_NORMAL) throw this.#refusal(status);
     return status === OK;
   }
 
   validate(text, kind = "reference", grammar = "uri") {
     const numbers = [GRAMMARS.numberOf(grammar), KINDS.numberOf(kind)];
-    const len = this.#put(text), status = this.#calls.irikit_validate(...numbers, this.#textAt, len, this.#told);
+    const len = this.#put(text), status = this.#calls.irikit_validate(...numbers, this.#textAt, len, this.#detail);
     return status === OK ? null : FAULTS.nameOf(this.#words[0]);
   }
 
   faultPart(text, fault, kind = "reference") {
     const numbers = [KINDS.numberOf(kind), BigInt(FAULTS.numberOf(fault))];
     const len = this.#put(text);
-    this.#calls.irikit_fault_part(...numbers, this.#textAt, len, this.#slots, this.#told);
+    this.#calls.irikit_fault_part(...numbers, this.#textAt, len, this.#slots, this.#detail);
     const offset = this.#words[2];
     if (offset === NOWHERE) return null;
     return { place: offset, part: this.#read(this.#textBytes.byteOffset + offset, this.#words[4]) };
@@ -365,7 +365,7 @@ class Kit {
 
   split(text, grammar = "uri") {
     const number = GRAMMARS.numberOf(grammar), len = this.#put(text);
-    const status = this.#calls.irikit_split(number, this.#textAt, len, this.#slots, this.#told);
+    const status = this.#calls.irikit_split(number, this.#textAt, len, this.#slots, this.#detail);
     if (status !== OK) throw this.#refusal(status);
     const parts = {};
     PARTS.forEach((name, i) => {
@@ -453,7 +453,7 @@ class Kit {
     // A name and what parts it from the next have two bytes at least, and a slot has sixteen.
     this.#room(0, 0, 8 * Number(len));
     this.#judge(this.#calls.irikit_template_variables(
-      this.#textAt, len, this.#outAt, this.#outSize / 16n, this.#told, this.#slots));
+      this.#textAt, len, this.#outAt, this.#outSize / 16n, this.#detail, this.#slots));
     const cells = new Uint32Array(this.#memory.buffer, this.#out, 4 * this.#words[0]);
     return Array.from({ length: this.#words[0] }, (_, i) => this.#read(this.#textBytes.byteOffset + cells[4 * i], cells[4 * i + 2]));
   }

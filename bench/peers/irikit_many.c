@@ -13,15 +13,15 @@ static size_t base_length, length, room = 2 * READ, out_room;
 /* Answers the lines that are whole, and keeps what follows them. */
 static int answer_lines(uint32_t grammar)
 {
-	size_t at = 0, consumed, told;
+	size_t at = 0, consumed, detail;
 	uint8_t status;
 	do {
 		status = irikit_canonical_lines(grammar, IRIKIT_NORMAL, base, base_length, lines + at, length - at, out, out_room,
-		                                &consumed, &told);
+		                                &consumed, &detail);
 		if (status != IRIKIT_OK && status != IRIKIT_SHORT)
 			return 3;
-		for (size_t put = 0; put < told;) {
-			ssize_t wrote = write(1, out + put, told - put);
+		for (size_t put = 0; put < detail;) {
+			ssize_t wrote = write(1, out + put, detail - put);
 			if (wrote < 0)
 				return 5;
 			put += (size_t)wrote;

@@ -5,13 +5,13 @@
 
 static uint32_t grammar;
 static char *base, *out;
-static size_t base_length, room, told;
+static size_t base_length, room, detail;
 
 static int take_base(const char *line, size_t length)
 {
 	base = strndup(line, length);
 	base_length = length;
-	return base && irikit_validate(grammar, IRIKIT_ABSOLUTE, base, length, &told) == IRIKIT_OK;
+	return base && irikit_validate(grammar, IRIKIT_ABSOLUTE, base, length, &detail) == IRIKIT_OK;
 }
 
 static void resolve(const char *line, size_t length)
@@ -23,8 +23,8 @@ static void resolve(const char *line, size_t length)
 		if (!out)
 			exit(6);
 	}
-	uint8_t status = irikit_canonical(grammar, IRIKIT_NORMAL, base, base_length, line, length, out, room, &told);
-	answer(status == IRIKIT_OK ? out : NULL, told);
+	uint8_t status = irikit_canonical(grammar, IRIKIT_NORMAL, base, base_length, line, length, out, room, &detail);
+	answer(status == IRIKIT_OK ? out : NULL, detail);
 }
 
 int main(int argc, char **argv)

@@ -30,11 +30,11 @@ int main(int argc, char **argv) {
         return 2;
     uint32_t grammar = strcmp(argv[1], "iri") ? IRIKIT_URI : IRIKIT_IRI;
     char *base = NULL, *line = NULL, *out = NULL;
-    size_t base_room = 0, room = 0, size = 0, base_len = 0, len, told;
+    size_t base_room = 0, room = 0, size = 0, base_len = 0, len, detail;
     int bad = 0;
     next_line(&base, &base_room, &base_len);
-    if (irikit_validate(grammar, IRIKIT_ABSOLUTE, base, base_len, &told) != IRIKIT_OK) {
-        refuse("base", told);
+    if (irikit_validate(grammar, IRIKIT_ABSOLUTE, base, base_len, &detail) != IRIKIT_OK) {
+        refuse("base", detail);
         return 3;
     }
     while (next_line(&line, &room, &len)) {
@@ -44,12 +44,12 @@ int main(int argc, char **argv) {
             if (!(out = malloc(size)))
                 return 6;
         }
-        if (irikit_canonical(grammar, IRIKIT_NORMAL, base, base_len, line, len, out, size, &told) == IRIKIT_OK) {
+        if (irikit_canonical(grammar, IRIKIT_NORMAL, base, base_len, line, len, out, size, &detail) == IRIKIT_OK) {
             fputs("ok ", stdout);
-            fwrite(out, 1, told, stdout);
+            fwrite(out, 1, detail, stdout);
             putchar('\n');
         } else {
-            refuse("bad", told);
+            refuse("bad", detail);
             bad = 1;
         }
     }

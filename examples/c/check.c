@@ -39,13 +39,13 @@ static void read_rows(const char *name) {
 /* The answer of the program to a row. */
 static void answer_of(const struct row *row, char *answer, size_t size) {
     char out[256];
-    size_t told;
+    size_t detail;
     uint8_t status = irikit_canonical(row->grammar, IRIKIT_NORMAL, row->base, strlen(row->base), row->reference,
-                                      strlen(row->reference), out, sizeof out, &told);
+                                      strlen(row->reference), out, sizeof out, &detail);
     const char *word = status == IRIKIT_OK ? "ok" : status == IRIKIT_BAD_BASE ? "base" : "bad";
     if (status != IRIKIT_OK)
-        irikit_fault_words(told, out, sizeof out, &told);
-    snprintf(answer, size, "%s %.*s", word, (int)told, out);
+        irikit_fault_words(detail, out, sizeof out, &detail);
+    snprintf(answer, size, "%s %.*s", word, (int)detail, out);
 }
 
 static size_t check_rows(void) {
@@ -70,14 +70,14 @@ static void *check_often(void *unused) {
 }
 
 /* A call that writes a text of a row, by a number. */
-static uint8_t write_text(int call, const struct row *row, char *out, size_t size, size_t *told) {
+static uint8_t write_text(int call, const struct row *row, char *out, size_t size, size_t *detail) {
     const char *reference = row->reference;
     if (call == 0)
         return irikit_canonical(row->grammar, IRIKIT_NORMAL, row->base, strlen(row->base), reference, strlen(reference), out,
-                                size, told);
+                                size, detail);
     if (call == 1)
-        return irikit_map_to_uri(reference, strlen(reference), out, size, told);
-    return irikit_fault_words(IRIKIT_INVALID_SCHEME + (row - rows), out, size, told);
+        return irikit_map_to_uri(reference, strlen(reference), out, size, detail);
+    return irikit_fault_words(IRIKIT_INVALID_SCHEME + (row - rows), out, size, detail);
 }
 
 /* A buffer of each size up to two more than is wanted, which the text fills as far as it goes; the bytes after it stay. */
@@ -88,13 +88,13 @@ static size_t check_sizes(const struct row *row, int call) {
     len = has_text ? len : 0;
     char *text = malloc(len + 2), *out = malloc(len + 2);
     for (size_t size = len + 2; size-- > 0;) {
-        size_t told = 9;
+        size_t detail = 9;
         memset(out, '.', len + 2);
-        uint8_t status = write_text(call, row, out, size, &told);
+        uint8_t status = write_text(call, row, out, size, &detail);
         if (size == len + 1)
             memcpy(text, out, len + 2);
         failed += wrong(status == (!has_text ? whole : size < len ? IRIKIT_SHORT : IRIKIT_OK), "the status of a size");
-        failed += wrong(!has_text || told == len, "the length that is wanted");
+        failed += wrong(!has_text || detail == len, "the length that is wanted");
         failed += wrong(is_over(out, size, text, len, len + 2), "the text as far as it goes, and nothing after it");
     }
     free(text);
@@ -103,26 +103,26 @@ static size_t check_sizes(const struct row *row, int call) {
 }
 
 static size_t check_empty(void) {
-    size_t failed = 0, told = 9;
+    size_t failed = 0, detail = 9;
     char out[16];
     struct irikit_parts parts;
-    failed += wrong(irikit_canonical(IRIKIT_URI, IRIKIT_NORMAL, "a:", 2, NULL, 0, out, sizeof out, &told) == IRIKIT_OK && told == 2,
+    failed += wrong(irikit_canonical(IRIKIT_URI, IRIKIT_NORMAL, "a:", 2, NULL, 0, out, sizeof out, &detail) == IRIKIT_OK && detail == 2,
                         "NULL as a reference");
-    failed += wrong(irikit_canonical(IRIKIT_URI, IRIKIT_NORMAL, "a:", 2, "", 0, NULL, 0, &told) == IRIKIT_SHORT && told == 2,
+    failed += wrong(irikit_canonical(IRIKIT_URI, IRIKIT_NORMAL, "a:", 2, "", 0, NULL, 0, &detail) == IRIKIT_SHORT && detail == 2,
                         "NULL as a buffer");
-    failed += wrong(irikit_canonical(IRIKIT_URI, IRIKIT_NORMAL, NULL, 0, "", 0, out, sizeof out, &told) == IRIKIT_BAD_BASE
-                        && told == IRIKIT_UNEXPECTED_RELATIVE, "NULL as a base");
-    failed += wrong(irikit_canonical(IRIKIT_URI, IRIKIT_PRESERVING, "a:", 2, "", 0, out, sizeof out, &told) == IRIKIT_UNKNOWN && told == 0,
+    failed += wrong(irikit_canonical(IRIKIT_URI, IRIKIT_NORMAL, NULL, 0, "", 0, out, sizeof out, &detail) == IRIKIT_BAD_BASE
+                        && detail == IRIKIT_UNEXPECTED_RELATIVE, "NULL as a base");
+    failed += wrong(irikit_canonical(IRIKIT_URI, IRIKIT_PRESERVING, "a:", 2, "", 0, out, sizeof out, &detail) == IRIKIT_UNKNOWN && detail == 0,
                         "a mode that no canonical text has");
     failed += wrong(irikit_canonical(IRIKIT_URI, IRIKIT_BY_SCHEME, "ws://a:80", 9,
-                        "", 0, out, sizeof out, &told) == IRIKIT_OK && told == 7
+                        "", 0, out, sizeof out, &detail) == IRIKIT_OK && detail == 7
                         && !memcmp(out, "ws://a/", 7), "a default port");
-    failed += wrong(irikit_validate(IRIKIT_IRI, IRIKIT_REFERENCE, NULL, 0, &told) == IRIKIT_OK && told == 0, "NULL is a reference");
-    failed += wrong(irikit_validate(IRIKIT_IRI, IRIKIT_WITH_SCHEME, "", 0, &told) == IRIKIT_BAD_TEXT, "an empty text is no URI");
-    failed += wrong(irikit_is_normalized(IRIKIT_URI, IRIKIT_NORMAL, NULL, 0, &told) == IRIKIT_BAD_TEXT, "NULL is no URI");
-    failed += wrong(irikit_map_to_uri(NULL, 0, NULL, 0, &told) == IRIKIT_OK && told == 0, "NULL is mapped to nothing");
-    failed += wrong(irikit_fault_words(IRIKIT_INVALID_UTF8 + 1, out, sizeof out, &told) == IRIKIT_UNKNOWN && told == 0, "a fault that is none");
-    failed += wrong(irikit_split(IRIKIT_URI, NULL, 0, &parts, &told) == IRIKIT_OK && parts.path.offset == 0 && parts.path.len == 0
+    failed += wrong(irikit_validate(IRIKIT_IRI, IRIKIT_REFERENCE, NULL, 0, &detail) == IRIKIT_OK && detail == 0, "NULL is a reference");
+    failed += wrong(irikit_validate(IRIKIT_IRI, IRIKIT_WITH_SCHEME, "", 0, &detail) == IRIKIT_BAD_TEXT, "an empty text is no URI");
+    failed += wrong(irikit_is_normalized(IRIKIT_URI, IRIKIT_NORMAL, NULL, 0, &detail) == IRIKIT_BAD_TEXT, "NULL is no URI");
+    failed += wrong(irikit_map_to_uri(NULL, 0, NULL, 0, &detail) == IRIKIT_OK && detail == 0, "NULL is mapped to nothing");
+    failed += wrong(irikit_fault_words(IRIKIT_INVALID_UTF8 + 1, out, sizeof out, &detail) == IRIKIT_UNKNOWN && detail == 0, "a fault that is none");
+    failed += wrong(irikit_split(IRIKIT_URI, NULL, 0, &parts, &detail) == IRIKIT_OK && parts.path.offset == 0 && parts.path.len == 0
                         && parts.scheme.offset == IRIKIT_NOWHERE && parts.host.offset == IRIKIT_NOWHERE,
                                             "the parts of NULL");
     return failed;
@@ -133,8 +133,8 @@ static size_t check_parts(void) {
     const char *text = "foo://u@example.com:8042/over/there?name=ferret#nose";
     const char *wanted[] = {"foo", "u@example.com:8042", "/over/there", "name=ferret", "nose", "u", "example.com", "8042"};
     struct irikit_parts parts;
-    size_t failed = 0, told;
-    failed += wrong(irikit_split(IRIKIT_URI, text, strlen(text), &parts, &told) == IRIKIT_OK, "the status of a split");
+    size_t failed = 0, detail;
+    failed += wrong(irikit_split(IRIKIT_URI, text, strlen(text), &parts, &detail) == IRIKIT_OK, "the status of a split");
     const struct irikit_slot *slot = &parts.scheme;
     for (int i = 0; i < 8; i++)
         failed += wrong(slot[i].len == strlen(wanted[i]) && !memcmp(text + slot[i].offset, wanted[i], slot[i].len),
@@ -163,12 +163,12 @@ static size_t check_faulty(void) {
     size_t failed = 0;
     for (size_t i = 0; i < sizeof texts / sizeof *texts; i++) {
         struct irikit_slot part = {9, 9};
-        size_t told = 99;
+        size_t detail = 99;
         size_t len = strlen(texts[i].text);
-        uint8_t status = irikit_validate(IRIKIT_URI, texts[i].kind, texts[i].text, len, &told);
-        failed += wrong(status == IRIKIT_BAD_TEXT && told == texts[i].fault, texts[i].text);
-        status = irikit_fault_part(texts[i].kind, texts[i].fault, texts[i].text, len, &part, &told);
-        failed += wrong(status == IRIKIT_OK && !told && part.offset == texts[i].offset && part.len == texts[i].len, texts[i].text);
+        uint8_t status = irikit_validate(IRIKIT_URI, texts[i].kind, texts[i].text, len, &detail);
+        failed += wrong(status == IRIKIT_BAD_TEXT && detail == texts[i].fault, texts[i].text);
+        status = irikit_fault_part(texts[i].kind, texts[i].fault, texts[i].text, len, &part, &detail);
+        failed += wrong(status == IRIKIT_OK && !detail && part.offset == texts[i].offset && part.len == texts[i].len, texts[i].text);
     }
     return failed;
 }
@@ -186,9 +186,9 @@ int main(int argc, char **argv) {
     for (int i = 0; i < THREADS; i++)
         failed += wrong(!pthread_create(&threads[i], NULL, check_often, NULL), "a thread");
     for (int i = 0; i < THREADS; i++) {
-        void *told;
-        pthread_join(threads[i], &told);
-        failed += (size_t)told;
+        void *detail;
+        pthread_join(threads[i], &detail);
+        failed += (size_t)detail;
     }
     printf("C: %zu rows, %zu failed\n", count, failed);
     return failed || !count;

@@ -11,7 +11,7 @@ static inline size_t wrong(int holds, const char *what) {
     return !holds;
 }
 
-/* Whether a buffer of this size in which `told` bytes of a text of this length were to stand has its first bytes, and
+/* Whether a buffer of this size in which `detail` bytes of a text of this length were to stand has its first bytes, and
  * after them dots as before. */
 static inline int is_over(const char *out, size_t size, const char *text, size_t len, size_t room) {
     size_t prefix = size < len ? size : len;

@@ -4,14 +4,14 @@
 #define MOST 8
 #define P(part, text) {IRIKIT_##part, {text, sizeof text - 1}}
 
-/* Parts, and what they make: a text, or a status and what is told. */
+/* Parts, and what they make: a text, or a status and its detail. */
 struct row {
     uint32_t grammar, kind;
     struct irikit_given parts[MOST];
     size_t count;
     const char *wanted;
     uint8_t status;
-    size_t told;
+    size_t detail;
 };
 
 static const struct row rows[] = {
@@ -56,14 +56,14 @@ static size_t check_row(const struct row *row, size_t number) {
     snprintf(name, sizeof name, "row %zu", number);
     for (size_t size = 0; size <= len + 1; size++) {
         char out[64];
-        size_t told = 9;
+        size_t detail = 9;
         memset(out, '.', sizeof out);
-        uint8_t status = irikit_build(row->grammar, row->kind, row->parts, row->count, out, size, &told);
+        uint8_t status = irikit_build(row->grammar, row->kind, row->parts, row->count, out, size, &detail);
         if (row->wanted)
-            failed += wrong(status == (size < len ? IRIKIT_SHORT : IRIKIT_OK) && told == len
+            failed += wrong(status == (size < len ? IRIKIT_SHORT : IRIKIT_OK) && detail == len
                                 && is_over(out, size, row->wanted, len, sizeof out), name);
         else
-            failed += wrong(status == row->status && told == row->told && is_over(out, 0, "", 0, sizeof out), name);
+            failed += wrong(status == row->status && detail == row->detail && is_over(out, 0, "", 0, sizeof out), name);
     }
     return failed;
 }

@@ -5,13 +5,13 @@
 enum call { RESOLVE, TARGET, NORMALIZE, STEPS, ENCODE, DECODE, MASK, REPLACE_PASSWORD, REMOVE_FRAGMENT, SET_FRAGMENT, HOST, REG_NAME,
             REMOVE_PASSWORD };
 
-/* A call with its numbers and texts, and what it answers: a text, or a status and what is told. */
+/* A call with its numbers and texts, and what it answers: a text, or a status and its detail. */
 struct row {
     enum call call;
     uint32_t grammar, place; /* of a normal form and of steps: the mode; 0 of a call without one */
     const char *text, *part, *wanted;
     uint8_t status;
-    size_t told;
+    size_t detail;
 };
 
 static const struct row rows[] = {
@@ -118,26 +118,26 @@ static const struct row rows[] = {
     {REG_NAME, IRIKIT_NORMAL, 0, "//h", "a", NULL, IRIKIT_UNKNOWN, 0},
 };
 
-static uint8_t call(const struct row *row, char *out, size_t size, size_t *told) {
+static uint8_t call(const struct row *row, char *out, size_t size, size_t *detail) {
     size_t len = strlen(row->text);
     switch (row->call) {
     case RESOLVE:
-        return irikit_resolve(row->grammar, row->text, len, row->part, strlen(row->part), out, size, told);
+        return irikit_resolve(row->grammar, row->text, len, row->part, strlen(row->part), out, size, detail);
     case TARGET:
-        return irikit_target(row->grammar, row->text, len, row->part, strlen(row->part), out, size, told);
-    case STEPS: return irikit_steps(row->grammar, row->place, row->text, len, out, size, told);
-    case NORMALIZE: return irikit_normalize(row->grammar, row->place, row->text, len, out, size, told);
-    case ENCODE: return irikit_encode(row->grammar, row->place, row->text, len, out, size, told);
-    case DECODE: return irikit_decode(row->text, len, out, size, told);
-    case MASK: return irikit_mask_password(row->grammar, row->text, len, out, size, told);
-    case REMOVE_PASSWORD: return irikit_remove_password(row->grammar, row->text, len, out, size, told);
+        return irikit_target(row->grammar, row->text, len, row->part, strlen(row->part), out, size, detail);
+    case STEPS: return irikit_steps(row->grammar, row->place, row->text, len, out, size, detail);
+    case NORMALIZE: return irikit_normalize(row->grammar, row->place, row->text, len, out, size, detail);
+    case ENCODE: return irikit_encode(row->grammar, row->place, row->text, len, out, size, detail);
+    case DECODE: return irikit_decode(row->text, len, out, size, detail);
+    case MASK: return irikit_mask_password(row->grammar, row->text, len, out, size, detail);
+    case REMOVE_PASSWORD: return irikit_remove_password(row->grammar, row->text, len, out, size, detail);
     case REPLACE_PASSWORD:
-        return irikit_replace_password(row->grammar, row->text, len, row->part, strlen(row->part), out, size, told);
-    case REMOVE_FRAGMENT: return irikit_remove_fragment(row->grammar, row->text, len, out, size, told);
-    case HOST: return irikit_replace_host(row->grammar, row->text, len, row->part, strlen(row->part), out, size, told);
+        return irikit_replace_password(row->grammar, row->text, len, row->part, strlen(row->part), out, size, detail);
+    case REMOVE_FRAGMENT: return irikit_remove_fragment(row->grammar, row->text, len, out, size, detail);
+    case HOST: return irikit_replace_host(row->grammar, row->text, len, row->part, strlen(row->part), out, size, detail);
     case REG_NAME:
-        return irikit_replace_reg_name(row->grammar, row->text, len, row->part, strlen(row->part), out, size, told);
-    default: return irikit_set_fragment(row->grammar, row->text, len, row->part, strlen(row->part), out, size, told);
+        return irikit_replace_reg_name(row->grammar, row->text, len, row->part, strlen(row->part), out, size, detail);
+    default: return irikit_set_fragment(row->grammar, row->text, len, row->part, strlen(row->part), out, size, detail);
     }
 }
 
@@ -145,37 +145,37 @@ static size_t check_row(const struct row *row) {
     size_t failed = 0, len = row->wanted ? strlen(row->wanted) : 0;
     for (size_t size = 0; size <= len + 1; size++) {
         char out[128];
-        size_t told = 9;
+        size_t detail = 9;
         memset(out, '.', sizeof out);
-        uint8_t status = call(row, out, size, &told);
+        uint8_t status = call(row, out, size, &detail);
         if (row->wanted)
-            failed += wrong(status == (size < len ? IRIKIT_SHORT : IRIKIT_OK) && told == len
+            failed += wrong(status == (size < len ? IRIKIT_SHORT : IRIKIT_OK) && detail == len
                                 && is_over(out, size, row->wanted, len, sizeof out), row->text);
         else
-            failed += wrong(status == row->status && told == row->told && is_over(out, 0, "", 0, sizeof out), row->text);
+            failed += wrong(status == row->status && detail == row->detail && is_over(out, 0, "", 0, sizeof out), row->text);
     }
     return failed;
 }
 
 static size_t check_null(void) {
-    size_t failed = 0, told = 9;
-    failed += wrong(irikit_target(IRIKIT_URI, "a:", 2, NULL, 0, NULL, 0, &told) == IRIKIT_SHORT && told == 2, "NULL as a reference");
-    failed += wrong(irikit_steps(IRIKIT_URI, IRIKIT_NORMAL, NULL, 0, NULL, 0, &told) == IRIKIT_BAD_TEXT && told == IRIKIT_UNEXPECTED_RELATIVE,
+    size_t failed = 0, detail = 9;
+    failed += wrong(irikit_target(IRIKIT_URI, "a:", 2, NULL, 0, NULL, 0, &detail) == IRIKIT_SHORT && detail == 2, "NULL as a reference");
+    failed += wrong(irikit_steps(IRIKIT_URI, IRIKIT_NORMAL, NULL, 0, NULL, 0, &detail) == IRIKIT_BAD_TEXT && detail == IRIKIT_UNEXPECTED_RELATIVE,
                         "no steps from NULL");
-    failed += wrong(irikit_encode(IRIKIT_URI, IRIKIT_IN_REG_NAME, NULL, 0, NULL, 0, &told) == IRIKIT_OK && !told, "NULL to encode");
-    failed += wrong(irikit_decode(NULL, 0, NULL, 0, &told) == IRIKIT_OK && !told, "NULL to decode");
-    failed += wrong(irikit_mask_password(IRIKIT_URI, NULL, 0, NULL, 0, &told) == IRIKIT_OK && !told, "NULL to mask");
-    failed += wrong(irikit_remove_password(IRIKIT_URI, NULL, 0, NULL, 0, &told) == IRIKIT_OK && !told, "NULL without a password");
-    failed += wrong(irikit_replace_password(IRIKIT_URI, NULL, 0, NULL, 0, NULL, 0, &told) == IRIKIT_OK && !told,
+    failed += wrong(irikit_encode(IRIKIT_URI, IRIKIT_IN_REG_NAME, NULL, 0, NULL, 0, &detail) == IRIKIT_OK && !detail, "NULL to encode");
+    failed += wrong(irikit_decode(NULL, 0, NULL, 0, &detail) == IRIKIT_OK && !detail, "NULL to decode");
+    failed += wrong(irikit_mask_password(IRIKIT_URI, NULL, 0, NULL, 0, &detail) == IRIKIT_OK && !detail, "NULL to mask");
+    failed += wrong(irikit_remove_password(IRIKIT_URI, NULL, 0, NULL, 0, &detail) == IRIKIT_OK && !detail, "NULL without a password");
+    failed += wrong(irikit_replace_password(IRIKIT_URI, NULL, 0, NULL, 0, NULL, 0, &detail) == IRIKIT_OK && !detail,
                         "NULL as a password");
-    failed += wrong(irikit_remove_fragment(IRIKIT_URI, NULL, 0, NULL, 0, &told) == IRIKIT_OK && !told, "NULL without a fragment");
-    failed += wrong(irikit_set_fragment(IRIKIT_URI, NULL, 0, NULL, 0, NULL, 0, &told) == IRIKIT_SHORT && told == 1,
+    failed += wrong(irikit_remove_fragment(IRIKIT_URI, NULL, 0, NULL, 0, &detail) == IRIKIT_OK && !detail, "NULL without a fragment");
+    failed += wrong(irikit_set_fragment(IRIKIT_URI, NULL, 0, NULL, 0, NULL, 0, &detail) == IRIKIT_SHORT && detail == 1,
                         "NULL as a fragment");
-    failed += wrong(irikit_replace_host(IRIKIT_URI, NULL, 0, NULL, 0, NULL, 0, &told) == IRIKIT_NO_HOST && !told, "NULL as a host");
-    failed += wrong(irikit_replace_reg_name(IRIKIT_URI, NULL, 0, NULL, 0, NULL, 0, &told) == IRIKIT_NO_HOST && !told, "NULL as a name");
-    failed += wrong(irikit_build(IRIKIT_URI, IRIKIT_REFERENCE, NULL, 0, NULL, 0, &told) == IRIKIT_OK && !told, "no parts");
+    failed += wrong(irikit_replace_host(IRIKIT_URI, NULL, 0, NULL, 0, NULL, 0, &detail) == IRIKIT_NO_HOST && !detail, "NULL as a host");
+    failed += wrong(irikit_replace_reg_name(IRIKIT_URI, NULL, 0, NULL, 0, NULL, 0, &detail) == IRIKIT_NO_HOST && !detail, "NULL as a name");
+    failed += wrong(irikit_build(IRIKIT_URI, IRIKIT_REFERENCE, NULL, 0, NULL, 0, &detail) == IRIKIT_OK && !detail, "no parts");
     struct irikit_given empty = {IRIKIT_HOST, {NULL, 0}};
-    failed += wrong(irikit_build(IRIKIT_URI, IRIKIT_REFERENCE, &empty, 1, NULL, 0, &told) == IRIKIT_SHORT && told == 2, "NULL in a part");
+    failed += wrong(irikit_build(IRIKIT_URI, IRIKIT_REFERENCE, &empty, 1, NULL, 0, &detail) == IRIKIT_SHORT && detail == 2, "NULL in a part");
     return failed;
 }
 

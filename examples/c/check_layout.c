@@ -23,10 +23,10 @@ static size_t check_written(void) {
     static const char text[] = "foo://u@example.com:8042/over/there?name=ferret#nose";
     const size_t wanted[16] = {0, 3, 6, 18, 24, 11, 36, 11, 48, 4, 6, 1, 8, 11, 20, 4};
     struct irikit_parts parts;
-    size_t words[17], told = 9;
+    size_t words[17], detail = 9;
     memset(words, 0x55, sizeof words);
     size_t after = words[16];
-    uint8_t status = irikit_split(IRIKIT_URI, text, sizeof text - 1, &parts, &told);
+    uint8_t status = irikit_split(IRIKIT_URI, text, sizeof text - 1, &parts, &detail);
     memcpy(words, &parts, sizeof parts);
     return wrong(status == IRIKIT_OK && !memcmp(words, wanted, sizeof wanted) && words[16] == after, "the parts as words");
 }
@@ -39,13 +39,13 @@ static size_t check_read(void) {
     struct irikit_variable two[2];
     struct irikit_given given[2];
     char out[32];
-    size_t failed = 0, told = 9, place = 9;
+    size_t failed = 0, detail = 9, place = 9;
     memcpy(two, variables, sizeof two);
-    uint8_t status = irikit_expand(IRIKIT_URI, "{nm*}/{x}", 9, two, 2, out, sizeof out, &told, &place);
-    failed += wrong(status == IRIKIT_OK && told == 8 && !memcmp(out, "b,cd/efg", 8), "variables as words");
+    uint8_t status = irikit_expand(IRIKIT_URI, "{nm*}/{x}", 9, two, 2, out, sizeof out, &detail, &place);
+    failed += wrong(status == IRIKIT_OK && detail == 8 && !memcmp(out, "b,cd/efg", 8), "variables as words");
     memcpy(given, parts, sizeof given);
-    status = irikit_build(IRIKIT_URI, IRIKIT_REFERENCE, given, 2, out, sizeof out, &told);
-    return failed + wrong(status == IRIKIT_OK && told == 4 && !memcmp(out, "p?qr", 4), "parts as words");
+    status = irikit_build(IRIKIT_URI, IRIKIT_REFERENCE, given, 2, out, sizeof out, &detail);
+    return failed + wrong(status == IRIKIT_OK && detail == 4 && !memcmp(out, "p?qr", 4), "parts as words");
 }
 
 int main(void) {

@@ -12,11 +12,11 @@ static const size_t ends[] = {5, 9, 10, 15, 22};
 #define LINES 5
 
 static uint8_t call(uint32_t grammar, uint32_t mode, const char *text, char *out, size_t size, size_t *consumed,
-                    size_t *told) {
-    return irikit_canonical_lines(grammar, mode, base, strlen(base), text, strlen(text), out, size, consumed, told);
+                    size_t *detail) {
+    return irikit_canonical_lines(grammar, mode, base, strlen(base), text, strlen(text), out, size, consumed, detail);
 }
 
-/* The answers that have room stand whole and are told; the next is cut off. */
+/* The answers that have room stand whole and are counted; the next is cut off. */
 static size_t check_sizes(void) {
     char whole[ROOM] = "";
     size_t failed = 0;
@@ -24,13 +24,13 @@ static size_t check_sizes(void) {
         strcat(whole, answers[i]);
     for (size_t size = 0; size <= strlen(whole) + 2; size++) {
         char out[ROOM];
-        size_t consumed = 9, told = 9, done = 0, written = 0;
+        size_t consumed = 9, detail = 9, done = 0, written = 0;
         while (done < LINES && written + strlen(answers[done]) <= size)
             written += strlen(answers[done++]);
         memset(out, '.', sizeof out);
-        uint8_t status = call(IRIKIT_URI, IRIKIT_NORMAL, lines, out, size, &consumed, &told);
+        uint8_t status = call(IRIKIT_URI, IRIKIT_NORMAL, lines, out, size, &consumed, &detail);
         failed += wrong(status == (done < LINES ? IRIKIT_SHORT : IRIKIT_OK), "the status of a size");
-        failed += wrong(told == written && consumed == (done ? ends[done - 1] : 0), "what is told");
+        failed += wrong(detail == written && consumed == (done ? ends[done - 1] : 0), "the detail");
         failed += wrong(is_over(out, size, whole, strlen(whole), sizeof out), "what stands in the buffer");
     }
     return failed;
@@ -39,13 +39,13 @@ static size_t check_sizes(void) {
 /* Calls that go on where the one before them stopped give what one call gives. */
 static size_t check_going_on(void) {
     char whole[ROOM] = "", wanted[ROOM] = "", out[24];
-    size_t failed = 0, at = 0, consumed, told;
+    size_t failed = 0, at = 0, consumed, detail;
     uint8_t status;
     for (int i = 0; i < LINES; i++)
         strcat(wanted, answers[i]);
     do {
-        status = call(IRIKIT_URI, IRIKIT_NORMAL, lines + at, out, sizeof out, &consumed, &told);
-        strncat(whole, out, told);
+        status = call(IRIKIT_URI, IRIKIT_NORMAL, lines + at, out, sizeof out, &consumed, &detail);
+        strncat(whole, out, detail);
         at += consumed;
     } while (status == IRIKIT_SHORT && consumed);
     failed += wrong(status == IRIKIT_OK && at == ends[LINES - 1], "the end of calls that go on");
@@ -55,25 +55,25 @@ static size_t check_going_on(void) {
 
 static size_t check_others(void) {
     char out[64];
-    size_t failed = 0, consumed = 9, told = 9;
+    size_t failed = 0, consumed = 9, detail = 9;
     memset(out, '.', sizeof out);
-    failed += wrong(call(IRIKIT_NORMAL, IRIKIT_NORMAL, lines, out, 64, &consumed, &told) == IRIKIT_UNKNOWN && !consumed && !told,
+    failed += wrong(call(IRIKIT_NORMAL, IRIKIT_NORMAL, lines, out, 64, &consumed, &detail) == IRIKIT_UNKNOWN && !consumed && !detail,
                         "a grammar that is none");
-    consumed = told = 9;
-    failed += wrong(call(IRIKIT_URI, IRIKIT_PRESERVING, lines, out, 64, &consumed, &told) == IRIKIT_UNKNOWN && !consumed && !told,
+    consumed = detail = 9;
+    failed += wrong(call(IRIKIT_URI, IRIKIT_PRESERVING, lines, out, 64, &consumed, &detail) == IRIKIT_UNKNOWN && !consumed && !detail,
                         "a mode that no canonical text has");
     consumed = 9;
-    failed += wrong(irikit_canonical_lines(IRIKIT_URI, IRIKIT_NORMAL, "a", 1, lines, 5, out, 64, &consumed, &told) == IRIKIT_BAD_BASE
+    failed += wrong(irikit_canonical_lines(IRIKIT_URI, IRIKIT_NORMAL, "a", 1, lines, 5, out, 64, &consumed, &detail) == IRIKIT_BAD_BASE
                         && !consumed
-                        && told == IRIKIT_UNEXPECTED_RELATIVE, "a base that is none");
+                        && detail == IRIKIT_UNEXPECTED_RELATIVE, "a base that is none");
     failed += wrong(is_over(out, 0, "", 0, sizeof out), "a buffer that stays");
-    failed += wrong(irikit_canonical_lines(IRIKIT_URI, IRIKIT_NORMAL, "a:", 2, NULL, 0, NULL, 0, &consumed, &told) == IRIKIT_OK
-                        && !consumed && !told,
+    failed += wrong(irikit_canonical_lines(IRIKIT_URI, IRIKIT_NORMAL, "a:", 2, NULL, 0, NULL, 0, &consumed, &detail) == IRIKIT_OK
+                        && !consumed && !detail,
                     "NULL as lines");
-    failed += wrong(irikit_canonical_lines(IRIKIT_URI, IRIKIT_NORMAL, "a:", 2, "\n", 1, NULL, 0, &consumed, &told) == IRIKIT_SHORT
-                        && !consumed && !told,
+    failed += wrong(irikit_canonical_lines(IRIKIT_URI, IRIKIT_NORMAL, "a:", 2, "\n", 1, NULL, 0, &consumed, &detail) == IRIKIT_SHORT
+                        && !consumed && !detail,
                     "NULL as a buffer");
-    failed += wrong(call(IRIKIT_URI, IRIKIT_BY_SCHEME, "//a:80\n//a:81\n", out, 64, &consumed, &told) == IRIKIT_OK && told == 29
+    failed += wrong(call(IRIKIT_URI, IRIKIT_BY_SCHEME, "//a:80\n//a:81\n", out, 64, &consumed, &detail) == IRIKIT_OK && detail == 29
                         && !memcmp(out, "ok http://a/\nok http://a:81/\n", 29), "scheme rules");
     return failed;
 }

@@ -1,5 +1,5 @@
 /* check_numbers: each call with each number up to 1,000, and with numbers that 8, 16 or 31 bits would take for others; those that stand
- * for nothing write nothing but what is told; and the words for each kind of fault in a buffer of each size. Names each that fails. */
+ * for nothing write nothing but the detail; and the words for each kind of fault in a buffer of each size. Names each that fails. */
 #include "check.h"
 
 #define ROOM 64
@@ -10,32 +10,32 @@
 #define CALLS 19
 
 static char out[ROOM];
-static size_t told, place, consumed;
+static size_t detail, place, consumed;
 static struct irikit_parts parts, before;
 
 /* A call that takes these numbers besides its texts; a call that has no mode, kind or place takes the first alone. */
 static uint8_t call(int number, uint32_t grammar, uint32_t other) {
     const struct irikit_given part = {IRIKIT_PATH, {"b", 1}};
     switch (number) {
-    case 0: return irikit_canonical(grammar, other, "a:", 2, "b", 1, out, ROOM, &told);
-    case LINES: return irikit_canonical_lines(grammar, other, "a:", 2, "b\n", 2, out, ROOM, &consumed, &told);
-    case 2: return irikit_steps(grammar, other, "a:%7e", 5, out, ROOM, &told);
-    case 3: return irikit_normalize(grammar, other, "a:", 2, out, ROOM, &told);
-    case 4: return irikit_is_normalized(grammar, other, "a:", 2, &told);
-    case 5: return irikit_validate(grammar, other, "a:", 2, &told);
-    case 6: return irikit_build(grammar, other, &part, 1, out, ROOM, &told);
-    case 7: return irikit_encode(grammar, other, "a", 1, out, ROOM, &told);
-    case 8: return irikit_split(grammar, "a:", 2, &parts, &told);
-    case 9: return irikit_resolve(grammar, "a:", 2, "b", 1, out, ROOM, &told);
-    case 10: return irikit_target(grammar, "a:", 2, "b", 1, out, ROOM, &told);
-    case 11: return irikit_mask_password(grammar, "//a:b@c", 7, out, ROOM, &told);
-    case 12: return irikit_remove_password(grammar, "//a:b@c", 7, out, ROOM, &told);
-    case 13: return irikit_replace_password(grammar, "//a:b@c", 7, "d", 1, out, ROOM, &told);
-    case 14: return irikit_remove_fragment(grammar, "a#b", 3, out, ROOM, &told);
-    case 15: return irikit_set_fragment(grammar, "a#b", 3, "c", 1, out, ROOM, &told);
-    case 16: return irikit_replace_host(grammar, "//a", 3, "b", 1, out, ROOM, &told);
-    case 17: return irikit_replace_reg_name(grammar, "//a", 3, "b", 1, out, ROOM, &told);
-    default: return irikit_expand(grammar, "a", 1, NULL, 0, out, ROOM, &told, &place);
+    case 0: return irikit_canonical(grammar, other, "a:", 2, "b", 1, out, ROOM, &detail);
+    case LINES: return irikit_canonical_lines(grammar, other, "a:", 2, "b\n", 2, out, ROOM, &consumed, &detail);
+    case 2: return irikit_steps(grammar, other, "a:%7e", 5, out, ROOM, &detail);
+    case 3: return irikit_normalize(grammar, other, "a:", 2, out, ROOM, &detail);
+    case 4: return irikit_is_normalized(grammar, other, "a:", 2, &detail);
+    case 5: return irikit_validate(grammar, other, "a:", 2, &detail);
+    case 6: return irikit_build(grammar, other, &part, 1, out, ROOM, &detail);
+    case 7: return irikit_encode(grammar, other, "a", 1, out, ROOM, &detail);
+    case 8: return irikit_split(grammar, "a:", 2, &parts, &detail);
+    case 9: return irikit_resolve(grammar, "a:", 2, "b", 1, out, ROOM, &detail);
+    case 10: return irikit_target(grammar, "a:", 2, "b", 1, out, ROOM, &detail);
+    case 11: return irikit_mask_password(grammar, "//a:b@c", 7, out, ROOM, &detail);
+    case 12: return irikit_remove_password(grammar, "//a:b@c", 7, out, ROOM, &detail);
+    case 13: return irikit_replace_password(grammar, "//a:b@c", 7, "d", 1, out, ROOM, &detail);
+    case 14: return irikit_remove_fragment(grammar, "a#b", 3, out, ROOM, &detail);
+    case 15: return irikit_set_fragment(grammar, "a#b", 3, "c", 1, out, ROOM, &detail);
+    case 16: return irikit_replace_host(grammar, "//a", 3, "b", 1, out, ROOM, &detail);
+    case 17: return irikit_replace_reg_name(grammar, "//a", 3, "b", 1, out, ROOM, &detail);
+    default: return irikit_expand(grammar, "a", 1, NULL, 0, out, ROOM, &detail, &place);
     }
 }
 
@@ -58,13 +58,13 @@ static size_t check_call(int number, uint32_t grammar, uint32_t other, const cha
     char name[64];
     memset(out, '.', ROOM);
     memset(&parts, 0x55, sizeof parts);
-    told = place = consumed = 9;
+    detail = place = consumed = 9;
     uint8_t status = call(number, grammar, other);
     snprintf(name, sizeof name, "%s, call %d: %lu %lu", what, number, (unsigned long)grammar, (unsigned long)other);
     if (is_one_of(grammar, IRIKIT_URI, IRIKIT_IRI) && is_one_of(other, others[number].first, others[number].last))
         return wrong(status != IRIKIT_UNKNOWN, name);
     int stays = is_over(out, 0, "", 0, ROOM) && !memcmp(&parts, &before, sizeof parts);
-    return wrong(status == IRIKIT_UNKNOWN && !told && consumed == (number == LINES ? 0 : 9) && place == (number == EXPAND ? 0 : 9)
+    return wrong(status == IRIKIT_UNKNOWN && !detail && consumed == (number == LINES ? 0 : 9) && place == (number == EXPAND ? 0 : 9)
                      && stays, name);
 }
 
@@ -91,19 +91,19 @@ static size_t check_numbers(void) {
 
 /* The words for a fault, or of none: those of templates have an odd `which`. */
 static uint8_t words(int which, size_t fault, char *buffer, size_t size) {
-    return which ? irikit_template_fault_words(fault, buffer, size, &told) : irikit_fault_words(fault, buffer, size, &told);
+    return which ? irikit_template_fault_words(fault, buffer, size, &detail) : irikit_fault_words(fault, buffer, size, &detail);
 }
 
 static size_t check_words(int which, size_t fault) {
     char text[ROOM], name[48];
     size_t failed = 0, len;
     snprintf(name, sizeof name, "words %d %zu", which, fault);
-    failed += wrong(words(which, fault, text, ROOM) == IRIKIT_OK && told > 0 && told < ROOM, name);
-    len = told;
+    failed += wrong(words(which, fault, text, ROOM) == IRIKIT_OK && detail > 0 && detail < ROOM, name);
+    len = detail;
     for (size_t size = 0; size <= len; size++) {
         memset(out, '.', ROOM);
         uint8_t status = words(which, fault, out, size);
-        failed += wrong(status == (size < len ? IRIKIT_SHORT : IRIKIT_OK) && told == len && is_over(out, size, text, len, ROOM), name);
+        failed += wrong(status == (size < len ? IRIKIT_SHORT : IRIKIT_OK) && detail == len && is_over(out, size, text, len, ROOM), name);
     }
     return failed;
 }
@@ -114,9 +114,9 @@ static const size_t faults[][2] = {
 
 static size_t check_no_words(int which, size_t fault) {
     memset(out, '.', ROOM);
-    told = 9;
+    detail = 9;
     uint8_t status = words(which, fault, out, ROOM);
-    return wrong(status == IRIKIT_UNKNOWN && !told && is_over(out, 0, "", 0, ROOM), "a fault that is none");
+    return wrong(status == IRIKIT_UNKNOWN && !detail && is_over(out, 0, "", 0, ROOM), "a fault that is none");
 }
 
 static size_t check_faults(void) {
@@ -139,12 +139,12 @@ static size_t check_structs(void) {
         struct irikit_given part = {no_part[i], {NULL, 0}};
         struct irikit_variable variable = {{NULL, 0}, no_kind[i], NULL, 0};
         memset(out, '.', ROOM);
-        told = place = 9;
-        uint8_t status = irikit_build(IRIKIT_URI, IRIKIT_REFERENCE, &part, 1, out, ROOM, &told);
-        failed += wrong(status == IRIKIT_UNKNOWN && !told, "a part that is none");
-        told = 9;
-        status = irikit_expand(IRIKIT_URI, "a", 1, &variable, 1, out, ROOM, &told, &place);
-        failed += wrong(status == IRIKIT_BAD_VARIABLE && !told && !place, "a kind of value that is none");
+        detail = place = 9;
+        uint8_t status = irikit_build(IRIKIT_URI, IRIKIT_REFERENCE, &part, 1, out, ROOM, &detail);
+        failed += wrong(status == IRIKIT_UNKNOWN && !detail, "a part that is none");
+        detail = 9;
+        status = irikit_expand(IRIKIT_URI, "a", 1, &variable, 1, out, ROOM, &detail, &place);
+        failed += wrong(status == IRIKIT_BAD_VARIABLE && !detail && !place, "a kind of value that is none");
         failed += wrong(is_over(out, 0, "", 0, ROOM), "a buffer that stays");
     }
     return failed;
@@ -153,11 +153,11 @@ static size_t check_structs(void) {
 /* The part that has a fault, by each kind of text and each kind of fault, and by numbers that are none. */
 static size_t check_fault_part(uint32_t kind, size_t fault) {
     struct irikit_slot part = {5, 5};
-    told = 9;
-    uint8_t status = irikit_fault_part(kind, fault, "a:", 2, &part, &told);
+    detail = 9;
+    uint8_t status = irikit_fault_part(kind, fault, "a:", 2, &part, &detail);
     int stays = part.offset == 5 && part.len == 5, known = is_one_of(kind, IRIKIT_REFERENCE, IRIKIT_RELATIVE)
                                                            && fault >= IRIKIT_INVALID_SCHEME && fault <= IRIKIT_INVALID_UTF8;
-    return wrong(status == (known ? IRIKIT_OK : IRIKIT_UNKNOWN) && !told && stays == !known, "the part of a fault");
+    return wrong(status == (known ? IRIKIT_OK : IRIKIT_UNKNOWN) && !detail && stays == !known, "the part of a fault");
 }
 
 static size_t check_fault_parts(void) {

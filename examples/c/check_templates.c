@@ -21,18 +21,18 @@ static const struct irikit_variable variables[] = {
 };
 #define COUNT (sizeof variables / sizeof *variables)
 
-static uint8_t expand(const char *text, char *out, size_t size, size_t *told, size_t *place) {
-    return irikit_expand(IRIKIT_URI, text, strlen(text), variables, COUNT, out, size, told, place);
+static uint8_t expand(const char *text, char *out, size_t size, size_t *detail, size_t *place) {
+    return irikit_expand(IRIKIT_URI, text, strlen(text), variables, COUNT, out, size, detail, place);
 }
 
 static size_t check_row(const char *template_text, const char *wanted) {
     size_t failed = 0, len = strlen(wanted);
     for (size_t size = 0; size <= len + 1; size++) {
         char out[256];
-        size_t told = 9, place = 9;
+        size_t detail = 9, place = 9;
         memset(out, '.', sizeof out);
-        uint8_t status = expand(template_text, out, size, &told, &place);
-        failed += wrong(status == (size < len ? IRIKIT_SHORT : IRIKIT_OK) && told == len && !place
+        uint8_t status = expand(template_text, out, size, &detail, &place);
+        failed += wrong(status == (size < len ? IRIKIT_SHORT : IRIKIT_OK) && detail == len && !place
                             && is_over(out, size, wanted, len, sizeof out), template_text);
     }
     return failed;
@@ -58,10 +58,10 @@ static size_t check_rows(const char *name, size_t *rows) {
 
 static size_t check_refused(const char *template_text, size_t fault, size_t wanted) {
     char out[8];
-    size_t told = 9, place = 9;
+    size_t detail = 9, place = 9;
     memset(out, '.', sizeof out);
-    uint8_t status = expand(template_text, out, sizeof out, &told, &place);
-    return wrong(status == IRIKIT_BAD_TEXT && told == fault && place == wanted && is_over(out, 0,
+    uint8_t status = expand(template_text, out, sizeof out, &detail, &place);
+    return wrong(status == IRIKIT_BAD_TEXT && detail == fault && place == wanted && is_over(out, 0,
                         "", 0, sizeof out), template_text);
 }
 
@@ -69,12 +69,12 @@ static size_t check_refused(const char *template_text, size_t fault, size_t want
 static size_t check_variable(struct irikit_variable second, uint8_t status, const char *what) {
     struct irikit_variable both[] = {STRING("v", "6"), second};
     char out[8];
-    size_t told = 9, place = 9;
+    size_t detail = 9, place = 9;
     memset(out, '.', sizeof out);
-    uint8_t is = irikit_expand(IRIKIT_IRI, "{v}", 3, both, 2, out, sizeof out, &told, &place);
+    uint8_t is = irikit_expand(IRIKIT_IRI, "{v}", 3, both, 2, out, sizeof out, &detail, &place);
     if (status == IRIKIT_OK)
-        return wrong(is == status && told == 1 && !place && is_over(out, 8, "6", 1, sizeof out), what);
-    return wrong(is == status && !told && place == 1 && is_over(out, 0, "", 0, sizeof out), what);
+        return wrong(is == status && detail == 1 && !place && is_over(out, 8, "6", 1, sizeof out), what);
+    return wrong(is == status && !detail && place == 1 && is_over(out, 0, "", 0, sizeof out), what);
 }
 
 static size_t check_variables(void) {
@@ -104,16 +104,16 @@ static size_t check_others(void) {
     const struct irikit_text word = {NULL, 0};
     const struct irikit_variable empty = {TEXT("e"), IRIKIT_STRING, &word, 1};
     char out[8];
-    size_t failed = 0, told = 9, place = 9;
-    failed += wrong(irikit_expand(IRIKIT_NORMAL, "", 0, NULL, 0, out, 8, &told, &place) == IRIKIT_UNKNOWN && !told && !place,
+    size_t failed = 0, detail = 9, place = 9;
+    failed += wrong(irikit_expand(IRIKIT_NORMAL, "", 0, NULL, 0, out, 8, &detail, &place) == IRIKIT_UNKNOWN && !detail && !place,
                         "a grammar that is none");
-    failed += wrong(irikit_expand(IRIKIT_URI, NULL, 0, NULL, 0, NULL, 0, &told, &place) == IRIKIT_OK && !told && !place,
+    failed += wrong(irikit_expand(IRIKIT_URI, NULL, 0, NULL, 0, NULL, 0, &detail, &place) == IRIKIT_OK && !detail && !place,
                         "NULL as a template");
-    failed += wrong(irikit_expand(IRIKIT_URI, "{e}a{?e}", 8, &empty, 1, out, 8, &told, &place) == IRIKIT_OK && told == 4
+    failed += wrong(irikit_expand(IRIKIT_URI, "{e}a{?e}", 8, &empty, 1, out, 8, &detail, &place) == IRIKIT_OK && detail == 4
                         && !memcmp(out, "a?e=", 4), "a value that is NULL");
-    failed += wrong(irikit_expand(IRIKIT_IRI, "\xc3\xa9", 2, NULL, 0, out, 8, &told, &place) == IRIKIT_OK && told == 2,
+    failed += wrong(irikit_expand(IRIKIT_IRI, "\xc3\xa9", 2, NULL, 0, out, 8, &detail, &place) == IRIKIT_OK && detail == 2,
                         "an IRI's literal");
-    failed += wrong(irikit_expand(IRIKIT_URI, "\xc3\xa9", 2, NULL, 0, out, 8, &told, &place) == IRIKIT_OK && told == 6,
+    failed += wrong(irikit_expand(IRIKIT_URI, "\xc3\xa9", 2, NULL, 0, out, 8, &detail, &place) == IRIKIT_OK && detail == 6,
                         "a URI's literal");
     return failed;
 }
@@ -142,11 +142,11 @@ static size_t check_names(const char *text, const char *below) {
     }
     for (size_t count = 0; count <= SLOTS; count++) {
         struct irikit_slot slots[SLOTS];
-        size_t told = 9, place = 9;
+        size_t detail = 9, place = 9;
         for (size_t i = 0; i < SLOTS; i++)
             slots[i] = (struct irikit_slot){7, 7};
-        uint8_t status = irikit_template_variables(text, strlen(text), slots, count, &told, &place);
-        failed += wrong(status == (count < names ? IRIKIT_SHORT : IRIKIT_OK) && told == names && !place
+        uint8_t status = irikit_template_variables(text, strlen(text), slots, count, &detail, &place);
+        failed += wrong(status == (count < names ? IRIKIT_SHORT : IRIKIT_OK) && detail == names && !place
                             && are_slots(slots, count < names ? count : names, wanted), text);
     }
     return failed;
@@ -158,7 +158,7 @@ static size_t check_variable_names(void) {
         {"ab{", IRIKIT_EXPRESSION_NOT_CLOSED, 2}, {"a}", IRIKIT_INVALID_CHARACTER, 1}, {"\xff", IRIKIT_TEMPLATE_INVALID_UTF8, 0},
         {"{=v}", IRIKIT_UNSUPPORTED_OPERATOR, 1}, {"a%4", IRIKIT_INVALID_PERCENT_ENCODING, 1},
     };
-    size_t failed = 0, told = 9, place = 9;
+    size_t failed = 0, detail = 9, place = 9;
     failed += check_names("http://example.com/~{username}/",
                           "                     ^^^^^^^^  ");
     failed += check_names("http://example.com/dictionary/{term:1}/{term}",
@@ -170,10 +170,10 @@ static size_t check_variable_names(void) {
     failed += check_names("\xc3\xa9{a}", "   ^ ") + check_names("/a", "");
     for (size_t i = 0; i < sizeof refused / sizeof *refused; i++) {
         const char *text = refused[i].text;
-        uint8_t status = irikit_template_variables(text, strlen(text), NULL, 0, &told, &place);
-        failed += wrong(status == IRIKIT_BAD_TEXT && told == refused[i].fault && place == refused[i].place, text);
+        uint8_t status = irikit_template_variables(text, strlen(text), NULL, 0, &detail, &place);
+        failed += wrong(status == IRIKIT_BAD_TEXT && detail == refused[i].fault && place == refused[i].place, text);
     }
-    failed += wrong(irikit_template_variables(NULL, 0, NULL, 0, &told, &place) == IRIKIT_OK && !told && !place, "NULL without names");
+    failed += wrong(irikit_template_variables(NULL, 0, NULL, 0, &detail, &place) == IRIKIT_OK && !detail && !place, "NULL without names");
     return failed;
 }
 

@@ -13,11 +13,11 @@ pub extern "C" fn irikit_mask_password(
     grammar: u32,
     text: &[u8],
     out: &mut [u8],
-    told: &mut usize,
+    detail: &mut usize,
 ) -> u8
-    ensures { Answered (masked_outcome grammar text.now) out.old out.new told.new result }
+    ensures { Answered (masked_outcome grammar text.now) out.old out.new detail.new result }
 {
-    edits::irikit_mask_password(grammar, text, out, told)
+    edits::irikit_mask_password(grammar, text, out, detail)
 }
 
 /// A reference without its password and the colon before it.
@@ -26,11 +26,11 @@ pub extern "C" fn irikit_remove_password(
     grammar: u32,
     text: &[u8],
     out: &mut [u8],
-    told: &mut usize,
+    detail: &mut usize,
 ) -> u8
-    ensures { Answered (removed_outcome grammar text.now) out.old out.new told.new result }
+    ensures { Answered (removed_outcome grammar text.now) out.old out.new detail.new result }
 {
-    edits::irikit_remove_password(grammar, text, out, told)
+    edits::irikit_remove_password(grammar, text, out, detail)
 }
 
 /// A reference with another text in place of its password.
@@ -40,11 +40,11 @@ pub extern "C" fn irikit_replace_password(
     text: &[u8],
     password: &[u8],
     out: &mut [u8],
-    told: &mut usize,
+    detail: &mut usize,
 ) -> u8
-    ensures { Answered (password_outcome grammar text.now password.now) out.old out.new told.new result }
+    ensures { Answered (password_outcome grammar text.now password.now) out.old out.new detail.new result }
 {
-    edits::irikit_replace_password(grammar, text, password, out, told)
+    edits::irikit_replace_password(grammar, text, password, out, detail)
 }
 
 /// A reference without its fragment.
@@ -53,11 +53,11 @@ pub extern "C" fn irikit_remove_fragment(
     grammar: u32,
     text: &[u8],
     out: &mut [u8],
-    told: &mut usize,
+    detail: &mut usize,
 ) -> u8
-    ensures { Answered (cut_outcome grammar text.now) out.old out.new told.new result }
+    ensures { Answered (cut_outcome grammar text.now) out.old out.new detail.new result }
 {
-    edits::irikit_remove_fragment(grammar, text, out, told)
+    edits::irikit_remove_fragment(grammar, text, out, detail)
 }
 
 /// A reference with a fragment in place of its own, or after one that has none.
@@ -67,11 +67,11 @@ pub extern "C" fn irikit_set_fragment(
     text: &[u8],
     fragment: &[u8],
     out: &mut [u8],
-    told: &mut usize,
+    detail: &mut usize,
 ) -> u8
-    ensures { Answered (fragment_outcome grammar text.now fragment.now) out.old out.new told.new result }
+    ensures { Answered (fragment_outcome grammar text.now fragment.now) out.old out.new detail.new result }
 {
-    edits::irikit_set_fragment(grammar, text, fragment, out, told)
+    edits::irikit_set_fragment(grammar, text, fragment, out, detail)
 }
 
 /// A reference with another host in place of its own.
@@ -81,11 +81,11 @@ pub extern "C" fn irikit_replace_host(
     text: &[u8],
     host: &[u8],
     out: &mut [u8],
-    told: &mut usize,
+    detail: &mut usize,
 ) -> u8
-    ensures { Answered (host_outcome grammar false text.now host.now) out.old out.new told.new result }
+    ensures { Answered (host_outcome grammar false text.now host.now) out.old out.new detail.new result }
 {
-    hosts::irikit_replace_host(grammar, text, host, out, told)
+    hosts::irikit_replace_host(grammar, text, host, out, detail)
 }
 
 /// The same where the host is a registered name.
@@ -95,11 +95,11 @@ pub extern "C" fn irikit_replace_reg_name(
     text: &[u8],
     host: &[u8],
     out: &mut [u8],
-    told: &mut usize,
+    detail: &mut usize,
 ) -> u8
-    ensures { Answered (host_outcome grammar true text.now host.now) out.old out.new told.new result }
+    ensures { Answered (host_outcome grammar true text.now host.now) out.old out.new detail.new result }
 {
-    hosts::irikit_replace_reg_name(grammar, text, host, out, told)
+    hosts::irikit_replace_reg_name(grammar, text, host, out, detail)
 }
 
 /// A text built from its parts.
@@ -109,9 +109,9 @@ pub extern "C" fn irikit_build(
     kind: u32,
     parts: &[Part<'_>],
     out: &mut [u8],
-    told: &mut usize,
+    detail: &mut usize,
 ) -> u8
-    ensures { Answered (built_outcome grammar kind parts.now) out.old out.new told.new result }
+    ensures { Answered (built_outcome grammar kind parts.now) out.old out.new detail.new result }
 {
-    building::irikit_build(grammar, kind, parts, out, told)
+    building::irikit_build(grammar, kind, parts, out, detail)
 }

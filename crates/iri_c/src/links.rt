@@ -14,11 +14,11 @@ pub extern "C" fn irikit_canonical(
     base: &[u8],
     reference: &[u8],
     out: &mut [u8],
-    told: &mut usize,
+    detail: &mut usize,
 ) -> u8
-    ensures { Answered (canonical_outcome grammar mode base.now reference.now) out.old out.new told.new result }
+    ensures { Answered (canonical_outcome grammar mode base.now reference.now) out.old out.new detail.new result }
 {
-    canonical::irikit_canonical(grammar, mode, base, reference, out, told)
+    canonical::irikit_canonical(grammar, mode, base, reference, out, detail)
 }
 
 /// A reference resolved against a base.
@@ -28,11 +28,11 @@ pub extern "C" fn irikit_resolve(
     base: &[u8],
     reference: &[u8],
     out: &mut [u8],
-    told: &mut usize,
+    detail: &mut usize,
 ) -> u8
-    ensures { Answered (resolved_outcome grammar base.now reference.now) out.old out.new told.new result }
+    ensures { Answered (resolved_outcome grammar base.now reference.now) out.old out.new detail.new result }
 {
-    resolve::irikit_resolve(grammar, base, reference, out, told)
+    resolve::irikit_resolve(grammar, base, reference, out, detail)
 }
 
 /// The target of a reference against a base, with its dot segments.
@@ -42,11 +42,11 @@ pub extern "C" fn irikit_target(
     base: &[u8],
     reference: &[u8],
     out: &mut [u8],
-    told: &mut usize,
+    detail: &mut usize,
 ) -> u8
-    ensures { Answered (target_outcome grammar base.now reference.now) out.old out.new told.new result }
+    ensures { Answered (target_outcome grammar base.now reference.now) out.old out.new detail.new result }
 {
-    target::irikit_target(grammar, base, reference, out, told)
+    target::irikit_target(grammar, base, reference, out, detail)
 }
 
 /// The answers to the lines of a text, as `irikit canon` writes them.
@@ -58,9 +58,9 @@ pub extern "C" fn irikit_canonical_lines(
     lines: &[u8],
     out: &mut [u8],
     consumed: &mut usize,
-    told: &mut usize,
+    detail: &mut usize,
 ) -> u8
-    ensures { Batched grammar mode base.now lines.now out.old out.new consumed.new told.new result }
+    ensures { Batched grammar mode base.now lines.now out.old out.new consumed.new detail.new result }
 {
-    lines::irikit_canonical_lines(grammar, mode, base, lines, out, consumed, told)
+    lines::irikit_canonical_lines(grammar, mode, base, lines, out, consumed, detail)
 }

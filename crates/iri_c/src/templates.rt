@@ -1,5 +1,5 @@
 // Calls on templates.
-ghost use Rattle.iri_calls.specs.Names.{HoldsNames, NamesTold};
+ghost use Rattle.iri_calls.specs.Names.{HoldsNames, NamesWritten};
 ghost use Rattle.iri_calls.specs.Outcome.{Answered};
 ghost use Rattle.iri_calls.specs.Templates.{Expanded, template_fault_words};
 ghost use Rattle.iri_template.specs.Fault.{template_fault};
@@ -16,12 +16,12 @@ pub extern "C" fn irikit_expand(
     template: &[u8],
     variables: &[Variable<'_>],
     out: &mut [u8],
-    told: &mut usize,
+    detail: &mut usize,
     place: &mut usize,
 ) -> u8
-    ensures { Expanded grammar template.now variables.now out.old out.new told.new place.new result }
+    ensures { Expanded grammar template.now variables.now out.old out.new detail.new place.new result }
 {
-    template::irikit_expand(grammar, template, variables, out, told, place)
+    template::irikit_expand(grammar, template, variables, out, detail, place)
 }
 
 /// Where the variables of a template stand, or its first fault.
@@ -29,19 +29,23 @@ pub extern "C" fn irikit_expand(
 pub extern "C" fn irikit_template_variables(
     template: &[u8],
     names: &mut [Slot],
-    told: &mut usize,
+    detail: &mut usize,
     place: &mut usize,
 ) -> u8
-    ensures told { NamesTold template.now names.old names.new told.new place.new result }
+    ensures detail { NamesWritten template.now names.old names.new detail.new place.new result }
     ensures names { template_fault template.now ≡ None → HoldsNames template.now }
 {
-    names::irikit_template_variables(template, names, told, place)
+    names::irikit_template_variables(template, names, detail, place)
 }
 
 /// The words for a kind of fault of a template.
 #[unsafe(no_mangle)]
-pub extern "C" fn irikit_template_fault_words(fault: usize, out: &mut [u8], told: &mut usize) -> u8
-    ensures { Answered (template_fault_words fault) out.old out.new told.new result }
+pub extern "C" fn irikit_template_fault_words(
+    fault: usize,
+    out: &mut [u8],
+    detail: &mut usize,
+) -> u8
+    ensures { Answered (template_fault_words fault) out.old out.new detail.new result }
 {
-    template::irikit_template_fault_words(fault, out, told)
+    template::irikit_template_fault_words(fault, out, detail)
 }

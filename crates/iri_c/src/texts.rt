@@ -1,11 +1,11 @@
 // Calls on one text: tests, splits, normal forms, mappings, encodings.
 ghost use Rattle.iri_calls.specs.Encodings.{encoded_outcome};
-ghost use Rattle.iri_calls.specs.FaultParts.{PartTold};
-ghost use Rattle.iri_calls.specs.Outcome.{Answered, Told};
+ghost use Rattle.iri_calls.specs.FaultParts.{PartFound};
+ghost use Rattle.iri_calls.specs.Outcome.{Answered, Returned};
 ghost use Rattle.iri_calls.specs.Outcome.Outcome.{text};
-ghost use Rattle.iri_calls.specs.Outcomes.{NormalTold, fault_words, mapped_outcome, validated_outcome};
+ghost use Rattle.iri_calls.specs.Outcomes.{NormalJudged, fault_words, mapped_outcome, validated_outcome};
 ghost use Rattle.iri_calls.specs.Resolutions.{normalized_outcome, steps_outcome};
-ghost use Rattle.iri_calls.specs.Slots.{SplitTold};
+ghost use Rattle.iri_calls.specs.Slots.{SplitWritten};
 ghost use Rattle.iri_percent.specs.Decoding.{decoding};
 
 use iri_calls::parts::{self, Slot, Slots};
@@ -13,18 +13,18 @@ use iri_calls::{decoding, encoding, fault, fault_part, mapping, normal, steps, v
 
 /// Whether a whole text is of a kind.
 #[unsafe(no_mangle)]
-pub extern "C" fn irikit_validate(grammar: u32, kind: u32, text: &[u8], told: &mut usize) -> u8
-    ensures { Told (validated_outcome grammar kind text.now) told.new result }
+pub extern "C" fn irikit_validate(grammar: u32, kind: u32, text: &[u8], detail: &mut usize) -> u8
+    ensures { Returned (validated_outcome grammar kind text.now) detail.new result }
 {
-    validation::irikit_validate(grammar, kind, text, told)
+    validation::irikit_validate(grammar, kind, text, detail)
 }
 
 /// The words for a kind of fault, as they stand in the answers of `irikit canon`.
 #[unsafe(no_mangle)]
-pub extern "C" fn irikit_fault_words(fault: usize, out: &mut [u8], told: &mut usize) -> u8
-    ensures { Answered (fault_words fault) out.old out.new told.new result }
+pub extern "C" fn irikit_fault_words(fault: usize, out: &mut [u8], detail: &mut usize) -> u8
+    ensures { Answered (fault_words fault) out.old out.new detail.new result }
 {
-    fault::irikit_fault_words(fault, out, told)
+    fault::irikit_fault_words(fault, out, detail)
 }
 
 /// Where the part of a text stands that has a kind of fault.
@@ -34,19 +34,24 @@ pub extern "C" fn irikit_fault_part(
     fault: usize,
     text: &[u8],
     part: &mut Slot,
-    told: &mut usize,
+    detail: &mut usize,
 ) -> u8
-    ensures { PartTold kind fault text.now part.old part.new told.new result }
+    ensures { PartFound kind fault text.now part.old part.new detail.new result }
 {
-    fault_part::irikit_fault_part(kind, fault, text, part, told)
+    fault_part::irikit_fault_part(kind, fault, text, part, detail)
 }
 
 /// The split of a reference.
 #[unsafe(no_mangle)]
-pub extern "C" fn irikit_split(grammar: u32, text: &[u8], parts: &mut Slots, told: &mut usize) -> u8
-    ensures { SplitTold grammar text.now parts.old parts.new told.new result }
+pub extern "C" fn irikit_split(
+    grammar: u32,
+    text: &[u8],
+    parts: &mut Slots,
+    detail: &mut usize,
+) -> u8
+    ensures { SplitWritten grammar text.now parts.old parts.new detail.new result }
 {
-    parts::irikit_split(grammar, text, parts, told)
+    parts::irikit_split(grammar, text, parts, detail)
 }
 
 /// The normal form of a text with a scheme.
@@ -56,19 +61,24 @@ pub extern "C" fn irikit_normalize(
     form: u32,
     text: &[u8],
     out: &mut [u8],
-    told: &mut usize,
+    detail: &mut usize,
 ) -> u8
-    ensures { Answered (normalized_outcome grammar form text.now) out.old out.new told.new result }
+    ensures { Answered (normalized_outcome grammar form text.now) out.old out.new detail.new result }
 {
-    normal::irikit_normalize(grammar, form, text, out, told)
+    normal::irikit_normalize(grammar, form, text, out, detail)
 }
 
 /// Whether a text with a scheme is its own normal form.
 #[unsafe(no_mangle)]
-pub extern "C" fn irikit_is_normalized(grammar: u32, form: u32, text: &[u8], told: &mut usize) -> u8
-    ensures { NormalTold grammar form text.now told.new result }
+pub extern "C" fn irikit_is_normalized(
+    grammar: u32,
+    form: u32,
+    text: &[u8],
+    detail: &mut usize,
+) -> u8
+    ensures { NormalJudged grammar form text.now detail.new result }
 {
-    normal::irikit_is_normalized(grammar, form, text, told)
+    normal::irikit_is_normalized(grammar, form, text, detail)
 }
 
 /// The steps that lead a text with a scheme to its normal form.
@@ -78,19 +88,19 @@ pub extern "C" fn irikit_steps(
     mode: u32,
     text: &[u8],
     out: &mut [u8],
-    told: &mut usize,
+    detail: &mut usize,
 ) -> u8
-    ensures { Answered (steps_outcome grammar mode text.now) out.old out.new told.new result }
+    ensures { Answered (steps_outcome grammar mode text.now) out.old out.new detail.new result }
 {
-    steps::irikit_steps(grammar, mode, text, out, told)
+    steps::irikit_steps(grammar, mode, text, out, detail)
 }
 
 /// A reference of IRIs, mapped to one of URIs.
 #[unsafe(no_mangle)]
-pub extern "C" fn irikit_map_to_uri(text: &[u8], out: &mut [u8], told: &mut usize) -> u8
-    ensures { Answered (mapped_outcome text.now) out.old out.new told.new result }
+pub extern "C" fn irikit_map_to_uri(text: &[u8], out: &mut [u8], detail: &mut usize) -> u8
+    ensures { Answered (mapped_outcome text.now) out.old out.new detail.new result }
 {
-    mapping::irikit_map_to_uri(text, out, told)
+    mapping::irikit_map_to_uri(text, out, detail)
 }
 
 /// A raw text, percent-encoded for its place in a reference.
@@ -100,17 +110,17 @@ pub extern "C" fn irikit_encode(
     place: u32,
     raw: &[u8],
     out: &mut [u8],
-    told: &mut usize,
+    detail: &mut usize,
 ) -> u8
-    ensures { Answered (encoded_outcome grammar place raw.now) out.old out.new told.new result }
+    ensures { Answered (encoded_outcome grammar place raw.now) out.old out.new detail.new result }
 {
-    encoding::irikit_encode(grammar, place, raw, out, told)
+    encoding::irikit_encode(grammar, place, raw, out, detail)
 }
 
 /// The bytes that a text decodes to.
 #[unsafe(no_mangle)]
-pub extern "C" fn irikit_decode(bytes: &[u8], out: &mut [u8], told: &mut usize) -> u8
-    ensures { Answered (text (decoding bytes.now)) out.old out.new told.new result }
+pub extern "C" fn irikit_decode(bytes: &[u8], out: &mut [u8], detail: &mut usize) -> u8
+    ensures { Answered (text (decoding bytes.now)) out.old out.new detail.new result }
 {
-    decoding::irikit_decode(bytes, out, told)
+    decoding::irikit_decode(bytes, out, detail)
 }

@@ -1,4 +1,4 @@
--- The part that is told of a fault isn't what the fault asks.
+-- The part that a fault names isn't what the fault asks.
 use Rattle.iri_calls.proofs.Common.{◌≡◌, ◌≤◌, ◌+◌, ◌-◌, ◌∙◌, ℕ, zero, suc, Bool, true, false, cond, List, [], ◌∷◌, ◌++◌, Option, Some, None}
 use Rattle.iri_calls.proofs.Common.{length, take, drop, refl, sym, ap, subst, arith, append_assoc, length-append, IsUtf8, is_utf8}
 use Rattle.iri_calls.proofs.Common.{false_from_ne_true, common_steps, is_utf8-from_IsUtf8, IsUtf8-from_is_utf8, Tests, before, delimited}
@@ -32,19 +32,19 @@ pub data Cause (s : Tests) (g : List ℕ → Option ErrorKind) (p : Parts) (kind
       → Cause s g p kind
   path : (outside : (is_path s p.path && colon_allowed p) ≡ false) (is : kind ≡ InvalidPath) → Cause s g p kind
   query : (q : List ℕ) (there : p.query ≡ Some q) (outside : is_query s q ≡ false) (is : kind ≡ InvalidQuery) → Cause s g p kind
-  fragment : (f : List ℕ) (there : p.fragment ≡ Some f) (told : g f ≡ Some kind) → Cause s g p kind
+  fragment : (f : List ℕ) (there : p.fragment ≡ Some f) (faulty : g f ≡ Some kind) → Cause s g p kind
 
 one_of : (a b : Option ErrorKind) (k : ErrorKind) → first a b ≡ Some k → (a ≡ Some k) ⊎ (b ≡ Some k)
 one_of None b k h = inr h
 one_of (Some e) b k h = inl h
 
-abbrev told-kind : Option ErrorKind → ErrorKind → ErrorKind
-told-kind None k = k
-told-kind (Some e) k = e
+abbrev kind_or : Option ErrorKind → ErrorKind → ErrorKind
+kind_or None k = k
+kind_or (Some e) k = e
 
 failed : (b : Bool) (e k : ErrorKind) → unless b e ≡ Some k → (b ≡ false) × (k ≡ e)
 failed true e k h = cc
-failed false e k h = (refl, sym (ap (λ o. told-kind o e) h))
+failed false e k h = (refl, sym (ap (λ o. kind_or o e) h))
 
 in-part : (f : List ℕ → Option ErrorKind) (o : Option (List ℕ)) (k : ErrorKind) → part_fault f o ≡ Some k
     → (x : List ℕ) × (o ≡ Some x) × (f x ≡ Some k)
@@ -260,8 +260,8 @@ module _ (s : Tests) (t : List ℕ) (p : Parts) (whole : recompose p ≡ t) wher
   of_cause g kind of_fragment (query q there outside is) =
       subst (λ k. IsFaulty s k t p (named_slot k t (slots_of p))) (sym is)
       (faulty_at InvalidQuery (slots_of p).query q (query_stands t p whole q there) outside)
-  of_cause g kind of_fragment (fragment f there told) =
-      elim (of_fragment f told) [
+  of_cause g kind of_fragment (fragment f there faulty) =
+      elim (of_fragment f faulty) [
         | inl invalid ↦
             subst (λ k. IsFaulty s k t p (named_slot k t (slots_of p))) (sym invalid.0)
             (faulty_at InvalidFragment (slots_of p).fragment f (fragment_stands t p whole f there) invalid.1)
@@ -273,14 +273,14 @@ module _ (s : Tests) (t : List ℕ) (p : Parts) (whole : recompose p ≡ t) wher
   pub of_parts : (kind : ErrorKind) → parts_fault s (fragment_fault s) p ≡ Some kind → IsFaulty s kind t p (named_slot kind t (slots_of p))
   unfolding OfFragment
   of_parts kind h =
-      of_cause (fragment_fault s) kind (λ f told. let x = failed (is_fragment s f) InvalidFragment kind told in inl (x.1, x.0))
+      of_cause (fragment_fault s) kind (λ f faulty. let x = failed (is_fragment s f) InvalidFragment kind faulty in inl (x.1, x.0))
       (cause s (fragment_fault s) p kind h)
 
   pub of_parts_without_fragment : (kind : ErrorKind) → parts_fault s (λ _. Some UnexpectedFragment) p ≡ Some kind
       → IsFaulty s kind t p (named_slot kind t (slots_of p))
   unfolding OfFragment
   of_parts_without_fragment kind h =
-      of_cause (λ _. Some UnexpectedFragment) kind (λ f told. inr (sym (ap (λ o. told-kind o UnexpectedFragment) told)))
+      of_cause (λ _. Some UnexpectedFragment) kind (λ f faulty. inr (sym (ap (λ o. kind_or o UnexpectedFragment) faulty)))
       (cause s (λ _. Some UnexpectedFragment) p kind h)
 
   -- where a scheme must stand
@@ -289,7 +289,7 @@ module _ (s : Tests) (t : List ℕ) (p : Parts) (whole : recompose p ≡ t) wher
     where
       unexpected : Some UnexpectedRelative ≡ Some kind → IsFaulty s kind t p (named_slot kind t (slots_of p))
       unexpected e =
-          subst (λ k. IsFaulty s k t p (named_slot k t (slots_of p))) (ap (λ o. told-kind o kind) e)
+          subst (λ k. IsFaulty s k t p (named_slot k t (slots_of p))) (ap (λ o. kind_or o kind) e)
           (record { within = omega arith; faulty = refl })
 
       invalid : lacks colon t ≡ false → scheme_fault (before colon t) ≡ Some kind → IsFaulty s kind t p (named_slot kind t (slots_of p))
@@ -315,7 +315,7 @@ of_bytes s f t p kind law h = at (is_utf8 t) refl h
     at : (b : Bool) → is_utf8 t ≡ b → cond b (f t) (Some InvalidUtf8) ≡ Some kind
         → IsFaulty s kind t p (cond b (named_slot kind t (slots_of p)) (past t))
     at true e h = law h
-    at false e h = subst (λ k. IsFaulty s k t p (past t)) (ap (λ o. told-kind o kind) h) (not_utf8 s t p e)
+    at false e h = subst (λ k. IsFaulty s k t p (past t)) (ap (λ o. kind_or o kind) h) (not_utf8 s t p e)
 
 pub of_first : (s : Tests) (t : List ℕ) (p : Parts) (g : List ℕ → Option ErrorKind) (kind : ErrorKind) → recompose p ≡ t
     → (parts_fault s g p ≡ Some kind → IsFaulty s kind t p (named_slot kind t (slots_of p)))

@@ -79,7 +79,7 @@ pub record Going (answer : List ℕ → List ℕ) (input : List ℕ) (start : Bu
   pub part : length rest ≤ length input
   pub width : length now.buf.now ≡ length start.buf.now
   pub out : over_at written (flat_map answer (ended rest)) now.buf.now ≡ over (flat_map answer (ended input)) start.buf.now
-  pub told : later (length input - length rest) written (batch answer (length start.buf.now - written) (ended rest))
+  pub counts : later (length input - length rest) written (batch answer (length start.buf.now - written) (ended rest))
       ≡ batch answer (length start.buf.now) (ended input)
 
 module _ (answer : List ℕ → List ℕ) (input : List ℕ) (start : BufferSink) where
@@ -91,7 +91,7 @@ module _ (answer : List ℕ → List ℕ) (input : List ℕ) (start : BufferSink
     part = omega arith;
     width = refl;
     out = over_at_start 0 (flat_map answer (ended input)) start.buf.now refl;
-    told =
+    counts =
         let none : length input - length input ≡ 0 = omega arith in
         let all : length start.buf.now - 0 ≡ length start.buf.now = omega arith in
         ap (λ n. later n 0 (batch answer (length start.buf.now - 0) (ended input))) none
@@ -106,7 +106,7 @@ module _ (answer : List ℕ → List ℕ) (input : List ℕ) (start : BufferSink
         sym (later-done (length input - length rest) written ok)
         ∙ ap (later (length input - length rest) written) (sym (ap (batch answer (length start.buf.now - written)) e
         ∙ batch-none answer (length start.buf.now - written)))
-        ∙ g.told
+        ∙ g.counts
 
     pub going_end-bytes : ended rest ≡ [] → now.buf.now ≡ over (flat_map answer (ended input)) start.buf.now
     going_end-bytes e =
@@ -120,7 +120,7 @@ module _ (answer : List ℕ → List ℕ) (input : List ℕ) (start : BufferSink
           sym (later-done (length input - length rest) written short)
           ∙ ap (later (length input - length rest) written) (sym (ap (batch answer (length start.buf.now - written)) is
           ∙ batch-short answer (length start.buf.now - written) raw (ended after) (omega (arith, g.fits, h))))
-          ∙ g.told
+          ∙ g.counts
 
       out-line : over_at written (answer raw ++ flat_map answer (ended after)) now.buf.now
           ≡ over (flat_map answer (ended input)) start.buf.now
@@ -151,7 +151,7 @@ module _ (answer : List ℕ → List ℕ) (input : List ℕ) (start : BufferSink
             out =
                 ap (over_at next.len more) p.buf ∙ over_at-both now.len next.len a more now.buf.now p.len
                 ∙ ap (λ n. over_at n (a ++ more) now.buf.now) g.len ∙ out-line;
-            told =
+            counts =
                 sym (ap (λ ls. later (length input - length rest) written (batch answer (length start.buf.now - written) ls)) is
                 ∙ ap (later (length input - length rest) written)
                 (batch-fits answer (length start.buf.now - written) raw (ended after) room)
@@ -160,5 +160,5 @@ module _ (answer : List ℕ → List ℕ) (input : List ℕ) (start : BufferSink
                 ∙ ap (λ n. later n (written + length a) (batch answer ((length start.buf.now - written) - length a) (ended after))) consumed
                 ∙ ap (λ n. later (length input - length after) n (batch answer ((length start.buf.now - written) - length a) (ended after))) total
                 ∙ ap (λ n. later (length input - length after) next.len (batch answer n (ended after))) left)
-                ∙ g.told;
+                ∙ g.counts;
           }

@@ -14,7 +14,7 @@ use Rattle.iri_grammar.specs.declared.error.ErrorKind.TheVariants.{InvalidScheme
 use Rattle.iri_grammar.specs.declared.error.ErrorKind.TheVariants.{InvalidPort, InvalidPath, InvalidQuery, InvalidFragment}
 use Rattle.iri_grammar.specs.declared.error.ErrorKind.TheVariants.{UnexpectedFragment, UnexpectedRelative, InvalidUtf8}
 use Rattle.iri_calls.specs.Numbers.{ok, unknown, fault_numbered}
-use Rattle.iri_calls.specs.Outcome.{Told}
+use Rattle.iri_calls.specs.Outcome.{Returned}
 use Rattle.iri_calls.specs.Outcome.Outcome.{plain}
 use Rattle.iri_calls.specs.Slots.{bytes_at, nowhere, place, slots_of}
 use Rattle.iri_calls.specs.declared.parts.Slot.{Slot}
@@ -51,14 +51,14 @@ split_numbered kind =
     cond (nat_eq kind REFERENCE || nat_eq kind WITH_SCHEME || nat_eq kind ABSOLUTE) (Some split_of)
     (cond (nat_eq kind RELATIVE) (Some relative_split_of) None)
 
--- the part is told, or no fault or no kind has the number, and the slot stays
-abbrev pub PartToldBy : Option ErrorKind → Option (List ℕ → Parts) → List ℕ → Slot → Slot → ℕ → ℕ → Type 0
-PartToldBy (Some fault) (Some split) t old new told status = (new ≡ faulty_slot fault t (split t)) × Told (plain ok) told status
-PartToldBy (Some fault) None t old new told status = (new ≡ old) × Told (plain unknown) told status
-PartToldBy None split t old new told status = (new ≡ old) × Told (plain unknown) told status
+-- the part is written, or no fault or no kind has the number, and the slot stays
+abbrev pub PartFoundBy : Option ErrorKind → Option (List ℕ → Parts) → List ℕ → Slot → Slot → ℕ → ℕ → Type 0
+PartFoundBy (Some fault) (Some split) t old new detail status = (new ≡ faulty_slot fault t (split t)) × Returned (plain ok) detail status
+PartFoundBy (Some fault) None t old new detail status = (new ≡ old) × Returned (plain unknown) detail status
+PartFoundBy None split t old new detail status = (new ≡ old) × Returned (plain unknown) detail status
 
-abbrev pub PartTold : ℕ → ℕ → List ℕ → Slot → Slot → ℕ → ℕ → Type 0
-PartTold kind fault t old new told status = PartToldBy (fault_numbered fault) (split_numbered kind) t old new told status
+abbrev pub PartFound : ℕ → ℕ → List ℕ → Slot → Slot → ℕ → ℕ → Type 0
+PartFound kind fault t old new detail status = PartFoundBy (fault_numbered fault) (split_numbered kind) t old new detail status
 
 -- whether bytes are what a kind of fault asks where they are its part among these parts; no fragment is where none may stand
 abbrev pub is_in_production : Tests → ErrorKind → Parts → List ℕ → Bool

@@ -10,7 +10,7 @@ use Rattle.iri_percent.specs.declared.canon_mode.CanonMode.{CanonMode}
 use Rattle.iri_normal.specs.Answers.{answer_in}
 use Rattle.iri_calls.specs.Buffers.{over}
 use Rattle.iri_calls.specs.Numbers.{ok, short, bad_base, unknown, grammar_of, mode_numbered}
-use Rattle.iri_calls.specs.Outcome.{Told}
+use Rattle.iri_calls.specs.Outcome.{Returned}
 use Rattle.iri_calls.specs.Outcome.Outcome.{fault, plain}
 use Rattle.iri_calls.specs.declared.lines.Batch.{Batch}
 
@@ -29,28 +29,28 @@ batch answer room (line ∷ lines) =
     cond (nat_lt room (length (answer line))) (record { consumed = 0; written = 0; status = short })
     (later (length line + 1) (length (answer line)) (batch answer (room - length (answer line)) lines))
 
--- what was done is told
-abbrev pub BatchTold : Batch → ℕ → ℕ → ℕ → Type 0
-BatchTold b consumed told status = (consumed ≡ b.consumed) × (told ≡ b.written) × (status ≡ b.status)
+-- what was done is returned
+abbrev pub BatchReturned : Batch → ℕ → ℕ → ℕ → Type 0
+BatchReturned b consumed detail status = (consumed ≡ b.consumed) × (detail ≡ b.written) × (status ≡ b.status)
 
--- The answers to all lines stand over the start of the buffer, as far as there is room. Told is what of them stands whole.
+-- The answers to all lines stand over the start of the buffer, as far as there is room. The detail is how many bytes of them stand whole.
 abbrev pub BatchedBy : Option ErrorKind → (List ℕ → List ℕ) → List ℕ → List ℕ → List ℕ → ℕ → ℕ → ℕ → Type 0
-BatchedBy None answer lines old new consumed told status =
-    (new ≡ over (flat_map answer (ended lines)) old) × BatchTold (batch answer (length old) (ended lines)) consumed told status
-BatchedBy (Some kind) answer lines old new consumed told status =
-    (new ≡ old) × (consumed ≡ 0) × Told (fault bad_base kind) told status
+BatchedBy None answer lines old new consumed detail status =
+    (new ≡ over (flat_map answer (ended lines)) old) × BatchReturned (batch answer (length old) (ended lines)) consumed detail status
+BatchedBy (Some kind) answer lines old new consumed detail status =
+    (new ≡ old) × (consumed ≡ 0) × Returned (fault bad_base kind) detail status
 
 abbrev pub BatchedIn : Tests → CanonMode → List ℕ → List ℕ → List ℕ → List ℕ → ℕ → ℕ → ℕ → Type 0
-BatchedIn s mode base lines old new consumed told status =
-    BatchedBy (bytes_fault (absolute_fault s) base) (line_answer s mode base) lines old new consumed told status
+BatchedIn s mode base lines old new consumed detail status =
+    BatchedBy (bytes_fault (absolute_fault s) base) (line_answer s mode base) lines old new consumed detail status
 
 abbrev pub BatchedOf : Option Tests → Option CanonMode → List ℕ → List ℕ → List ℕ → List ℕ → ℕ → ℕ → ℕ → Type 0
-BatchedOf (Some s) (Some mode) base lines old new consumed told status = BatchedIn s mode base lines old new consumed told status
-BatchedOf (Some s) None base lines old new consumed told status =
-    (new ≡ old) × (consumed ≡ 0) × Told (plain unknown) told status
-BatchedOf None mode base lines old new consumed told status =
-    (new ≡ old) × (consumed ≡ 0) × Told (plain unknown) told status
+BatchedOf (Some s) (Some mode) base lines old new consumed detail status = BatchedIn s mode base lines old new consumed detail status
+BatchedOf (Some s) None base lines old new consumed detail status =
+    (new ≡ old) × (consumed ≡ 0) × Returned (plain unknown) detail status
+BatchedOf None mode base lines old new consumed detail status =
+    (new ≡ old) × (consumed ≡ 0) × Returned (plain unknown) detail status
 
 abbrev pub Batched : ℕ → ℕ → List ℕ → List ℕ → List ℕ → List ℕ → ℕ → ℕ → ℕ → Type 0
-Batched grammar mode base lines old new consumed told status =
-    BatchedOf (grammar_of grammar) (mode_numbered mode) base lines old new consumed told status
+Batched grammar mode base lines old new consumed detail status =
+    BatchedOf (grammar_of grammar) (mode_numbered mode) base lines old new consumed detail status

@@ -19,16 +19,16 @@ slot_of p = record { offset = p.0; len = length p.1 }
 abbrev pub name_slots : List ℕ → List Slot
 name_slots t = map slot_of (placed_names 0 (pieces_of t))
 
--- so many slots are told, and whether all have room
-abbrev pub NamesToldBy : Option Error → List ℕ → List Slot → List Slot → ℕ → ℕ → ℕ → Type 0
-NamesToldBy (Some e) t old new told place status = (new ≡ old) × Refused e told place status
-NamesToldBy None t old new told place status =
-    (new ≡ over (name_slots t) old) × (told ≡ length (name_slots t)) × (place ≡ 0)
+-- how many slots there are, and whether all have room
+abbrev pub NamesWrittenBy : Option Error → List ℕ → List Slot → List Slot → ℕ → ℕ → ℕ → Type 0
+NamesWrittenBy (Some e) t old new detail place status = (new ≡ old) × Refused e detail place status
+NamesWrittenBy None t old new detail place status =
+    (new ≡ over (name_slots t) old) × (detail ≡ length (name_slots t)) × (place ≡ 0)
     × (status ≡ cond (nat_lt (length old) (length (name_slots t))) short ok)
 
 -- The slots of the names stand over the start of the caller's, as far as there is room; or the template is refused, and they stay.
-abbrev pub NamesTold : List ℕ → List Slot → List Slot → ℕ → ℕ → ℕ → Type 0
-NamesTold t old new told place status = NamesToldBy (template_fault t) t old new told place status
+abbrev pub NamesWritten : List ℕ → List Slot → List Slot → ℕ → ℕ → ℕ → Type 0
+NamesWritten t old new detail place status = NamesWrittenBy (template_fault t) t old new detail place status
 
 -- in the slots of a template its names stand
 abbrev pub HoldsNames : List ℕ → Type 0

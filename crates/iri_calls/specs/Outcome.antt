@@ -1,4 +1,4 @@
--- What a call comes to, and how C is told.
+-- What a call comes to, and how it returns that.
 use Rattle.std.specs.Prelude.{◌≡◌, ◌^◌, ◌-◌, ℕ, cond, nat_lt, min, length, List, []}
 use Rattle.iri_grammar.specs.declared.error.ErrorKind.{ErrorKind}
 use Rattle.iri_calls.specs.Buffers.{over}
@@ -10,14 +10,14 @@ pub data Outcome : Type 0 where
   fault : (status : ℕ) (kind : ErrorKind) → Outcome
   plain : (status : ℕ) → Outcome
 
--- A text is written over the start of the buffer as far as there is room, and its length in bytes is told, up to 2^64 - 1; a fault
--- is told by its number. Where there is no text the buffer stays as it was.
+-- A text is written over the start of the buffer as far as there is room, and the detail is its length in bytes, up to 2^64 - 1; that
+-- of a fault is its number. Where there is no text the buffer stays as it was.
 abbrev pub Answered : Outcome → List ℕ → List ℕ → ℕ → ℕ → Type 0
-Answered (text t) old new told status =
-    (new ≡ over t old) × (told ≡ min (length t) (2 ^ 64 - 1)) × (status ≡ cond (nat_lt (length old) (length t)) short ok)
-Answered (fault whose kind) old new told status = (new ≡ old) × (told ≡ fault_number kind) × (status ≡ whose)
-Answered (plain what) old new told status = (new ≡ old) × (told ≡ 0) × (status ≡ what)
+Answered (text t) old new detail status =
+    (new ≡ over t old) × (detail ≡ min (length t) (2 ^ 64 - 1)) × (status ≡ cond (nat_lt (length old) (length t)) short ok)
+Answered (fault whose kind) old new detail status = (new ≡ old) × (detail ≡ fault_number kind) × (status ≡ whose)
+Answered (plain what) old new detail status = (new ≡ old) × (detail ≡ 0) × (status ≡ what)
 
 -- the same of a call that writes no text
-abbrev pub Told : Outcome → ℕ → ℕ → Type 0
-Told outcome told status = Answered outcome [] [] told status
+abbrev pub Returned : Outcome → ℕ → ℕ → Type 0
+Returned outcome detail status = Answered outcome [] [] detail status

@@ -11,7 +11,7 @@ use Rattle.iri_normal.specs.IsNormalized.{IsInMode}
 use Rattle.iri_normal.specs.NormalForm.{canonical_in}
 use Rattle.iri_normal.specs.declared.mode.Mode.{Mode}
 use Rattle.iri_calls.specs.Numbers.{ok, not_normal, bad_text, bad_base, bad_reference, unknown, grammar_of, fault_numbered, form_numbered, mode_numbered}
-use Rattle.iri_calls.specs.Outcome.{Outcome, Told}
+use Rattle.iri_calls.specs.Outcome.{Outcome, Returned}
 use Rattle.iri_calls.specs.Outcome.Outcome.{text, fault, plain}
 use Rattle.iri_calls.specs.declared.validation.TheConstants.{REFERENCE, WITH_SCHEME, ABSOLUTE, RELATIVE}
 
@@ -70,17 +70,17 @@ fault_words number = words_of description (fault_numbered number)
 
 -- whether a `URI` is its own normal form, by the number of that form
 abbrev pub OwnForm : Option ErrorKind → Tests → Mode → List ℕ → ℕ → ℕ → Type 0
-OwnForm (Some kind) s form t told status = Told (fault bad_text kind) told status
-OwnForm None s form t told status =
-    (told ≡ 0) × (((status ≡ ok) × IsInMode s form t) ⊎ ((status ≡ not_normal) × ¬ IsInMode s form t))
+OwnForm (Some kind) s form t detail status = Returned (fault bad_text kind) detail status
+OwnForm None s form t detail status =
+    (detail ≡ 0) × (((status ≡ ok) × IsInMode s form t) ⊎ ((status ≡ not_normal) × ¬ IsInMode s form t))
 
-abbrev pub NormalToldIn : Tests → Mode → List ℕ → ℕ → ℕ → Type 0
-NormalToldIn s form t told status = OwnForm (bytes_fault (iri_fault s) t) s form t told status
+abbrev pub NormalJudgedIn : Tests → Mode → List ℕ → ℕ → ℕ → Type 0
+NormalJudgedIn s form t detail status = OwnForm (bytes_fault (iri_fault s) t) s form t detail status
 
-abbrev pub NormalToldBy : Option Tests → Option Mode → List ℕ → ℕ → ℕ → Type 0
-NormalToldBy (Some s) (Some form) t told status = NormalToldIn s form t told status
-NormalToldBy (Some s) None t told status = Told (plain unknown) told status
-NormalToldBy None form t told status = Told (plain unknown) told status
+abbrev pub NormalJudgedBy : Option Tests → Option Mode → List ℕ → ℕ → ℕ → Type 0
+NormalJudgedBy (Some s) (Some form) t detail status = NormalJudgedIn s form t detail status
+NormalJudgedBy (Some s) None t detail status = Returned (plain unknown) detail status
+NormalJudgedBy None form t detail status = Returned (plain unknown) detail status
 
-abbrev pub NormalTold : ℕ → ℕ → List ℕ → ℕ → ℕ → Type 0
-NormalTold grammar form t told status = NormalToldBy (grammar_of grammar) (form_numbered form) t told status
+abbrev pub NormalJudged : ℕ → ℕ → List ℕ → ℕ → ℕ → Type 0
+NormalJudged grammar form t detail status = NormalJudgedBy (grammar_of grammar) (form_numbered form) t detail status

@@ -8,7 +8,7 @@ use Rattle.iri_grammar.specs.Split.{split_of}
 use Rattle.iri_grammar.specs.WholeFault.{reference_fault}
 use Rattle.iri_grammar.specs.declared.error.ErrorKind.{ErrorKind}
 use Rattle.iri_calls.specs.Numbers.{ok, bad_text, unknown, grammar_of}
-use Rattle.iri_calls.specs.Outcome.{Told}
+use Rattle.iri_calls.specs.Outcome.{Returned}
 use Rattle.iri_calls.specs.Outcome.Outcome.{fault, plain}
 use Rattle.iri_calls.specs.declared.parts.AuthoritySlots.{AuthoritySlots}
 use Rattle.iri_calls.specs.declared.parts.Slot.{Slot}
@@ -74,16 +74,16 @@ abbrev pub slots_of : Parts → Slots
 slots_of p = slots_in p (within_authority (width 1 p.scheme) p.authority)
 
 -- the slots are those of the text's split; or the text is refused, and they stay
-abbrev pub SplitToldBy : Option ErrorKind → List ℕ → Slots → Slots → ℕ → ℕ → Type 0
-SplitToldBy None t old new told status = (new ≡ slots_of (split_of t)) × Told (plain ok) told status
-SplitToldBy (Some kind) t old new told status = (new ≡ old) × Told (fault bad_text kind) told status
+abbrev pub SplitWrittenBy : Option ErrorKind → List ℕ → Slots → Slots → ℕ → ℕ → Type 0
+SplitWrittenBy None t old new detail status = (new ≡ slots_of (split_of t)) × Returned (plain ok) detail status
+SplitWrittenBy (Some kind) t old new detail status = (new ≡ old) × Returned (fault bad_text kind) detail status
 
-abbrev pub SplitToldIn : List ℕ → Slots → Slots → ℕ → ℕ → Tests → Type 0
-SplitToldIn t old new told status s = SplitToldBy (bytes_fault (reference_fault s) t) t old new told status
+abbrev pub SplitWrittenIn : List ℕ → Slots → Slots → ℕ → ℕ → Tests → Type 0
+SplitWrittenIn t old new detail status s = SplitWrittenBy (bytes_fault (reference_fault s) t) t old new detail status
 
-abbrev pub SplitToldOf : Option Tests → List ℕ → Slots → Slots → ℕ → ℕ → Type 0
-SplitToldOf None t old new told status = (new ≡ old) × Told (plain unknown) told status
-SplitToldOf (Some s) t old new told status = SplitToldIn t old new told status s
+abbrev pub SplitWrittenOf : Option Tests → List ℕ → Slots → Slots → ℕ → ℕ → Type 0
+SplitWrittenOf None t old new detail status = (new ≡ old) × Returned (plain unknown) detail status
+SplitWrittenOf (Some s) t old new detail status = SplitWrittenIn t old new detail status s
 
-abbrev pub SplitTold : ℕ → List ℕ → Slots → Slots → ℕ → ℕ → Type 0
-SplitTold grammar t old new told status = SplitToldOf (grammar_of grammar) t old new told status
+abbrev pub SplitWritten : ℕ → List ℕ → Slots → Slots → ℕ → ℕ → Type 0
+SplitWritten grammar t old new detail status = SplitWrittenOf (grammar_of grammar) t old new detail status

@@ -21,7 +21,7 @@ use Rattle.iri_calls.specs.declared.template.TheConstants.{EXPRESSION_NOT_CLOSED
 use Rattle.iri_calls.specs.declared.template.TheConstants.{INVALID_UTF8, UNEXPECTED_VALUE_TYPE, UNSUPPORTED_OPERATOR, WRITE_FAILED, MEMORY}
 use Rattle.iri_calls.specs.declared.variables.Variable.{Variable}
 
--- the kinds of faults that are told; the last two of `template_fault_number` don't come where no text is written to a sink that
+-- the kinds of faults that are returned; the last two of `template_fault_number` don't come where no text is written to a sink that
 -- stops and no memory is taken
 abbrev pub template_kinds : List ErrorKind
 template_kinds =
@@ -49,24 +49,24 @@ template_fault_words number = words_of description (template_fault_numbered numb
 
 -- the kind of a fault and its place in bytes
 abbrev pub Refused : Error → ℕ → ℕ → ℕ → Type 0
-Refused e told place status = (told ≡ template_fault_number e.kind) × (place ≡ e.location) × (status ≡ bad_text)
+Refused e detail place status = (detail ≡ template_fault_number e.kind) × (place ≡ e.location) × (status ≡ bad_text)
 
 -- the first fault of the template; otherwise that of its values; otherwise the expansion
 abbrev pub ExpandedBy : Option Error → Tests → List ℕ → List Variable → List ℕ → List ℕ → ℕ → ℕ → ℕ → Type 0
-ExpandedBy (Some e) s t vs old new told place status = (new ≡ old) × Refused e told place status
-ExpandedBy None s t vs old new told place status =
-    (place ≡ 0) × Answered (text (expansion s (value_in vs) (pieces_of t))) old new told status
+ExpandedBy (Some e) s t vs old new detail place status = (new ≡ old) × Refused e detail place status
+ExpandedBy None s t vs old new detail place status =
+    (place ≡ 0) × Answered (text (expansion s (value_in vs) (pieces_of t))) old new detail status
 
 abbrev pub ExpandedIn : Tests → List ℕ → List Variable → List ℕ → List ℕ → ℕ → ℕ → ℕ → Type 0
-ExpandedIn s t vs old new told place status =
-    ExpandedBy (first (template_fault t) (type_fault (value_in vs) (pieces_of t))) s t vs old new told place status
+ExpandedIn s t vs old new detail place status =
+    ExpandedBy (first (template_fault t) (type_fault (value_in vs) (pieces_of t))) s t vs old new detail place status
 
 abbrev pub ExpandedOf : Option ℕ → Option Tests → List ℕ → List Variable → List ℕ → List ℕ → ℕ → ℕ → ℕ → Type 0
-ExpandedOf (Some i) g t vs old new told place status = (place ≡ i) × Answered (plain bad_variable) old new told status
-ExpandedOf None None t vs old new told place status = (place ≡ 0) × Answered (plain unknown) old new told status
-ExpandedOf None (Some s) t vs old new told place status = ExpandedIn s t vs old new told place status
+ExpandedOf (Some i) g t vs old new detail place status = (place ≡ i) × Answered (plain bad_variable) old new detail status
+ExpandedOf None None t vs old new detail place status = (place ≡ 0) × Answered (plain unknown) old new detail status
+ExpandedOf None (Some s) t vs old new detail place status = ExpandedIn s t vs old new detail place status
 
--- a variable that isn't sound is told by its index, before all else
+-- a variable that isn't sound comes before all else: its place is its index
 abbrev pub Expanded : ℕ → List ℕ → List Variable → List ℕ → List ℕ → ℕ → ℕ → ℕ → Type 0
-Expanded grammar t vs old new told place status =
-    ExpandedOf (position (λ v. not (is_sound v)) vs) (grammar_of grammar) t vs old new told place status
+Expanded grammar t vs old new detail place status =
+    ExpandedOf (position (λ v. not (is_sound v)) vs) (grammar_of grammar) t vs old new detail place status

@@ -96,9 +96,9 @@ pub fn write_text<T: Show>(buf: &mut [u8], value: &T) -> usize
 
 /// Writes the text of a value over the start of a buffer as far as there is room, tells how many bytes it has, and returns whether
 /// it had room.
-pub fn answer_text<T: Show>(out: &mut [u8], value: &T, told: &mut usize) -> u8
-    ensures { Answered (text (T.text value.now)) out.old out.new told.new result }
+pub fn answer_text<T: Show>(out: &mut [u8], value: &T, detail: &mut usize) -> u8
+    ensures { Answered (text (T.text value.now)) out.old out.new detail.new result }
 {
-    *told = write_text(out, value);
-    if *told <= out.len() { OK } else { SHORT }
+    *detail = write_text(out, value);
+    if *detail <= out.len() { OK } else { SHORT }
 }

@@ -90,37 +90,37 @@ fn are_texts(parts: &[Part<'_>]) -> bool
 }
 
 // The text of a kind that a builder makes.
-fn build_as<S: Spec, K: BuildKind>(builder: &Builder<'_>, out: &mut [u8], told: &mut usize) -> u8
-    ensures { Answered (built_by S.tests K.refusal (given builder.now)) out.old out.new told.new result }
+fn build_as<S: Spec, K: BuildKind>(builder: &Builder<'_>, out: &mut [u8], detail: &mut usize) -> u8
+    ensures { Answered (built_by S.tests K.refusal (given builder.now)) out.old out.new detail.new result }
 {
     match builder.validate::<S, K>() {
-        Ok(()) => answer_text(out, builder, told),
-        Err(error) => answer_fault(BAD_PART, error.kind(), told),
+        Ok(()) => answer_text(out, builder, detail),
+        Err(error) => answer_fault(BAD_PART, error.kind(), detail),
     }
 }
 
 // The same of the kind of this number.
-fn build_in<S: Spec>(kind: u32, builder: &Builder<'_>, out: &mut [u8], told: &mut usize) -> u8
-    ensures { Answered (built_in kind (given builder.now) S.tests) out.old out.new told.new result }
+fn build_in<S: Spec>(kind: u32, builder: &Builder<'_>, out: &mut [u8], detail: &mut usize) -> u8
+    ensures { Answered (built_in kind (given builder.now) S.tests) out.old out.new detail.new result }
 {
     match kind {
-        REFERENCE => build_as::<S, Reference>(builder, out, told),
-        WITH_SCHEME => build_as::<S, Iri>(builder, out, told),
-        ABSOLUTE => build_as::<S, Absolute>(builder, out, told),
-        RELATIVE => build_as::<S, Relative>(builder, out, told),
-        _ => answer(UNKNOWN, told),
+        REFERENCE => build_as::<S, Reference>(builder, out, detail),
+        WITH_SCHEME => build_as::<S, Iri>(builder, out, detail),
+        ABSOLUTE => build_as::<S, Absolute>(builder, out, detail),
+        RELATIVE => build_as::<S, Relative>(builder, out, detail),
+        _ => answer(UNKNOWN, detail),
     }
 }
 
 // The text that parts make.
-fn build_text(grammar: u32, kind: u32, parts: &[Part<'_>], out: &mut [u8], told: &mut usize) -> u8
-    ensures { Answered (built_as grammar kind parts.now) out.old out.new told.new result }
+fn build_text(grammar: u32, kind: u32, parts: &[Part<'_>], out: &mut [u8], detail: &mut usize) -> u8
+    ensures { Answered (built_as grammar kind parts.now) out.old out.new detail.new result }
 {
     let builder = builder_of(parts);
     match grammar {
-        URI => build_in::<UriSpec>(kind, &builder, out, told),
-        IRI => build_in::<IriSpec>(kind, &builder, out, told),
-        _ => answer(UNKNOWN, told),
+        URI => build_in::<UriSpec>(kind, &builder, out, detail),
+        IRI => build_in::<IriSpec>(kind, &builder, out, detail),
+        _ => answer(UNKNOWN, detail),
     }
 }
 
@@ -130,15 +130,15 @@ pub fn irikit_build(
     kind: u32,
     parts: &[Part<'_>],
     out: &mut [u8],
-    told: &mut usize,
+    detail: &mut usize,
 ) -> u8
-    ensures { Answered (built_outcome grammar kind parts.now) out.old out.new told.new result }
+    ensures { Answered (built_outcome grammar kind parts.now) out.old out.new detail.new result }
 {
     if !are_parts(parts) {
-        return answer(UNKNOWN, told);
+        return answer(UNKNOWN, detail);
     }
     if !are_texts(parts) {
-        return answer_fault(BAD_PART, ErrorKind::InvalidUtf8, told);
+        return answer_fault(BAD_PART, ErrorKind::InvalidUtf8, detail);
     }
-    build_text(grammar, kind, parts, out, told)
+    build_text(grammar, kind, parts, out, detail)
 }

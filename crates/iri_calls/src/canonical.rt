@@ -40,13 +40,13 @@ fn canonical_as<S: Spec>(
     base: &[u8],
     reference: &[u8],
     out: &mut [u8],
-    told: &mut usize,
+    detail: &mut usize,
 ) -> u8
-    ensures { Answered (canonical_as S.tests mode base.now reference.now) out.old out.new told.new result }
+    ensures { Answered (canonical_as S.tests mode base.now reference.now) out.old out.new detail.new result }
 {
     let base = match SplitView::<S, Absolute>::absolute_from_bytes(base) {
         Ok(base) => base,
-        Err(error) => return answer_fault(BAD_BASE, error.kind(), told),
+        Err(error) => return answer_fault(BAD_BASE, error.kind(), detail),
     };
     match SplitView::<S, Reference>::try_from_bytes(reference) {
         Ok(reference) => {
@@ -55,9 +55,9 @@ fn canonical_as<S: Spec>(
                 resolver: &FixedBaseResolver::of_split(base),
                 reference: &reference,
             };
-            answer_text(out, &canonical, told)
+            answer_text(out, &canonical, detail)
         }
-        Err(error) => answer_fault(BAD_REFERENCE, error.kind(), told),
+        Err(error) => answer_fault(BAD_REFERENCE, error.kind(), detail),
     }
 }
 
@@ -68,13 +68,13 @@ pub fn irikit_canonical(
     base: &[u8],
     reference: &[u8],
     out: &mut [u8],
-    told: &mut usize,
+    detail: &mut usize,
 ) -> u8
-    ensures { Answered (canonical_outcome grammar mode base.now reference.now) out.old out.new told.new result }
+    ensures { Answered (canonical_outcome grammar mode base.now reference.now) out.old out.new detail.new result }
 {
     match (grammar, mode_of(mode)) {
-        (URI, Some(mode)) => canonical_as::<UriSpec>(mode, base, reference, out, told),
-        (IRI, Some(mode)) => canonical_as::<IriSpec>(mode, base, reference, out, told),
-        _ => answer(UNKNOWN, told),
+        (URI, Some(mode)) => canonical_as::<UriSpec>(mode, base, reference, out, detail),
+        (IRI, Some(mode)) => canonical_as::<IriSpec>(mode, base, reference, out, detail),
+        _ => answer(UNKNOWN, detail),
     }
 }

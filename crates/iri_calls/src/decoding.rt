@@ -45,9 +45,9 @@ fn write_decoded(out: &mut [u8], bytes: &[u8]) -> usize
 }
 
 /// The bytes that a text decodes to.
-pub fn irikit_decode(bytes: &[u8], out: &mut [u8], told: &mut usize) -> u8
-    ensures { Answered (text (decoding bytes.now)) out.old out.new told.new result }
+pub fn irikit_decode(bytes: &[u8], out: &mut [u8], detail: &mut usize) -> u8
+    ensures { Answered (text (decoding bytes.now)) out.old out.new detail.new result }
 {
-    *told = write_decoded(out, bytes);
-    if *told <= out.len() { OK } else { SHORT }
+    *detail = write_decoded(out, bytes);
+    if *detail <= out.len() { OK } else { SHORT }
 }

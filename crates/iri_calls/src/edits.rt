@@ -19,44 +19,44 @@ use iri_text::{Show, Stop, TextSink, show_three};
 use iri_types::view::{RiFragmentStr, RiReferenceStr};
 
 // The masked text in one grammar.
-fn mask_in<S: Spec>(text: &[u8], out: &mut [u8], told: &mut usize) -> u8
-    ensures { Answered (masked_in text.now S.tests) out.old out.new told.new result }
+fn mask_in<S: Spec>(text: &[u8], out: &mut [u8], detail: &mut usize) -> u8
+    ensures { Answered (masked_in text.now S.tests) out.old out.new detail.new result }
 {
     match RiReferenceStr::<S>::try_from_bytes(text) {
-        Ok(view) => answer_text(out, &view.mask_password(), told),
-        Err(error) => answer_fault(BAD_TEXT, error.kind(), told),
+        Ok(view) => answer_text(out, &view.mask_password(), detail),
+        Err(error) => answer_fault(BAD_TEXT, error.kind(), detail),
     }
 }
 
 /// A reference without its password.
-pub fn irikit_mask_password(grammar: u32, text: &[u8], out: &mut [u8], told: &mut usize) -> u8
-    ensures { Answered (masked_outcome grammar text.now) out.old out.new told.new result }
+pub fn irikit_mask_password(grammar: u32, text: &[u8], out: &mut [u8], detail: &mut usize) -> u8
+    ensures { Answered (masked_outcome grammar text.now) out.old out.new detail.new result }
 {
     match grammar {
-        URI => mask_in::<UriSpec>(text, out, told),
-        IRI => mask_in::<IriSpec>(text, out, told),
-        _ => answer(UNKNOWN, told),
+        URI => mask_in::<UriSpec>(text, out, detail),
+        IRI => mask_in::<IriSpec>(text, out, detail),
+        _ => answer(UNKNOWN, detail),
     }
 }
 
 // The text without its password and the colon before it in one grammar.
-fn remove_password_in<S: Spec>(text: &[u8], out: &mut [u8], told: &mut usize) -> u8
-    ensures { Answered (removed_in text.now S.tests) out.old out.new told.new result }
+fn remove_password_in<S: Spec>(text: &[u8], out: &mut [u8], detail: &mut usize) -> u8
+    ensures { Answered (removed_in text.now S.tests) out.old out.new detail.new result }
 {
     match RiReferenceStr::<S>::try_from_bytes(text) {
-        Ok(view) => answer_text(out, &without_password(view), told),
-        Err(error) => answer_fault(BAD_TEXT, error.kind(), told),
+        Ok(view) => answer_text(out, &without_password(view), detail),
+        Err(error) => answer_fault(BAD_TEXT, error.kind(), detail),
     }
 }
 
 /// A reference without its password and the colon before it.
-pub fn irikit_remove_password(grammar: u32, text: &[u8], out: &mut [u8], told: &mut usize) -> u8
-    ensures { Answered (removed_outcome grammar text.now) out.old out.new told.new result }
+pub fn irikit_remove_password(grammar: u32, text: &[u8], out: &mut [u8], detail: &mut usize) -> u8
+    ensures { Answered (removed_outcome grammar text.now) out.old out.new detail.new result }
 {
     match grammar {
-        URI => remove_password_in::<UriSpec>(text, out, told),
-        IRI => remove_password_in::<IriSpec>(text, out, told),
-        _ => answer(UNKNOWN, told),
+        URI => remove_password_in::<UriSpec>(text, out, detail),
+        IRI => remove_password_in::<IriSpec>(text, out, detail),
+        _ => answer(UNKNOWN, detail),
     }
 }
 
@@ -65,17 +65,21 @@ fn replace_password_in<S: Spec>(
     text: &[u8],
     password: &[u8],
     out: &mut [u8],
-    told: &mut usize,
+    detail: &mut usize,
 ) -> u8
-    ensures { Answered (password_in text.now password.now S.tests) out.old out.new told.new result }
+    ensures { Answered (password_in text.now password.now S.tests) out.old out.new detail.new result }
 {
     let view = match RiReferenceStr::<S>::try_from_bytes(text) {
         Ok(view) => view,
-        Err(error) => return answer_fault(BAD_TEXT, error.kind(), told),
+        Err(error) => return answer_fault(BAD_TEXT, error.kind(), detail),
     };
     match str::from_utf8(password) {
-        Ok(password) => answer_text(out, &view.mask_password().replace_password(password), told),
-        Err(_) => answer_fault(BAD_PART, ErrorKind::InvalidUtf8, told),
+        Ok(password) => answer_text(
+            out,
+            &view.mask_password().replace_password(password),
+            detail,
+        ),
+        Err(_) => answer_fault(BAD_PART, ErrorKind::InvalidUtf8, detail),
     }
 }
 
@@ -85,14 +89,14 @@ pub fn irikit_replace_password(
     text: &[u8],
     password: &[u8],
     out: &mut [u8],
-    told: &mut usize,
+    detail: &mut usize,
 ) -> u8
-    ensures { Answered (password_outcome grammar text.now password.now) out.old out.new told.new result }
+    ensures { Answered (password_outcome grammar text.now password.now) out.old out.new detail.new result }
 {
     match grammar {
-        URI => replace_password_in::<UriSpec>(text, password, out, told),
-        IRI => replace_password_in::<IriSpec>(text, password, out, told),
-        _ => answer(UNKNOWN, told),
+        URI => replace_password_in::<UriSpec>(text, password, out, detail),
+        IRI => replace_password_in::<IriSpec>(text, password, out, detail),
+        _ => answer(UNKNOWN, detail),
     }
 }
 
@@ -104,23 +108,23 @@ fn before_fragment<S: Spec>(view: RiReferenceStr<'_, S>) -> &str
 }
 
 // The text without its fragment in one grammar.
-fn remove_fragment_in<S: Spec>(text: &[u8], out: &mut [u8], told: &mut usize) -> u8
-    ensures { Answered (cut_in text.now S.tests) out.old out.new told.new result }
+fn remove_fragment_in<S: Spec>(text: &[u8], out: &mut [u8], detail: &mut usize) -> u8
+    ensures { Answered (cut_in text.now S.tests) out.old out.new detail.new result }
 {
     match RiReferenceStr::<S>::try_from_bytes(text) {
-        Ok(view) => answer_text(out, &before_fragment(view), told),
-        Err(error) => answer_fault(BAD_TEXT, error.kind(), told),
+        Ok(view) => answer_text(out, &before_fragment(view), detail),
+        Err(error) => answer_fault(BAD_TEXT, error.kind(), detail),
     }
 }
 
 /// A reference without its fragment.
-pub fn irikit_remove_fragment(grammar: u32, text: &[u8], out: &mut [u8], told: &mut usize) -> u8
-    ensures { Answered (cut_outcome grammar text.now) out.old out.new told.new result }
+pub fn irikit_remove_fragment(grammar: u32, text: &[u8], out: &mut [u8], detail: &mut usize) -> u8
+    ensures { Answered (cut_outcome grammar text.now) out.old out.new detail.new result }
 {
     match grammar {
-        URI => remove_fragment_in::<UriSpec>(text, out, told),
-        IRI => remove_fragment_in::<IriSpec>(text, out, told),
-        _ => answer(UNKNOWN, told),
+        URI => remove_fragment_in::<UriSpec>(text, out, detail),
+        IRI => remove_fragment_in::<IriSpec>(text, out, detail),
+        _ => answer(UNKNOWN, detail),
     }
 }
 
@@ -142,20 +146,20 @@ impl Show for Fragmented<'_> {
 }
 
 // The text with another fragment in one grammar.
-fn set_fragment_in<S: Spec>(text: &[u8], fragment: &[u8], out: &mut [u8], told: &mut usize) -> u8
-    ensures { Answered (fragment_in text.now fragment.now S.tests) out.old out.new told.new result }
+fn set_fragment_in<S: Spec>(text: &[u8], fragment: &[u8], out: &mut [u8], detail: &mut usize) -> u8
+    ensures { Answered (fragment_in text.now fragment.now S.tests) out.old out.new detail.new result }
 {
     let view = match RiReferenceStr::<S>::try_from_bytes(text) {
         Ok(view) => view,
-        Err(error) => return answer_fault(BAD_TEXT, error.kind(), told),
+        Err(error) => return answer_fault(BAD_TEXT, error.kind(), detail),
     };
     match RiFragmentStr::<S>::try_from_bytes(fragment) {
         Ok(fragment) => {
             let prefix = before_fragment(view);
             let fragment = fragment.as_str();
-            answer_text(out, &Fragmented { prefix, fragment }, told)
+            answer_text(out, &Fragmented { prefix, fragment }, detail)
         }
-        Err(error) => answer_fault(BAD_PART, error.kind(), told),
+        Err(error) => answer_fault(BAD_PART, error.kind(), detail),
     }
 }
 
@@ -165,13 +169,13 @@ pub fn irikit_set_fragment(
     text: &[u8],
     fragment: &[u8],
     out: &mut [u8],
-    told: &mut usize,
+    detail: &mut usize,
 ) -> u8
-    ensures { Answered (fragment_outcome grammar text.now fragment.now) out.old out.new told.new result }
+    ensures { Answered (fragment_outcome grammar text.now fragment.now) out.old out.new detail.new result }
 {
     match grammar {
-        URI => set_fragment_in::<UriSpec>(text, fragment, out, told),
-        IRI => set_fragment_in::<IriSpec>(text, fragment, out, told),
-        _ => answer(UNKNOWN, told),
+        URI => set_fragment_in::<UriSpec>(text, fragment, out, detail),
+        IRI => set_fragment_in::<IriSpec>(text, fragment, out, detail),
+        _ => answer(UNKNOWN, detail),
     }
 }

@@ -35,8 +35,8 @@ pub const UNRESERVED: u32 = 406;
 pub const WHOLE: u32 = 407;
 
 // A text encoded in one grammar for the place of this number.
-fn encode_in<S: Spec>(place: u32, raw: &str, out: &mut [u8], told: &mut usize) -> u8
-    ensures { Answered (encoded_as place raw.now S.tests) out.old out.new told.new result }
+fn encode_in<S: Spec>(place: u32, raw: &str, out: &mut [u8], detail: &mut usize) -> u8
+    ensures { Answered (encoded_as place raw.now S.tests) out.old out.new detail.new result }
 {
     let encoded = match place {
         REG_NAME => PercentEncoded::<&str, S>::from_reg_name(raw),
@@ -47,28 +47,28 @@ fn encode_in<S: Spec>(place: u32, raw: &str, out: &mut [u8], told: &mut usize) -
         FRAGMENT => PercentEncoded::<&str, S>::from_fragment(raw),
         UNRESERVED => PercentEncoded::<&str, S>::unreserve(raw),
         WHOLE => PercentEncoded::<&str, S>::characters(raw),
-        _ => return answer(UNKNOWN, told),
+        _ => return answer(UNKNOWN, detail),
     };
-    answer_text(out, &encoded, told)
+    answer_text(out, &encoded, detail)
 }
 
 // A text encoded by these numbers.
-fn encode_text(grammar: u32, place: u32, raw: &str, out: &mut [u8], told: &mut usize) -> u8
-    ensures { Answered (encoded_by grammar place raw.now) out.old out.new told.new result }
+fn encode_text(grammar: u32, place: u32, raw: &str, out: &mut [u8], detail: &mut usize) -> u8
+    ensures { Answered (encoded_by grammar place raw.now) out.old out.new detail.new result }
 {
     match grammar {
-        URI => encode_in::<UriSpec>(place, raw, out, told),
-        IRI => encode_in::<IriSpec>(place, raw, out, told),
-        _ => answer(UNKNOWN, told),
+        URI => encode_in::<UriSpec>(place, raw, out, detail),
+        IRI => encode_in::<IriSpec>(place, raw, out, detail),
+        _ => answer(UNKNOWN, detail),
     }
 }
 
 /// A raw text, percent-encoded for its place in a reference.
-pub fn irikit_encode(grammar: u32, place: u32, raw: &[u8], out: &mut [u8], told: &mut usize) -> u8
-    ensures { Answered (encoded_outcome grammar place raw.now) out.old out.new told.new result }
+pub fn irikit_encode(grammar: u32, place: u32, raw: &[u8], out: &mut [u8], detail: &mut usize) -> u8
+    ensures { Answered (encoded_outcome grammar place raw.now) out.old out.new detail.new result }
 {
     match str::from_utf8(raw) {
-        Ok(text) => encode_text(grammar, place, text, out, told),
-        Err(_) => answer_fault(BAD_TEXT, ErrorKind::InvalidUtf8, told),
+        Ok(text) => encode_text(grammar, place, text, out, detail),
+        Err(_) => answer_fault(BAD_TEXT, ErrorKind::InvalidUtf8, detail),
     }
 }

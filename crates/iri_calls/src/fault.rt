@@ -51,20 +51,20 @@ fn number_of(kind: ErrorKind) -> usize
 }
 
 /// Tells a kind of fault, and returns the status.
-pub(crate) fn answer_fault(status: u8, kind: ErrorKind, told: &mut usize) -> u8
-    ensures told { told.new ≡ fault_number kind }
+pub(crate) fn answer_fault(status: u8, kind: ErrorKind, detail: &mut usize) -> u8
+    ensures detail { detail.new ≡ fault_number kind }
     ensures status { result ≡ status }
 {
-    *told = number_of(kind);
+    *detail = number_of(kind);
     status
 }
 
 /// Tells nothing, and returns the status.
-pub(crate) fn answer(status: u8, told: &mut usize) -> u8
-    ensures told { told.new ≡ 0 }
+pub(crate) fn answer(status: u8, detail: &mut usize) -> u8
+    ensures detail { detail.new ≡ 0 }
     ensures status { result ≡ status }
 {
-    *told = 0;
+    *detail = 0;
     status
 }
 
@@ -89,11 +89,11 @@ pub(crate) fn kind_of(number: usize) -> Option<ErrorKind>
 }
 
 /// The words for a kind of fault, as they stand in the answers of `irikit canon`.
-pub fn irikit_fault_words(fault: usize, out: &mut [u8], told: &mut usize) -> u8
-    ensures { Answered (fault_words fault) out.old out.new told.new result }
+pub fn irikit_fault_words(fault: usize, out: &mut [u8], detail: &mut usize) -> u8
+    ensures { Answered (fault_words fault) out.old out.new detail.new result }
 {
     match kind_of(fault) {
-        Some(kind) => answer_text(out, &kind.description(), told),
-        None => answer(UNKNOWN, told),
+        Some(kind) => answer_text(out, &kind.description(), detail),
+        None => answer(UNKNOWN, detail),
     }
 }

@@ -5,7 +5,7 @@ ghost use Rattle.iri_grammar.specs.OptionalSlices.{now_of};
 ghost use Rattle.iri_grammar.specs.Parts.{starts_with_slashes};
 ghost use Rattle.iri_grammar.specs.Split.{scheme_of, after_scheme, authority_of, path_of, parts_of};
 ghost use Rattle.iri_grammar.specs.Split.{split_of, relative_split_of};
-ghost use Rattle.iri_calls.specs.FaultParts.{PartTold, before_colon, faulty_slot, named_slot};
+ghost use Rattle.iri_calls.specs.FaultParts.{PartFound, before_colon, faulty_slot, named_slot};
 ghost use Rattle.iri_calls.specs.Slots.{place, slots_of, width};
 
 use crate::fault::{answer, kind_of};
@@ -139,17 +139,17 @@ pub fn irikit_fault_part(
     fault: usize,
     text: &[u8],
     part: &mut Slot,
-    told: &mut usize,
+    detail: &mut usize,
 ) -> u8
-    ensures { PartTold kind fault text.now part.old part.new told.new result }
+    ensures { PartFound kind fault text.now part.old part.new detail.new result }
 {
     let Some(fault) = kind_of(fault) else {
-        return answer(UNKNOWN, told);
+        return answer(UNKNOWN, detail);
     };
     match kind {
         REFERENCE | WITH_SCHEME | ABSOLUTE => *part = slot_in_reference(fault, text),
         RELATIVE => *part = slot_in_relative(fault, text),
-        _ => return answer(UNKNOWN, told),
+        _ => return answer(UNKNOWN, detail),
     }
-    answer(OK, told)
+    answer(OK, detail)
 }

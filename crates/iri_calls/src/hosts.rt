@@ -51,21 +51,21 @@ fn replace_host_in<S: Spec>(
     text: &[u8],
     host: &[u8],
     out: &mut [u8],
-    told: &mut usize,
+    detail: &mut usize,
 ) -> u8
-    ensures { Answered (host_in names_only text.now host.now S.tests) out.old out.new told.new result }
+    ensures { Answered (host_in names_only text.now host.now S.tests) out.old out.new detail.new result }
 {
     let view = match RiReferenceStr::<S>::try_from_bytes(text) {
         Ok(view) => view,
-        Err(error) => return answer_fault(BAD_TEXT, error.kind(), told),
+        Err(error) => return answer_fault(BAD_TEXT, error.kind(), detail),
     };
     let host = match read_host::<S>(host) {
         Ok(host) => host,
-        Err(kind) => return answer_fault(BAD_PART, kind, told),
+        Err(kind) => return answer_fault(BAD_PART, kind, detail),
     };
     match replaced(names_only, view, host) {
-        Some(shown) => answer_text(out, &shown, told),
-        None => answer(NO_HOST, told),
+        Some(shown) => answer_text(out, &shown, detail),
+        None => answer(NO_HOST, detail),
     }
 }
 
@@ -75,14 +75,14 @@ pub fn irikit_replace_host(
     text: &[u8],
     host: &[u8],
     out: &mut [u8],
-    told: &mut usize,
+    detail: &mut usize,
 ) -> u8
-    ensures { Answered (host_outcome grammar false text.now host.now) out.old out.new told.new result }
+    ensures { Answered (host_outcome grammar false text.now host.now) out.old out.new detail.new result }
 {
     match grammar {
-        URI => replace_host_in::<UriSpec>(false, text, host, out, told),
-        IRI => replace_host_in::<IriSpec>(false, text, host, out, told),
-        _ => answer(UNKNOWN, told),
+        URI => replace_host_in::<UriSpec>(false, text, host, out, detail),
+        IRI => replace_host_in::<IriSpec>(false, text, host, out, detail),
+        _ => answer(UNKNOWN, detail),
     }
 }
 
@@ -92,13 +92,13 @@ pub fn irikit_replace_reg_name(
     text: &[u8],
     host: &[u8],
     out: &mut [u8],
-    told: &mut usize,
+    detail: &mut usize,
 ) -> u8
-    ensures { Answered (host_outcome grammar true text.now host.now) out.old out.new told.new result }
+    ensures { Answered (host_outcome grammar true text.now host.now) out.old out.new detail.new result }
 {
     match grammar {
-        URI => replace_host_in::<UriSpec>(true, text, host, out, told),
-        IRI => replace_host_in::<IriSpec>(true, text, host, out, told),
-        _ => answer(UNKNOWN, told),
+        URI => replace_host_in::<UriSpec>(true, text, host, out, detail),
+        IRI => replace_host_in::<IriSpec>(true, text, host, out, detail),
+        _ => answer(UNKNOWN, detail),
     }
 }

@@ -1,5 +1,5 @@
 //! The laws of what the calls write and tell: how many bytes a text has at most, so that a caller knows a buffer that is never too
-//! short, and that the part which is told of a fault is faulty.
+//! short, and that the part which a fault names is faulty.
 ghost use Rattle.std.specs.Prelude.{◌≡◌, ◌≤◌, ◌+◌, ◌*◌, ℕ, List, None, Some, length, max};
 ghost use Rattle.iri_grammar.specs.Fault.{bytes_fault};
 ghost use Rattle.iri_grammar.specs.Split.{split_of, relative_split_of};

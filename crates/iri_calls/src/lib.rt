@@ -5,8 +5,8 @@
 //!
 //! Proved: each call answers by its outcome (`Answered`), which is a function of what is passed: an unknown number, the first fault
 //! and whose it is, or a text. A text is written over the start of the caller's buffer as far as there is room, what comes after it
-//! stays, and its whole length is told; the status says whether it had room. The texts, tests and splits are those of the crates
-//! below. Of many lines those are told whose answers have room together (`Batched`).
+//! stays, and the detail is its whole length; the status says whether it had room. The texts, tests and splits are those of the crates
+//! below. Of many lines those count whose answers have room together (`Batched`).
 #![tactic(auto)]
 
 mod buffer;

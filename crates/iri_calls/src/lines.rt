@@ -152,20 +152,20 @@ fn batch_in<S: Spec>(
     input: &[u8],
     out: &mut [u8],
     consumed: &mut usize,
-    told: &mut usize,
+    detail: &mut usize,
 ) -> u8
-    ensures { BatchedIn S.tests mode base.now input.now out.old out.new consumed.new told.new result }
+    ensures { BatchedIn S.tests mode base.now input.now out.old out.new consumed.new detail.new result }
 {
     match SplitView::<S, Absolute>::absolute_from_bytes(base) {
         Ok(base) => {
             let done = answer_all(mode, &FixedBaseResolver::of_split(base), input, out);
             *consumed = done.consumed;
-            *told = done.written;
+            *detail = done.written;
             done.status
         }
         Err(error) => {
             *consumed = 0;
-            answer_fault(BAD_BASE, error.kind(), told)
+            answer_fault(BAD_BASE, error.kind(), detail)
         }
     }
 }
@@ -178,16 +178,16 @@ pub fn irikit_canonical_lines(
     lines: &[u8],
     out: &mut [u8],
     consumed: &mut usize,
-    told: &mut usize,
+    detail: &mut usize,
 ) -> u8
-    ensures { Batched grammar mode base.now lines.now out.old out.new consumed.new told.new result }
+    ensures { Batched grammar mode base.now lines.now out.old out.new consumed.new detail.new result }
 {
     match (grammar, mode_of(mode)) {
-        (URI, Some(mode)) => batch_in::<UriSpec>(mode, base, lines, out, consumed, told),
-        (IRI, Some(mode)) => batch_in::<IriSpec>(mode, base, lines, out, consumed, told),
+        (URI, Some(mode)) => batch_in::<UriSpec>(mode, base, lines, out, consumed, detail),
+        (IRI, Some(mode)) => batch_in::<IriSpec>(mode, base, lines, out, consumed, detail),
         _ => {
             *consumed = 0;
-            answer(UNKNOWN, told)
+            answer(UNKNOWN, detail)
         }
     }
 }

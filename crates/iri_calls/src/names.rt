@@ -3,7 +3,7 @@ ghost use Rattle.std.specs.Prelude.{◌≡◌, ◌<◌, ◌^◌, None, length, m
 ghost use Rattle.iri_template.specs.Fault.{template_fault};
 ghost use Rattle.iri_template.specs.Variables.{places_left};
 ghost use Rattle.iri_calls.specs.Buffers.{over};
-ghost use Rattle.iri_calls.specs.Names.{HoldsNames, NamesTold, slot_of};
+ghost use Rattle.iri_calls.specs.Names.{HoldsNames, NamesWritten, slot_of};
 
 use crate::parts::Slot;
 use crate::status::{OK, SHORT};
@@ -41,10 +41,10 @@ fn write_names(variables: UriTemplateVariables<'_>, slots: &mut [Slot]) -> usize
 pub fn irikit_template_variables(
     template: &[u8],
     names: &mut [Slot],
-    told: &mut usize,
+    detail: &mut usize,
     place: &mut usize,
 ) -> u8
-    ensures told { NamesTold template.now names.old names.new told.new place.new result }
+    ensures detail { NamesWritten template.now names.old names.new detail.new place.new result }
     ensures names { template_fault template.now ≡ None → HoldsNames template.now }
 {
     match UriTemplateStr::try_from_bytes(template) {
@@ -52,9 +52,9 @@ pub fn irikit_template_variables(
             // The proof takes from this that the length of a slice fits a `usize`.
             let _len = template.len();
             *place = 0;
-            *told = write_names(text.variables(), names);
-            if *told <= names.len() { OK } else { SHORT }
+            *detail = write_names(text.variables(), names);
+            if *detail <= names.len() { OK } else { SHORT }
         }
-        Err(error) => refuse(&error, told, place),
+        Err(error) => refuse(&error, detail, place),
     }
 }

@@ -5,7 +5,7 @@ ghost use Rattle.iri_types.specs.Texts.{text};
 ghost use Rattle.iri_calls.specs.inside.Forms.{form_mode};
 ghost use Rattle.iri_calls.specs.Numbers.{form_numbered};
 ghost use Rattle.iri_calls.specs.Outcome.{Answered};
-ghost use Rattle.iri_calls.specs.Outcomes.{NormalTold, NormalToldIn};
+ghost use Rattle.iri_calls.specs.Outcomes.{NormalJudged, NormalJudgedIn};
 ghost use Rattle.iri_calls.specs.Resolutions.{normalized_as, normalized_outcome};
 
 use crate::buffer::answer_text;
@@ -51,47 +51,47 @@ fn is_in_form<S: Spec>(form: Form, view: RiStr<'_, S>) -> bool
 }
 
 // The same of bytes in one grammar.
-fn is_normalized_as<S: Spec>(form: Form, text: &[u8], told: &mut usize) -> u8
-    ensures { NormalToldIn S.tests (form_mode form) text.now told.new result }
+fn is_normalized_as<S: Spec>(form: Form, text: &[u8], detail: &mut usize) -> u8
+    ensures { NormalJudgedIn S.tests (form_mode form) text.now detail.new result }
 {
     match RiStr::<S>::try_from_bytes(text) {
         Ok(view) => {
             if is_in_form(form, view) {
-                answer(OK, told)
+                answer(OK, detail)
             } else {
-                answer(NOT_NORMAL, told)
+                answer(NOT_NORMAL, detail)
             }
         }
-        Err(error) => answer_fault(BAD_TEXT, error.kind(), told),
+        Err(error) => answer_fault(BAD_TEXT, error.kind(), detail),
     }
 }
 
 /// Whether a text with a scheme is its own normal form.
-pub fn irikit_is_normalized(grammar: u32, form: u32, text: &[u8], told: &mut usize) -> u8
-    ensures { NormalTold grammar form text.now told.new result }
+pub fn irikit_is_normalized(grammar: u32, form: u32, text: &[u8], detail: &mut usize) -> u8
+    ensures { NormalJudged grammar form text.now detail.new result }
 {
     match (grammar, form_of(form)) {
-        (URI, Some(form)) => is_normalized_as::<UriSpec>(form, text, told),
-        (IRI, Some(form)) => is_normalized_as::<IriSpec>(form, text, told),
-        _ => answer(UNKNOWN, told),
+        (URI, Some(form)) => is_normalized_as::<UriSpec>(form, text, detail),
+        (IRI, Some(form)) => is_normalized_as::<IriSpec>(form, text, detail),
+        _ => answer(UNKNOWN, detail),
     }
 }
 
 // The normal form in one grammar.
-fn normalize_as<S: Spec>(form: Form, text: &[u8], out: &mut [u8], told: &mut usize) -> u8
-    ensures { Answered (normalized_as (form_mode form) text.now S.tests) out.old out.new told.new result }
+fn normalize_as<S: Spec>(form: Form, text: &[u8], out: &mut [u8], detail: &mut usize) -> u8
+    ensures { Answered (normalized_as (form_mode form) text.now S.tests) out.old out.new detail.new result }
 {
     match RiStr::<S>::try_from_bytes(text) {
         Ok(view) => match form {
-            Form::Normal => answer_text(out, &view.normalize(), told),
-            Form::ByScheme => answer_text(out, &view.normalize().and_normalize_by_scheme(), told),
+            Form::Normal => answer_text(out, &view.normalize(), detail),
+            Form::ByScheme => answer_text(out, &view.normalize().and_normalize_by_scheme(), detail),
             Form::Preserving => answer_text(
                 out,
                 &view.normalize_but_preserve_authorityless_relative_path(),
-                told,
+                detail,
             ),
         },
-        Err(error) => answer_fault(BAD_TEXT, error.kind(), told),
+        Err(error) => answer_fault(BAD_TEXT, error.kind(), detail),
     }
 }
 
@@ -101,13 +101,13 @@ pub fn irikit_normalize(
     form: u32,
     text: &[u8],
     out: &mut [u8],
-    told: &mut usize,
+    detail: &mut usize,
 ) -> u8
-    ensures { Answered (normalized_outcome grammar form text.now) out.old out.new told.new result }
+    ensures { Answered (normalized_outcome grammar form text.now) out.old out.new detail.new result }
 {
     match (grammar, form_of(form)) {
-        (URI, Some(form)) => normalize_as::<UriSpec>(form, text, out, told),
-        (IRI, Some(form)) => normalize_as::<IriSpec>(form, text, out, told),
-        _ => answer(UNKNOWN, told),
+        (URI, Some(form)) => normalize_as::<UriSpec>(form, text, out, detail),
+        (IRI, Some(form)) => normalize_as::<IriSpec>(form, text, out, detail),
+        _ => answer(UNKNOWN, detail),
     }
 }

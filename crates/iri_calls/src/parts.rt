@@ -2,7 +2,7 @@
 ghost use Rattle.std.specs.Prelude.{◌≡◌, ◌<◌, ◌+◌, ◌^◌};
 ghost use Rattle.iri_grammar.specs.Authority.{authority_parts};
 ghost use Rattle.iri_grammar.specs.OptionalSlices.{now_of};
-ghost use Rattle.iri_calls.specs.Slots.{SplitToldIn, SplitTold, place, width, total, authority_total};
+ghost use Rattle.iri_calls.specs.Slots.{SplitWrittenIn, SplitWritten, place, width, total, authority_total};
 ghost use Rattle.iri_calls.specs.Slots.{authority_slots, slots_of, within_authority};
 ghost use Rattle.iri_calls.specs.inside.Five.{five};
 
@@ -132,8 +132,8 @@ pub(crate) fn slots_of(
 }
 
 // The split in one grammar.
-fn split_in<S: Spec>(text: &[u8], parts: &mut Slots, told: &mut usize) -> u8
-    ensures { SplitToldIn text.now parts.old parts.new told.new result S.tests }
+fn split_in<S: Spec>(text: &[u8], parts: &mut Slots, detail: &mut usize) -> u8
+    ensures { SplitWrittenIn text.now parts.old parts.new detail.new result S.tests }
 {
     match SplitView::<S, Reference>::try_from_bytes(text) {
         Ok(view) => {
@@ -141,19 +141,19 @@ fn split_in<S: Spec>(text: &[u8], parts: &mut Slots, told: &mut usize) -> u8
             let _len = text.len();
             let p = view.parts();
             *parts = slots_of(p.scheme(), p.authority(), p.path(), p.query(), p.fragment());
-            answer(OK, told)
+            answer(OK, detail)
         }
-        Err(error) => answer_fault(BAD_TEXT, error.kind(), told),
+        Err(error) => answer_fault(BAD_TEXT, error.kind(), detail),
     }
 }
 
 /// The split of a reference.
-pub fn irikit_split(grammar: u32, text: &[u8], parts: &mut Slots, told: &mut usize) -> u8
-    ensures { SplitTold grammar text.now parts.old parts.new told.new result }
+pub fn irikit_split(grammar: u32, text: &[u8], parts: &mut Slots, detail: &mut usize) -> u8
+    ensures { SplitWritten grammar text.now parts.old parts.new detail.new result }
 {
     match grammar {
-        URI => split_in::<UriSpec>(text, parts, told),
-        IRI => split_in::<IriSpec>(text, parts, told),
-        _ => answer(UNKNOWN, told),
+        URI => split_in::<UriSpec>(text, parts, detail),
+        IRI => split_in::<IriSpec>(text, parts, detail),
+        _ => answer(UNKNOWN, detail),
     }
 }

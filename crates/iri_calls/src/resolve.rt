@@ -12,19 +12,19 @@ use iri_types::kind::{Absolute, Reference};
 use iri_types::split::SplitView;
 
 // The resolved text in one grammar.
-fn resolve_in<S: Spec>(base: &[u8], reference: &[u8], out: &mut [u8], told: &mut usize) -> u8
-    ensures { Answered (resolved_in base.now reference.now S.tests) out.old out.new told.new result }
+fn resolve_in<S: Spec>(base: &[u8], reference: &[u8], out: &mut [u8], detail: &mut usize) -> u8
+    ensures { Answered (resolved_in base.now reference.now S.tests) out.old out.new detail.new result }
 {
     let base = match SplitView::<S, Absolute>::absolute_from_bytes(base) {
         Ok(base) => base,
-        Err(error) => return answer_fault(BAD_BASE, error.kind(), told),
+        Err(error) => return answer_fault(BAD_BASE, error.kind(), detail),
     };
     match SplitView::<S, Reference>::try_from_bytes(reference) {
         Ok(reference) => {
             let resolver = FixedBaseResolver::of_split(base);
-            answer_text(out, &resolver.resolve_split(&reference), told)
+            answer_text(out, &resolver.resolve_split(&reference), detail)
         }
-        Err(error) => answer_fault(BAD_REFERENCE, error.kind(), told),
+        Err(error) => answer_fault(BAD_REFERENCE, error.kind(), detail),
     }
 }
 
@@ -34,13 +34,13 @@ pub fn irikit_resolve(
     base: &[u8],
     reference: &[u8],
     out: &mut [u8],
-    told: &mut usize,
+    detail: &mut usize,
 ) -> u8
-    ensures { Answered (resolved_outcome grammar base.now reference.now) out.old out.new told.new result }
+    ensures { Answered (resolved_outcome grammar base.now reference.now) out.old out.new detail.new result }
 {
     match grammar {
-        URI => resolve_in::<UriSpec>(base, reference, out, told),
-        IRI => resolve_in::<IriSpec>(base, reference, out, told),
-        _ => answer(UNKNOWN, told),
+        URI => resolve_in::<UriSpec>(base, reference, out, detail),
+        IRI => resolve_in::<IriSpec>(base, reference, out, detail),
+        _ => answer(UNKNOWN, detail),
     }
 }

@@ -33,22 +33,22 @@ impl<S: Spec> Show for Steps<'_, S> {
 }
 
 // The steps in one grammar.
-fn write_steps<S: Spec>(mode: CanonMode, text: &[u8], out: &mut [u8], told: &mut usize) -> u8
-    ensures { Answered (steps_in mode text.now S.tests) out.old out.new told.new result }
+fn write_steps<S: Spec>(mode: CanonMode, text: &[u8], out: &mut [u8], detail: &mut usize) -> u8
+    ensures { Answered (steps_in mode text.now S.tests) out.old out.new detail.new result }
 {
     match RiStr::<S>::try_from_bytes(text) {
-        Ok(view) => answer_text(out, &Steps { mode, view }, told),
-        Err(error) => answer_fault(BAD_TEXT, error.kind(), told),
+        Ok(view) => answer_text(out, &Steps { mode, view }, detail),
+        Err(error) => answer_fault(BAD_TEXT, error.kind(), detail),
     }
 }
 
 /// The steps that lead a text with a scheme to its normal form.
-pub fn irikit_steps(grammar: u32, mode: u32, text: &[u8], out: &mut [u8], told: &mut usize) -> u8
-    ensures { Answered (steps_outcome grammar mode text.now) out.old out.new told.new result }
+pub fn irikit_steps(grammar: u32, mode: u32, text: &[u8], out: &mut [u8], detail: &mut usize) -> u8
+    ensures { Answered (steps_outcome grammar mode text.now) out.old out.new detail.new result }
 {
     match (grammar, mode_of(mode)) {
-        (URI, Some(mode)) => write_steps::<UriSpec>(mode, text, out, told),
-        (IRI, Some(mode)) => write_steps::<IriSpec>(mode, text, out, told),
-        _ => answer(UNKNOWN, told),
+        (URI, Some(mode)) => write_steps::<UriSpec>(mode, text, out, detail),
+        (IRI, Some(mode)) => write_steps::<IriSpec>(mode, text, out, detail),
+        _ => answer(UNKNOWN, detail),
     }
 }

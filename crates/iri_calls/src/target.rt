@@ -33,12 +33,12 @@ impl<S: Spec> Show for Target<'_, S> {
 }
 
 // The target in one grammar.
-fn write_target<S: Spec>(base: &[u8], reference: &[u8], out: &mut [u8], told: &mut usize) -> u8
-    ensures { Answered (target_in base.now reference.now S.tests) out.old out.new told.new result }
+fn write_target<S: Spec>(base: &[u8], reference: &[u8], out: &mut [u8], detail: &mut usize) -> u8
+    ensures { Answered (target_in base.now reference.now S.tests) out.old out.new detail.new result }
 {
     let base = match SplitView::<S, Absolute>::absolute_from_bytes(base) {
         Ok(base) => base,
-        Err(error) => return answer_fault(BAD_BASE, error.kind(), told),
+        Err(error) => return answer_fault(BAD_BASE, error.kind(), detail),
     };
     match SplitView::<S, Reference>::try_from_bytes(reference) {
         Ok(reference) => {
@@ -47,9 +47,9 @@ fn write_target<S: Spec>(base: &[u8], reference: &[u8], out: &mut [u8], told: &m
                 resolver,
                 reference,
             };
-            answer_text(out, &target, told)
+            answer_text(out, &target, detail)
         }
-        Err(error) => answer_fault(BAD_REFERENCE, error.kind(), told),
+        Err(error) => answer_fault(BAD_REFERENCE, error.kind(), detail),
     }
 }
 
@@ -59,13 +59,13 @@ pub fn irikit_target(
     base: &[u8],
     reference: &[u8],
     out: &mut [u8],
-    told: &mut usize,
+    detail: &mut usize,
 ) -> u8
-    ensures { Answered (target_outcome grammar base.now reference.now) out.old out.new told.new result }
+    ensures { Answered (target_outcome grammar base.now reference.now) out.old out.new detail.new result }
 {
     match grammar {
-        URI => write_target::<UriSpec>(base, reference, out, told),
-        IRI => write_target::<IriSpec>(base, reference, out, told),
-        _ => answer(UNKNOWN, told),
+        URI => write_target::<UriSpec>(base, reference, out, detail),
+        IRI => write_target::<IriSpec>(base, reference, out, detail),
+        _ => answer(UNKNOWN, detail),
     }
 }

@@ -50,10 +50,10 @@ fn number_of(kind: ErrorKind) -> usize
 }
 
 // Tells why a template is refused, and where.
-pub(crate) fn refuse(error: &Error, told: &mut usize, place: &mut usize) -> u8
-    ensures { Refused error.now told.new place.new result }
+pub(crate) fn refuse(error: &Error, detail: &mut usize, place: &mut usize) -> u8
+    ensures { Refused error.now detail.new place.new result }
 {
-    *told = number_of(error.kind());
+    *detail = number_of(error.kind());
     *place = error.location();
     BAD_TEXT
 }
@@ -63,22 +63,22 @@ fn expand_with<S: Spec>(
     template: &[u8],
     variables: &[Variable<'_>],
     out: &mut [u8],
-    told: &mut usize,
+    detail: &mut usize,
     place: &mut usize,
 ) -> u8
-    ensures { ExpandedIn S.tests template.now variables.now out.old out.new told.new place.new result }
+    ensures { ExpandedIn S.tests template.now variables.now out.old out.new detail.new place.new result }
 {
     let template = match UriTemplateStr::try_from_bytes(template) {
         Ok(template) => template,
-        Err(error) => return refuse(&error, told, place),
+        Err(error) => return refuse(&error, detail, place),
     };
     let context = Variables { variables };
     match template.expand::<S, Variables<'_>>(&context) {
         Ok(expanded) => {
             *place = 0;
-            answer_text(out, &expanded, told)
+            answer_text(out, &expanded, detail)
         }
-        Err(error) => refuse(&error, told, place),
+        Err(error) => refuse(&error, detail, place),
     }
 }
 
@@ -88,22 +88,22 @@ pub fn irikit_expand(
     template: &[u8],
     variables: &[Variable<'_>],
     out: &mut [u8],
-    told: &mut usize,
+    detail: &mut usize,
     place: &mut usize,
 ) -> u8
-    ensures { Expanded grammar template.now variables.now out.old out.new told.new place.new result }
+    ensures { Expanded grammar template.now variables.now out.old out.new detail.new place.new result }
 {
     if let Some(unsound) = find_unsound(variables) {
-        *told = 0;
+        *detail = 0;
         *place = unsound;
         return BAD_VARIABLE;
     }
     match grammar {
-        URI => expand_with::<UriSpec>(template, variables, out, told, place),
-        IRI => expand_with::<IriSpec>(template, variables, out, told, place),
+        URI => expand_with::<UriSpec>(template, variables, out, detail, place),
+        IRI => expand_with::<IriSpec>(template, variables, out, detail, place),
         _ => {
             *place = 0;
-            answer(UNKNOWN, told)
+            answer(UNKNOWN, detail)
         }
     }
 }
@@ -125,11 +125,11 @@ fn kind_of(number: usize) -> Option<ErrorKind>
 }
 
 /// The words for a kind of fault of a template.
-pub fn irikit_template_fault_words(fault: usize, out: &mut [u8], told: &mut usize) -> u8
-    ensures { Answered (template_fault_words fault) out.old out.new told.new result }
+pub fn irikit_template_fault_words(fault: usize, out: &mut [u8], detail: &mut usize) -> u8
+    ensures { Answered (template_fault_words fault) out.old out.new detail.new result }
 {
     match kind_of(fault) {
-        Some(kind) => answer_text(out, &kind.description(), told),
-        None => answer(UNKNOWN, told),
+        Some(kind) => answer_text(out, &kind.description(), detail),
+        None => answer(UNKNOWN, detail),
     }
 }

@@ -1,6 +1,6 @@
 // Tests of whole texts (RFC 3986 section 4).
 ghost use Rattle.iri_grammar.specs.Fault.{bytes_fault};
-ghost use Rattle.iri_calls.specs.Outcome.{Told};
+ghost use Rattle.iri_calls.specs.Outcome.{Returned};
 ghost use Rattle.iri_calls.specs.Outcomes.{validated, validated_in, validated_outcome};
 
 use crate::fault::{answer, answer_fault};
@@ -23,35 +23,35 @@ pub const ABSOLUTE: u32 = 302;
 pub const RELATIVE: u32 = 303;
 
 // Whether a text is of a kind.
-fn validate_as<S: Spec, K: Kind>(text: &[u8], told: &mut usize) -> u8
-    ensures { Told (validated (bytes_fault (K.fault S.tests) text.now)) told.new result }
+fn validate_as<S: Spec, K: Kind>(text: &[u8], detail: &mut usize) -> u8
+    ensures { Returned (validated (bytes_fault (K.fault S.tests) text.now)) detail.new result }
 {
     match View::<S, K>::try_from_bytes(text) {
-        Ok(_) => answer(OK, told),
-        Err(error) => answer_fault(BAD_TEXT, error.kind(), told),
+        Ok(_) => answer(OK, detail),
+        Err(error) => answer_fault(BAD_TEXT, error.kind(), detail),
     }
 }
 
 // Whether a text of one grammar is of the kind of this number.
-fn validate_in<S: Spec>(kind: u32, text: &[u8], told: &mut usize) -> u8
-    ensures { Told (validated_in kind text.now S.tests) told.new result }
+fn validate_in<S: Spec>(kind: u32, text: &[u8], detail: &mut usize) -> u8
+    ensures { Returned (validated_in kind text.now S.tests) detail.new result }
 {
     match kind {
-        REFERENCE => validate_as::<S, Reference>(text, told),
-        WITH_SCHEME => validate_as::<S, Iri>(text, told),
-        ABSOLUTE => validate_as::<S, Absolute>(text, told),
-        RELATIVE => validate_as::<S, Relative>(text, told),
-        _ => answer(UNKNOWN, told),
+        REFERENCE => validate_as::<S, Reference>(text, detail),
+        WITH_SCHEME => validate_as::<S, Iri>(text, detail),
+        ABSOLUTE => validate_as::<S, Absolute>(text, detail),
+        RELATIVE => validate_as::<S, Relative>(text, detail),
+        _ => answer(UNKNOWN, detail),
     }
 }
 
 /// Whether a whole text is of a kind.
-pub fn irikit_validate(grammar: u32, kind: u32, text: &[u8], told: &mut usize) -> u8
-    ensures { Told (validated_outcome grammar kind text.now) told.new result }
+pub fn irikit_validate(grammar: u32, kind: u32, text: &[u8], detail: &mut usize) -> u8
+    ensures { Returned (validated_outcome grammar kind text.now) detail.new result }
 {
     match grammar {
-        URI => validate_in::<UriSpec>(kind, text, told),
-        IRI => validate_in::<IriSpec>(kind, text, told),
-        _ => answer(UNKNOWN, told),
+        URI => validate_in::<UriSpec>(kind, text, detail),
+        IRI => validate_in::<IriSpec>(kind, text, detail),
+        _ => answer(UNKNOWN, detail),
     }
 }

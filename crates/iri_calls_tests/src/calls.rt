@@ -52,32 +52,50 @@ fn is_slot(slot: Slot, offset: usize, len: usize) -> bool {
 fn canonical_texts(rt: HostRuntime) {
     let base = b"http://a/b/c/d;p?q";
     let mut out = [b'.'; 32];
-    let mut told = 9;
-    assert!(rt; irikit_canonical(URI, NORMAL, base, b"../g", &mut out, &mut told) == 0);
-    assert!(rt; told == 12 && out.starts_with(b"http://a/b/g...."));
-    assert!(rt; irikit_canonical(IRI, NORMAL, base, "\u{e9}".as_bytes(), &mut out, &mut told) == 0);
-    assert!(rt; told == 15 && out.starts_with("http://a/b/c/\u{e9}.".as_bytes()));
-    assert!(rt; irikit_canonical(URI, NORMAL, base, "\u{e9}".as_bytes(), &mut out, &mut told) == 5);
-    assert!(rt; told == INVALID_PATH);
-    assert!(rt; irikit_canonical(URI, NORMAL, b"a", b"%", &mut out, &mut told) == 4);
-    assert!(rt; told == UNEXPECTED_RELATIVE);
-    assert!(rt; irikit_canonical(NORMAL, NORMAL, base, b"", &mut out, &mut told) == 6);
-    assert!(rt; irikit_canonical(URI, PRESERVING, base, b"", &mut out, &mut told) == 6);
-    assert!(rt; told == 0);
+    let mut detail = 9;
+    assert!(rt; irikit_canonical(URI, NORMAL, base, b"../g", &mut out, &mut detail) == 0);
+    assert!(rt; detail == 12 && out.starts_with(b"http://a/b/g...."));
+    assert!(rt;
+        irikit_canonical(
+            IRI,
+            NORMAL,
+            base,
+            "\u{e9}".as_bytes(),
+            &mut out,
+            &mut detail
+        ) == 0
+    );
+    assert!(rt; detail == 15 && out.starts_with("http://a/b/c/\u{e9}.".as_bytes()));
+    assert!(rt;
+        irikit_canonical(
+            URI,
+            NORMAL,
+            base,
+            "\u{e9}".as_bytes(),
+            &mut out,
+            &mut detail
+        ) == 5
+    );
+    assert!(rt; detail == INVALID_PATH);
+    assert!(rt; irikit_canonical(URI, NORMAL, b"a", b"%", &mut out, &mut detail) == 4);
+    assert!(rt; detail == UNEXPECTED_RELATIVE);
+    assert!(rt; irikit_canonical(NORMAL, NORMAL, base, b"", &mut out, &mut detail) == 6);
+    assert!(rt; irikit_canonical(URI, PRESERVING, base, b"", &mut out, &mut detail) == 6);
+    assert!(rt; detail == 0);
 }
 
 // Numbers that differ from one that stands for something by what lies past 8 or 16 bits, or are those of another enum.
 #[test]
 fn other_numbers(rt: HostRuntime) {
     let mut out = [b'.'; 32];
-    let mut told = 9;
+    let mut detail = 9;
     for &number in &[0, 1, URI + 256, IRI + 65_536, NORMAL, REFERENCE] {
-        assert!(rt; irikit_canonical(number, NORMAL, b"a:", b"b", &mut out, &mut told) == 6);
-        assert!(rt; told == 0 && out == [b'.'; 32]);
+        assert!(rt; irikit_canonical(number, NORMAL, b"a:", b"b", &mut out, &mut detail) == 6);
+        assert!(rt; detail == 0 && out == [b'.'; 32]);
     }
     for &number in &[0, 1, NORMAL + 256, BY_SCHEME + 65_536, URI, REFERENCE] {
-        assert!(rt; irikit_canonical(URI, number, b"a:", b"b", &mut out, &mut told) == 6);
-        assert!(rt; told == 0 && out == [b'.'; 32]);
+        assert!(rt; irikit_canonical(URI, number, b"a:", b"b", &mut out, &mut detail) == 6);
+        assert!(rt; detail == 0 && out == [b'.'; 32]);
     }
 }
 
@@ -92,11 +110,18 @@ fn room_for_each_length(rt: HostRuntime) {
     let text = b"http://a/b/g";
     for size in 0..16usize {
         let mut out = [b'.'; 16];
-        let mut told = 0;
+        let mut detail = 0;
         let room = &mut out[..size];
-        let status = irikit_canonical(URI, NORMAL, b"http://a/b/c/d;p?q", b"../g", room, &mut told);
+        let status = irikit_canonical(
+            URI,
+            NORMAL,
+            b"http://a/b/c/d;p?q",
+            b"../g",
+            room,
+            &mut detail,
+        );
         assert!(rt; status == if size < 12 { 1 } else { 0 });
-        assert!(rt; told == 12);
+        assert!(rt; detail == 12);
         let prefix = size.min(12);
         assert!(rt; out.starts_with(&text[..prefix]) && out[prefix..].iter().all(|b| *b == b'.'));
     }
@@ -104,7 +129,7 @@ fn room_for_each_length(rt: HostRuntime) {
 
 #[test]
 fn kinds_of_texts(rt: HostRuntime) {
-    let mut told = 0;
+    let mut detail = 0;
     let rows: [(u32, &[u8], u8, usize); 8] = [
         (REFERENCE, b"a/b", 0, 0),
         (WITH_SCHEME, b"a/b", 3, UNEXPECTED_RELATIVE),
@@ -116,21 +141,23 @@ fn kinds_of_texts(rt: HostRuntime) {
         (304, b"a", 6, 0),
     ];
     for &(kind, text, status, fault) in &rows {
-        assert!(rt; irikit_validate(URI, kind, text, &mut told) == status);
-        assert!(rt; told == fault);
+        assert!(rt; irikit_validate(URI, kind, text, &mut detail) == status);
+        assert!(rt; detail == fault);
     }
-    assert!(rt; irikit_validate(IRI, REFERENCE, b"\xff", &mut told) == 3 && told == INVALID_UTF8);
-    assert!(rt; irikit_validate(NORMAL, REFERENCE, b"a", &mut told) == 6);
+    assert!(rt;
+        irikit_validate(IRI, REFERENCE, b"\xff", &mut detail) == 3 && detail == INVALID_UTF8
+    );
+    assert!(rt; irikit_validate(NORMAL, REFERENCE, b"a", &mut detail) == 6);
 }
 
 // The example of RFC 3986 section 3, and parts that don't stand or are empty.
 #[test]
 fn parts_of_references(rt: HostRuntime) {
     let none = usize::MAX;
-    let mut told = 9;
+    let mut detail = 9;
     let mut p = empty_slots();
     let text = b"foo://u@example.com:8042/over/there?name=ferret#nose";
-    assert!(rt; irikit_split(URI, text, &mut p, &mut told) == 0 && told == 0);
+    assert!(rt; irikit_split(URI, text, &mut p, &mut detail) == 0 && detail == 0);
     assert!(rt; is_slot(p.scheme, 0, 3) && is_slot(p.authority, 6, 18) && is_slot(p.path, 24, 11));
     assert!(rt; is_slot(p.query, 36, 11) && is_slot(p.fragment, 48, 4));
     assert!(rt;
@@ -138,7 +165,7 @@ fn parts_of_references(rt: HostRuntime) {
             && is_slot(p.within.host, 8, 11)
             && is_slot(p.within.port, 20, 4)
     );
-    assert!(rt; irikit_split(IRI, b"//h:?#", &mut p, &mut told) == 0);
+    assert!(rt; irikit_split(IRI, b"//h:?#", &mut p, &mut detail) == 0);
     assert!(rt; is_slot(p.scheme, none, 0) && is_slot(p.authority, 2, 2) && is_slot(p.path, 4, 0));
     assert!(rt; is_slot(p.query, 5, 0) && is_slot(p.fragment, 6, 0));
     assert!(rt;
@@ -146,21 +173,21 @@ fn parts_of_references(rt: HostRuntime) {
             && is_slot(p.within.host, 2, 1)
             && is_slot(p.within.port, 4, 0)
     );
-    assert!(rt; irikit_split(IRI, b"", &mut p, &mut told) == 0);
+    assert!(rt; irikit_split(IRI, b"", &mut p, &mut detail) == 0);
     assert!(rt;
         is_slot(p.authority, none, 0) && is_slot(p.path, 0, 0) && is_slot(p.within.host, none, 0)
     );
-    assert!(rt; irikit_split(IRI, b"%", &mut p, &mut told) == 3 && told == INVALID_PATH);
-    assert!(rt; irikit_split(NORMAL, b"", &mut p, &mut told) == 6);
+    assert!(rt; irikit_split(IRI, b"%", &mut p, &mut detail) == 3 && detail == INVALID_PATH);
+    assert!(rt; irikit_split(NORMAL, b"", &mut p, &mut detail) == 6);
 }
 
 // Whether the first fault of a text of this kind has this number, and the part that has it stands there.
 fn has_fault(kind: u32, text: &[u8], fault: usize, offset: usize, len: usize) -> bool {
-    let (mut part, mut told) = (HERE, 99);
-    irikit_validate(URI, kind, text, &mut told) == 3
-        && told == fault
-        && irikit_fault_part(kind, fault, text, &mut part, &mut told) == 0
-        && told == 0
+    let (mut part, mut detail) = (HERE, 99);
+    irikit_validate(URI, kind, text, &mut detail) == 3
+        && detail == fault
+        && irikit_fault_part(kind, fault, text, &mut part, &mut detail) == 0
+        && detail == 0
         && is_slot(part, offset, len)
 }
 
@@ -184,63 +211,73 @@ fn faulty_parts(rt: HostRuntime) {
 
 #[test]
 fn other_faults(rt: HostRuntime) {
-    let (mut part, mut told) = (Slot { offset: 7, len: 8 }, 9);
-    assert!(rt; irikit_fault_part(304, INVALID_PATH, b"%", &mut part, &mut told) == 6 && told == 0);
-    assert!(rt; irikit_fault_part(REFERENCE, 511, b"%", &mut part, &mut told) == 6 && told == 0);
+    let (mut part, mut detail) = (Slot { offset: 7, len: 8 }, 9);
+    assert!(rt;
+        irikit_fault_part(304, INVALID_PATH, b"%", &mut part, &mut detail) == 6 && detail == 0
+    );
+    assert!(rt;
+        irikit_fault_part(REFERENCE, 511, b"%", &mut part, &mut detail) == 6 && detail == 0
+    );
     assert!(rt; is_slot(part, 7, 8));
-    assert!(rt; irikit_fault_part(REFERENCE, INVALID_QUERY, b"%", &mut part, &mut told) == 0);
+    assert!(rt; irikit_fault_part(REFERENCE, INVALID_QUERY, b"%", &mut part, &mut detail) == 0);
     assert!(rt; is_slot(part, usize::MAX, 0));
     part = HERE;
-    assert!(rt; irikit_fault_part(WITH_SCHEME, INVALID_SCHEME, b"a/b", &mut part, &mut told) == 0);
+    assert!(rt;
+        irikit_fault_part(WITH_SCHEME, INVALID_SCHEME, b"a/b", &mut part, &mut detail) == 0
+    );
     assert!(rt; is_slot(part, usize::MAX, 0));
     assert!(rt;
-        irikit_fault_part(REFERENCE, INVALID_PORT, b"//h:8/", &mut part, &mut told) == 0
+        irikit_fault_part(REFERENCE, INVALID_PORT, b"//h:8/", &mut part, &mut detail) == 0
             && is_slot(part, 4, 1)
     );
 }
 
 #[test]
 fn normal_forms(rt: HostRuntime) {
-    let mut told = 9;
-    assert!(rt; irikit_is_normalized(URI, NORMAL, b"http://a/%2F", &mut told) == 0 && told == 0);
-    assert!(rt; irikit_is_normalized(URI, NORMAL, b"http://a/%2f", &mut told) == 2 && told == 0);
-    assert!(rt; irikit_is_normalized(IRI, NORMAL, b"http://a/%C3%A9", &mut told) == 2);
+    let mut detail = 9;
     assert!(rt;
-        irikit_is_normalized(URI, NORMAL, b"a", &mut told) == 3 && told == UNEXPECTED_RELATIVE
+        irikit_is_normalized(URI, NORMAL, b"http://a/%2F", &mut detail) == 0 && detail == 0
     );
-    assert!(rt; irikit_is_normalized(URI, NORMAL, b"http://a:80/", &mut told) == 0);
-    assert!(rt; irikit_is_normalized(URI, BY_SCHEME, b"http://a:80/", &mut told) == 2);
-    assert!(rt; irikit_is_normalized(URI, PRESERVING, b"a:b/../c", &mut told) == 0);
-    assert!(rt; irikit_is_normalized(URI, NORMAL, b"a:b/../c", &mut told) == 2);
-    assert!(rt; irikit_is_normalized(URI, 203, b"a:", &mut told) == 6);
-    assert!(rt; irikit_is_normalized(NORMAL, NORMAL, b"a:", &mut told) == 6);
+    assert!(rt;
+        irikit_is_normalized(URI, NORMAL, b"http://a/%2f", &mut detail) == 2 && detail == 0
+    );
+    assert!(rt; irikit_is_normalized(IRI, NORMAL, b"http://a/%C3%A9", &mut detail) == 2);
+    assert!(rt;
+        irikit_is_normalized(URI, NORMAL, b"a", &mut detail) == 3 && detail == UNEXPECTED_RELATIVE
+    );
+    assert!(rt; irikit_is_normalized(URI, NORMAL, b"http://a:80/", &mut detail) == 0);
+    assert!(rt; irikit_is_normalized(URI, BY_SCHEME, b"http://a:80/", &mut detail) == 2);
+    assert!(rt; irikit_is_normalized(URI, PRESERVING, b"a:b/../c", &mut detail) == 0);
+    assert!(rt; irikit_is_normalized(URI, NORMAL, b"a:b/../c", &mut detail) == 2);
+    assert!(rt; irikit_is_normalized(URI, 203, b"a:", &mut detail) == 6);
+    assert!(rt; irikit_is_normalized(NORMAL, NORMAL, b"a:", &mut detail) == 6);
 }
 
 // The example of RFC 3987 section 3.1.
 #[test]
 fn mapped_texts(rt: HostRuntime) {
-    let mut told = 0;
+    let mut detail = 0;
     let mut out = [0; 64];
     let text = "http://www.example.org/red%09ros\u{e9}#red".as_bytes();
-    assert!(rt; irikit_map_to_uri(text, &mut out, &mut told) == 0 && told == 42);
+    assert!(rt; irikit_map_to_uri(text, &mut out, &mut detail) == 0 && detail == 42);
     assert!(rt; out.starts_with(b"http://www.example.org/red%09ros%C3%A9#red\0"));
-    assert!(rt; irikit_map_to_uri(b" ", &mut out, &mut told) == 3 && told == INVALID_PATH);
+    assert!(rt; irikit_map_to_uri(b" ", &mut out, &mut detail) == 3 && detail == INVALID_PATH);
 }
 
 #[test]
 fn words_of_faults(rt: HostRuntime) {
-    let mut told = 0;
+    let mut detail = 0;
     let mut out = [0; 64];
-    assert!(rt; irikit_fault_words(INVALID_PATH, &mut out, &mut told) == 0 && told == 12);
+    assert!(rt; irikit_fault_words(INVALID_PATH, &mut out, &mut detail) == 0 && detail == 12);
     assert!(rt; out.starts_with(b"invalid path\0"));
-    assert!(rt; irikit_fault_words(INVALID_UTF8, &mut [], &mut told) == 1 && told == 19);
-    assert!(rt; irikit_fault_words(511, &mut out, &mut told) == 6 && told == 0);
+    assert!(rt; irikit_fault_words(INVALID_UTF8, &mut [], &mut detail) == 1 && detail == 19);
+    assert!(rt; irikit_fault_words(511, &mut out, &mut detail) == 6 && detail == 0);
 }
 
 #[test]
 fn lines(rt: HostRuntime) {
     let mut out = [b'.'; 64];
-    let (mut consumed, mut told) = (9, 9);
+    let (mut consumed, mut detail) = (9, 9);
     let lines = b"../c\n%\r\nno end";
     let base = b"http://a/b";
     let status = irikit_canonical_lines(
@@ -250,9 +287,9 @@ fn lines(rt: HostRuntime) {
         lines,
         &mut out,
         &mut consumed,
-        &mut told,
+        &mut detail,
     );
-    assert!(rt; status == 0 && consumed == 8 && told == 31);
+    assert!(rt; status == 0 && consumed == 8 && detail == 31);
     assert!(rt; out.starts_with(b"ok http://a/c\nbad invalid path\n."));
     let mut room = [b'.'; 30];
     let status = irikit_canonical_lines(
@@ -262,9 +299,9 @@ fn lines(rt: HostRuntime) {
         lines,
         &mut room,
         &mut consumed,
-        &mut told,
+        &mut detail,
     );
-    assert!(rt; status == 1 && consumed == 5 && told == 14);
+    assert!(rt; status == 1 && consumed == 5 && detail == 14);
     let status = irikit_canonical_lines(
         URI,
         PRESERVING,
@@ -272,67 +309,80 @@ fn lines(rt: HostRuntime) {
         lines,
         &mut out,
         &mut consumed,
-        &mut told,
+        &mut detail,
     );
-    assert!(rt; status == 6 && consumed == 0 && told == 0);
+    assert!(rt; status == 6 && consumed == 0 && detail == 0);
 }
 
 // Examples of RFC 6570 section 3.2.
 #[test]
 fn templates(rt: HostRuntime) {
     let mut out = [b'.'; 64];
-    let (mut told, mut place) = (9, 9);
+    let (mut detail, mut place) = (9, 9);
     let who = [Text { bytes: b"fred" }];
     let variables = [Variable {
         name: Text { bytes: b"who" },
         kind: STRING,
         values: &who,
     }];
-    let status = irikit_expand(URI, b"{?who}", &variables, &mut out, &mut told, &mut place);
-    assert!(rt; status == 0 && told == 9 && place == 0 && out.starts_with(b"?who=fred."));
-    let status = irikit_expand(URI, b"{who", &variables, &mut out, &mut told, &mut place);
-    assert!(rt; status == 3 && told == EXPRESSION_NOT_CLOSED);
+    let status = irikit_expand(
+        URI,
+        b"{?who}",
+        &variables,
+        &mut out,
+        &mut detail,
+        &mut place,
+    );
+    assert!(rt; status == 0 && detail == 9 && place == 0 && out.starts_with(b"?who=fred."));
+    let status = irikit_expand(URI, b"{who", &variables, &mut out, &mut detail, &mut place);
+    assert!(rt; status == 3 && detail == EXPRESSION_NOT_CLOSED);
     assert!(rt;
-        irikit_template_fault_words(EXPRESSION_NOT_CLOSED, &mut out, &mut told) == 0 && told == 21
+        irikit_template_fault_words(EXPRESSION_NOT_CLOSED, &mut out, &mut detail) == 0
+            && detail == 21
     );
     assert!(rt; out.starts_with(b"expression not closed"));
-    assert!(rt; irikit_template_fault_words(707, &mut out, &mut told) == 6);
+    assert!(rt; irikit_template_fault_words(707, &mut out, &mut detail) == 6);
 }
 
 #[test]
 fn encoded_and_decoded(rt: HostRuntime) {
     let mut out = [b'.'; 64];
-    let mut told = 9;
-    assert!(rt; irikit_encode(URI, SEGMENT, b"50% off/a", &mut out, &mut told) == 0 && told == 15);
-    assert!(rt; out.starts_with(b"50%25%20off%2Fa."));
-    assert!(rt; irikit_decode(b"50%25%20off%2Fa%4", &mut out, &mut told) == 0 && told == 11);
-    assert!(rt; out.starts_with(b"50% off/a%4"));
-    assert!(rt; irikit_encode(URI, 408, b"a", &mut out, &mut told) == 6);
+    let mut detail = 9;
     assert!(rt;
-        irikit_encode(URI, SEGMENT, b"\xff", &mut out, &mut told) == 3 && told == INVALID_UTF8
+        irikit_encode(URI, SEGMENT, b"50% off/a", &mut out, &mut detail) == 0 && detail == 15
+    );
+    assert!(rt; out.starts_with(b"50%25%20off%2Fa."));
+    assert!(rt; irikit_decode(b"50%25%20off%2Fa%4", &mut out, &mut detail) == 0 && detail == 11);
+    assert!(rt; out.starts_with(b"50% off/a%4"));
+    assert!(rt; irikit_encode(URI, 408, b"a", &mut out, &mut detail) == 6);
+    assert!(rt;
+        irikit_encode(URI, SEGMENT, b"\xff", &mut out, &mut detail) == 3 && detail == INVALID_UTF8
     );
 }
 
 #[test]
 fn edits(rt: HostRuntime) {
     let mut out = [b'.'; 64];
-    let mut told = 9;
-    assert!(rt; irikit_mask_password(URI, b"http://u:pw@h/", &mut out, &mut told) == 0);
+    let mut detail = 9;
+    assert!(rt; irikit_mask_password(URI, b"http://u:pw@h/", &mut out, &mut detail) == 0);
     assert!(rt; out.starts_with(b"http://u:@h/."));
-    assert!(rt; irikit_remove_password(URI, b"http://u:pw@h/", &mut out, &mut told) == 0);
-    assert!(rt; told == 11 && out.starts_with(b"http://u@h/"));
-    assert!(rt; irikit_replace_password(URI, b"//u:p@h", b"***", &mut out, &mut told) == 0);
-    assert!(rt; told == 9 && out.starts_with(b"//u:***@h"));
-    assert!(rt; irikit_remove_fragment(URI, b"a?b#c", &mut out, &mut told) == 0 && told == 3);
-    assert!(rt; irikit_set_fragment(URI, b"a?b#c", b"d", &mut out, &mut told) == 0 && told == 5);
+    assert!(rt; irikit_remove_password(URI, b"http://u:pw@h/", &mut out, &mut detail) == 0);
+    assert!(rt; detail == 11 && out.starts_with(b"http://u@h/"));
+    assert!(rt; irikit_replace_password(URI, b"//u:p@h", b"***", &mut out, &mut detail) == 0);
+    assert!(rt; detail == 9 && out.starts_with(b"//u:***@h"));
+    assert!(rt; irikit_remove_fragment(URI, b"a?b#c", &mut out, &mut detail) == 0 && detail == 3);
+    assert!(rt;
+        irikit_set_fragment(URI, b"a?b#c", b"d", &mut out, &mut detail) == 0 && detail == 5
+    );
     assert!(rt; out.starts_with(b"a?b#d"));
     assert!(rt;
-        irikit_set_fragment(URI, b"a", b"#", &mut out, &mut told) == 8 && told == INVALID_FRAGMENT
+        irikit_set_fragment(URI, b"a", b"#", &mut out, &mut detail) == 8
+            && detail == INVALID_FRAGMENT
     );
-    assert!(rt; irikit_resolve(URI, b"http://A/b/c", b"../%7e", &mut out, &mut told) == 0);
+    assert!(rt; irikit_resolve(URI, b"http://A/b/c", b"../%7e", &mut out, &mut detail) == 0);
     assert!(rt; out.starts_with(b"http://A/%7e"));
     assert!(rt;
-        irikit_normalize(URI, BY_SCHEME, b"HTTP://a:80", &mut out, &mut told) == 0 && told == 9
+        irikit_normalize(URI, BY_SCHEME, b"HTTP://a:80", &mut out, &mut detail) == 0 && detail == 9
     );
     assert!(rt; out.starts_with(b"http://a/"));
 }
@@ -340,31 +390,34 @@ fn edits(rt: HostRuntime) {
 #[test]
 fn hosts(rt: HostRuntime) {
     let mut out = [b'.'; 64];
-    let mut told = 9;
+    let mut detail = 9;
     let text = b"http://u@192.0.2.16:80/?q";
-    assert!(rt; irikit_replace_host(URI, text, b"[2001:db8::7]", &mut out, &mut told) == 0);
-    assert!(rt; told == 28 && out.starts_with(b"http://u@[2001:db8::7]:80/?q."));
-    assert!(rt; irikit_replace_reg_name(URI, text, b"h", &mut out, &mut told) == 9 && told == 0);
-    assert!(rt; irikit_replace_reg_name(URI, b"//a/", b"h", &mut out, &mut told) == 0);
-    assert!(rt; told == 4 && out.starts_with(b"//h/"));
-    assert!(rt; irikit_replace_host(URI, b"a:b", b"h", &mut out, &mut told) == 9);
+    assert!(rt; irikit_replace_host(URI, text, b"[2001:db8::7]", &mut out, &mut detail) == 0);
+    assert!(rt; detail == 28 && out.starts_with(b"http://u@[2001:db8::7]:80/?q."));
     assert!(rt;
-        irikit_replace_host(URI, b"//a", b"[", &mut out, &mut told) == 8 && told == INVALID_HOST
+        irikit_replace_reg_name(URI, text, b"h", &mut out, &mut detail) == 9 && detail == 0
+    );
+    assert!(rt; irikit_replace_reg_name(URI, b"//a/", b"h", &mut out, &mut detail) == 0);
+    assert!(rt; detail == 4 && out.starts_with(b"//h/"));
+    assert!(rt; irikit_replace_host(URI, b"a:b", b"h", &mut out, &mut detail) == 9);
+    assert!(rt;
+        irikit_replace_host(URI, b"//a", b"[", &mut out, &mut detail) == 8 && detail == INVALID_HOST
     );
     assert!(rt;
-        irikit_replace_host(URI, b"//a", b"\xff", &mut out, &mut told) == 8 && told == INVALID_UTF8
+        irikit_replace_host(URI, b"//a", b"\xff", &mut out, &mut detail) == 8
+            && detail == INVALID_UTF8
     );
     assert!(rt;
-        irikit_replace_host(URI, b"%", b"[", &mut out, &mut told) == 3 && told == INVALID_PATH
+        irikit_replace_host(URI, b"%", b"[", &mut out, &mut detail) == 3 && detail == INVALID_PATH
     );
-    assert!(rt; irikit_replace_host(NORMAL, b"//a", b"h", &mut out, &mut told) == 6);
+    assert!(rt; irikit_replace_host(NORMAL, b"//a", b"h", &mut out, &mut detail) == 6);
 }
 
 // The example of RFC 3986 section 3.
 #[test]
 fn built(rt: HostRuntime) {
     let mut out = [b'.'; 64];
-    let mut told = 9;
+    let mut detail = 9;
     let rows: [(usize, &[u8]); 7] = [
         (FRAGMENT, b"nose"),
         (SCHEME, b"foo"),
@@ -379,32 +432,37 @@ fn built(rt: HostRuntime) {
         text: Text { bytes: row.1 },
     });
     let text = b"foo://example.com:8042/over/there?name=ferret#nose";
-    assert!(rt; irikit_build(URI, WITH_SCHEME, &parts, &mut out, &mut told) == 0 && told == 50);
+    assert!(rt; irikit_build(URI, WITH_SCHEME, &parts, &mut out, &mut detail) == 0 && detail == 50);
     assert!(rt; out.starts_with(text));
     assert!(rt;
-        irikit_build(URI, ABSOLUTE, &parts, &mut out, &mut told) == 8 && told == UNEXPECTED_FRAGMENT
+        irikit_build(URI, ABSOLUTE, &parts, &mut out, &mut detail) == 8
+            && detail == UNEXPECTED_FRAGMENT
     );
     assert!(rt;
-        irikit_build(URI, WITH_SCHEME, &parts[..1], &mut out, &mut told) == 8
-            && told == UNEXPECTED_RELATIVE
+        irikit_build(URI, WITH_SCHEME, &parts[..1], &mut out, &mut detail) == 8
+            && detail == UNEXPECTED_RELATIVE
     );
     assert!(rt;
-        irikit_build(URI, REFERENCE, &parts[2..3], &mut out, &mut told) == 8 && told == INVALID_PATH
+        irikit_build(URI, REFERENCE, &parts[2..3], &mut out, &mut detail) == 8
+            && detail == INVALID_PATH
     );
-    assert!(rt; irikit_build(URI, REFERENCE, &parts[3..4], &mut out, &mut told) == 0 && told == 13);
-    assert!(rt; irikit_build(URI, REFERENCE, &[], &mut out, &mut told) == 0 && told == 0);
-    assert!(rt; irikit_build(URI, 304, &parts, &mut out, &mut told) == 6 && told == 0);
+    assert!(rt;
+        irikit_build(URI, REFERENCE, &parts[3..4], &mut out, &mut detail) == 0 && detail == 13
+    );
+    assert!(rt; irikit_build(URI, REFERENCE, &[], &mut out, &mut detail) == 0 && detail == 0);
+    assert!(rt; irikit_build(URI, 304, &parts, &mut out, &mut detail) == 6 && detail == 0);
     let none = [Part {
         part: 807,
         text: Text { bytes: b"\xff" },
     }];
-    assert!(rt; irikit_build(URI, REFERENCE, &none, &mut out, &mut told) == 6);
+    assert!(rt; irikit_build(URI, REFERENCE, &none, &mut out, &mut detail) == 6);
     let no_text = [Part {
         part: HOST,
         text: Text { bytes: b"\xff" },
     }];
     assert!(rt;
-        irikit_build(NORMAL, REFERENCE, &no_text, &mut out, &mut told) == 8 && told == INVALID_UTF8
+        irikit_build(NORMAL, REFERENCE, &no_text, &mut out, &mut detail) == 8
+            && detail == INVALID_UTF8
     );
 }
 
@@ -412,24 +470,26 @@ fn built(rt: HostRuntime) {
 #[test]
 fn names(rt: HostRuntime) {
     let mut slots = [HERE; 5];
-    let (mut told, mut place) = (9, 9);
+    let (mut detail, mut place) = (9, 9);
     let text = b"http://example.com/~{username}/{term:1}/{term}{?q*,lang}";
-    let status = irikit_template_variables(text, &mut slots, &mut told, &mut place);
-    assert!(rt; status == 0 && told == 5 && place == 0);
+    let status = irikit_template_variables(text, &mut slots, &mut detail, &mut place);
+    assert!(rt; status == 0 && detail == 5 && place == 0);
     assert!(rt; is_slot(slots[0], 21, 8) && is_slot(slots[1], 32, 4) && is_slot(slots[2], 41, 4));
     assert!(rt; is_slot(slots[3], 48, 1) && is_slot(slots[4], 51, 4));
-    let status = irikit_template_variables(b"ab{", &mut slots, &mut told, &mut place);
+    let status = irikit_template_variables(b"ab{", &mut slots, &mut detail, &mut place);
     assert!(rt;
-        status == 3 && told == EXPRESSION_NOT_CLOSED && place == 2 && is_slot(slots[0], 21, 8)
+        status == 3 && detail == EXPRESSION_NOT_CLOSED && place == 2 && is_slot(slots[0], 21, 8)
     );
-    let status = irikit_template_variables(b"ab", &mut [], &mut told, &mut place);
-    assert!(rt; status == 0 && told == 0 && place == 0);
+    let status = irikit_template_variables(b"ab", &mut [], &mut detail, &mut place);
+    assert!(rt; status == 0 && detail == 0 && place == 0);
     let text = "{&.}%7b\u{e9}".as_bytes();
-    assert!(rt; irikit_template_variables(text, &mut [], &mut told, &mut place) == 3 && place == 2);
+    assert!(rt;
+        irikit_template_variables(text, &mut [], &mut detail, &mut place) == 3 && place == 2
+    );
     let text = "%7b\u{e9}{.a%41.b:12,c}{d}".as_bytes();
     let room = &mut slots[..2];
-    let status = irikit_template_variables(text, room, &mut told, &mut place);
-    assert!(rt; status == 1 && told == 3 && place == 0);
+    let status = irikit_template_variables(text, room, &mut detail, &mut place);
+    assert!(rt; status == 1 && detail == 3 && place == 0);
     assert!(rt; is_slot(slots[0], 7, 6) && is_slot(slots[1], 17, 1) && is_slot(slots[2], 41, 4));
 }
 
@@ -437,13 +497,15 @@ fn names(rt: HostRuntime) {
 #[test]
 fn steps(rt: HostRuntime) {
     let mut out = [b'.'; 128];
-    let mut told = 9;
+    let mut detail = 9;
     let example = b"exAmple://a/./b/../b/%63/%7bfoo%7d";
     let words =
         b"scheme letter 2\ndecode path 10\nhex digit path 14\nhex digit path 20\ndot segments\n.";
-    assert!(rt; irikit_steps(URI, NORMAL, example, &mut out, &mut told) == 0 && told == 80);
+    assert!(rt; irikit_steps(URI, NORMAL, example, &mut out, &mut detail) == 0 && detail == 80);
     assert!(rt; out.starts_with(words));
-    assert!(rt; irikit_steps(URI, NORMAL, example, &mut out[..5], &mut told) == 1 && told == 80);
+    assert!(rt;
+        irikit_steps(URI, NORMAL, example, &mut out[..5], &mut detail) == 1 && detail == 80
+    );
     let host = b"host letter 3\ndecode authority 4\nhost letter 4\nempty port\n";
     let rows: [(u32, u32, &[u8], &[u8]); 8] = [
         (URI, NORMAL, b"http://a:80", b""),
@@ -461,31 +523,33 @@ fn steps(rt: HostRuntime) {
         (IRI, NORMAL, b"a:/..//b", b"dot segments\n"),
     ];
     for &(grammar, mode, text, wanted) in &rows {
-        assert!(rt; irikit_steps(grammar, mode, text, &mut out, &mut told) == 0);
-        assert!(rt; told == wanted.len() && out.starts_with(wanted));
+        assert!(rt; irikit_steps(grammar, mode, text, &mut out, &mut detail) == 0);
+        assert!(rt; detail == wanted.len() && out.starts_with(wanted));
     }
     assert!(rt;
-        irikit_steps(URI, NORMAL, b"a", &mut out, &mut told) == 3 && told == UNEXPECTED_RELATIVE
+        irikit_steps(URI, NORMAL, b"a", &mut out, &mut detail) == 3 && detail == UNEXPECTED_RELATIVE
     );
-    assert!(rt; irikit_steps(URI, PRESERVING, b"a:", &mut out, &mut told) == 6 && told == 0);
-    assert!(rt; irikit_steps(NORMAL, NORMAL, b"a:", &mut out, &mut told) == 6);
+    assert!(rt; irikit_steps(URI, PRESERVING, b"a:", &mut out, &mut detail) == 6 && detail == 0);
+    assert!(rt; irikit_steps(NORMAL, NORMAL, b"a:", &mut out, &mut detail) == 6);
 }
 
 // Targets keep dot segments (RFC 3986 section 5.2.2).
 #[test]
 fn targets(rt: HostRuntime) {
     let mut out = [b'.'; 64];
-    let mut told = 9;
+    let mut detail = 9;
     let base = b"HTTP://a/b/c/d;p?q";
-    assert!(rt; irikit_target(URI, base, b"../%7eg", &mut out, &mut told) == 0 && told == 20);
+    assert!(rt; irikit_target(URI, base, b"../%7eg", &mut out, &mut detail) == 0 && detail == 20);
     assert!(rt; out.starts_with(b"HTTP://a/b/c/../%7eg."));
-    assert!(rt; irikit_target(URI, base, b"", &mut out, &mut told) == 0 && told == 18);
+    assert!(rt; irikit_target(URI, base, b"", &mut out, &mut detail) == 0 && detail == 18);
     assert!(rt; out.starts_with(base));
-    assert!(rt; irikit_target(IRI, base, "/\u{e9}".as_bytes(), &mut out, &mut told) == 0);
-    assert!(rt; told == 11 && out.starts_with("HTTP://a/\u{e9}".as_bytes()));
-    assert!(rt; irikit_target(URI, base, b"%", &mut out, &mut told) == 5 && told == INVALID_PATH);
+    assert!(rt; irikit_target(IRI, base, "/\u{e9}".as_bytes(), &mut out, &mut detail) == 0);
+    assert!(rt; detail == 11 && out.starts_with("HTTP://a/\u{e9}".as_bytes()));
     assert!(rt;
-        irikit_target(URI, b"a", b"%", &mut out, &mut told) == 4 && told == UNEXPECTED_RELATIVE
+        irikit_target(URI, base, b"%", &mut out, &mut detail) == 5 && detail == INVALID_PATH
     );
-    assert!(rt; irikit_target(NORMAL, base, b"", &mut out, &mut told) == 6 && told == 0);
+    assert!(rt;
+        irikit_target(URI, b"a", b"%", &mut out, &mut detail) == 4 && detail == UNEXPECTED_RELATIVE
+    );
+    assert!(rt; irikit_target(NORMAL, base, b"", &mut out, &mut detail) == 6 && detail == 0);
 }

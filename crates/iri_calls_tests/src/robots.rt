@@ -13,7 +13,7 @@ const FILE: &[u8] =
 #[test]
 fn rules_of_a_file(rt: HostRuntime) {
     let mut out = [b'.'; 128];
-    let mut told = 9;
+    let mut detail = 9;
     let rows: [(&[u8], &[u8]); 5] = [
         (
             b"anybot",
@@ -28,35 +28,35 @@ fn rules_of_a_file(rt: HostRuntime) {
         (b"quxbot", b""),
     ];
     for &(token, wanted) in &rows {
-        assert!(rt; irikit_robots_rules(rt.alloc(), token, FILE, &mut out, &mut told) == 0);
-        assert!(rt; told == wanted.len() && out.starts_with(wanted));
+        assert!(rt; irikit_robots_rules(rt.alloc(), token, FILE, &mut out, &mut detail) == 0);
+        assert!(rt; detail == wanted.len() && out.starts_with(wanted));
     }
     let file = "user-agent: b\u{f6}t\nallow: /\u{e9}%7e%2a\n".as_bytes();
-    assert!(rt; irikit_robots_rules(rt.alloc(), b"b", file, &mut out, &mut told) == 0);
-    assert!(rt; told == 18 && out.starts_with(b"allow /%C3%A9~%2A\n"));
+    assert!(rt; irikit_robots_rules(rt.alloc(), b"b", file, &mut out, &mut detail) == 0);
+    assert!(rt; detail == 18 && out.starts_with(b"allow /%C3%A9~%2A\n"));
 }
 
 #[test]
 fn rooms_for_rules(rt: HostRuntime) {
-    let mut told = 9;
+    let mut detail = 9;
     let mut out = [b'.'; 9];
-    assert!(rt; irikit_robots_rules(rt.alloc(), b"barbot", FILE, &mut out, &mut told) == 1);
-    assert!(rt; told == 28 && out == *b"disallow ");
+    assert!(rt; irikit_robots_rules(rt.alloc(), b"barbot", FILE, &mut out, &mut detail) == 1);
+    assert!(rt; detail == 28 && out == *b"disallow ");
 }
 
 #[test]
 fn no_tokens(rt: HostRuntime) {
     let mut out = [b'.'; 4];
     for token in [&b""[..], b"*", b"bot/1.0", b"b\xc3\xb6t", b"b\xff"] {
-        let mut told = 9;
-        let status = irikit_robots_rules(rt.alloc(), token, FILE, &mut out, &mut told);
-        assert!(rt; status == BAD_TOKEN && told == 0 && out == [b'.'; 4]);
+        let mut detail = 9;
+        let status = irikit_robots_rules(rt.alloc(), token, FILE, &mut out, &mut detail);
+        assert!(rt; status == BAD_TOKEN && detail == 0 && out == [b'.'; 4]);
     }
 }
 
 #[test]
 fn verdicts(rt: HostRuntime) {
-    let mut told = 9;
+    let mut detail = 9;
     let rules =
         b"disallow /\nallow /example/\nnothing\ndisallow /example/*.gif$\nallow /example/*.gif$";
     let rows: [(&[u8], u8); 7] = [
@@ -69,13 +69,13 @@ fn verdicts(rt: HostRuntime) {
         (b"a:b", 0),
     ];
     for &(target, status) in &rows {
-        assert!(rt; irikit_robots_allows(rt.alloc(), URI, rules, target, &mut told) == status);
-        assert!(rt; told == 0);
+        assert!(rt; irikit_robots_allows(rt.alloc(), URI, rules, target, &mut detail) == status);
+        assert!(rt; detail == 0);
     }
     let target = "http://a/\u{e9}".as_bytes();
     let rules = b"disallow /%C3%A9";
-    assert!(rt; irikit_robots_allows(rt.alloc(), IRI, rules, target, &mut told) == DISALLOWED);
-    assert!(rt; irikit_robots_allows(rt.alloc(), IRI, b"", target, &mut told) == 0);
+    assert!(rt; irikit_robots_allows(rt.alloc(), IRI, rules, target, &mut detail) == DISALLOWED);
+    assert!(rt; irikit_robots_allows(rt.alloc(), IRI, b"", target, &mut detail) == 0);
 }
 
 #[test]
@@ -88,8 +88,8 @@ fn no_targets(rt: HostRuntime) {
         (URI + 256, b"a:", 6, 0),
     ];
     for &(grammar, target, status, fault) in &rows {
-        let mut told = 9;
-        assert!(rt; irikit_robots_allows(rt.alloc(), grammar, b"", target, &mut told) == status);
-        assert!(rt; told == fault);
+        let mut detail = 9;
+        assert!(rt; irikit_robots_allows(rt.alloc(), grammar, b"", target, &mut detail) == status);
+        assert!(rt; detail == fault);
     }
 }

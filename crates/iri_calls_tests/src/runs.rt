@@ -4,38 +4,38 @@ use iri_run_calls::irikit_run;
 #[test]
 fn runs(rt: HostRuntime) {
     let mut out = [b'.'; 64];
-    let mut told = 9;
+    let mut out_len = 9;
     let input = b"http://a/b\n../c\n%\n";
-    let status = irikit_run(rt.alloc(), b"canon uri", input, &mut out, &mut told);
-    assert!(rt; status == 1 && told == 31);
+    let status = irikit_run(rt.alloc(), b"canon uri", input, &mut out, &mut out_len);
+    assert!(rt; status == 1 && out_len == 31);
     assert!(rt; out.starts_with(b"ok http://a/c\nbad invalid path\n..."));
     let status = irikit_run(
         rt.alloc(),
         b"canon uri scheme",
         b"http://a:80\n\n",
         &mut out,
-        &mut told,
+        &mut out_len,
     );
-    assert!(rt; status == 0 && told == 13 && out.starts_with(b"ok http://a/\n\nbad"));
-    let status = irikit_run(rt.alloc(), b"canon uri", b"", &mut out, &mut told);
+    assert!(rt; status == 0 && out_len == 13 && out.starts_with(b"ok http://a/\n\nbad"));
+    let status = irikit_run(rt.alloc(), b"canon uri", b"", &mut out, &mut out_len);
     assert!(rt; status == 3);
 }
 
 #[test]
 fn rooms(rt: HostRuntime) {
-    let mut told = 9;
+    let mut out_len = 9;
     let input = b"http://a/b\n../c\n../d\n";
-    let status = irikit_run(rt.alloc(), b"canon uri", input, &mut [0; 28], &mut told);
-    assert!(rt; status == 0 && told == 28);
+    let status = irikit_run(rt.alloc(), b"canon uri", input, &mut [0; 28], &mut out_len);
+    assert!(rt; status == 0 && out_len == 28);
     let mut out = [b'.'; 27];
-    let status = irikit_run(rt.alloc(), b"canon uri", input, &mut out, &mut told);
-    assert!(rt; status == 5 && told <= 27 && out[told..].iter().all(|b| *b == b'.'));
-    assert!(rt; b"ok http://a/c\nok http://a/d\n".starts_with(&out[..told]));
+    let status = irikit_run(rt.alloc(), b"canon uri", input, &mut out, &mut out_len);
+    assert!(rt; status == 5 && out_len <= 27 && out[out_len..].iter().all(|b| *b == b'.'));
+    assert!(rt; b"ok http://a/c\nok http://a/d\n".starts_with(&out[..out_len]));
 }
 
 #[test]
 fn words(rt: HostRuntime) {
-    let mut told = 9;
+    let mut out_len = 9;
     for words in [
         &b""[..],
         b"canon",
@@ -54,22 +54,24 @@ fn words(rt: HostRuntime) {
         b"--helps",
         b"canon \xff",
     ] {
-        let status = irikit_run(rt.alloc(), words, b"a:\n", &mut [], &mut told);
-        assert!(rt; status == 2 && told == 0);
+        let status = irikit_run(rt.alloc(), words, b"a:\n", &mut [], &mut out_len);
+        assert!(rt; status == 2 && out_len == 0);
     }
 }
 
 // Notices are written whole or not at all.
 #[test]
 fn notices(rt: HostRuntime) {
-    let mut told = 9;
+    let mut out_len = 9;
     let mut out = [b'.'; 64];
-    let status = irikit_run(rt.alloc(), b"--version", b"a:\n", &mut out, &mut told);
-    assert!(rt; status == 0 && told > 7 && told < 64 && out[told..].iter().all(|b| *b == b'.'));
+    let status = irikit_run(rt.alloc(), b"--version", b"a:\n", &mut out, &mut out_len);
+    assert!(rt;
+        status == 0 && out_len > 7 && out_len < 64 && out[out_len..].iter().all(|b| *b == b'.')
+    );
     assert!(rt; out.starts_with(b"irikit "));
     let mut short = [b'.'; 8];
-    let status = irikit_run(rt.alloc(), b"--version", b"", &mut short, &mut told);
-    assert!(rt; status == 5 && told == 0 && short == [b'.'; 8]);
-    let status = irikit_run(rt.alloc(), b"--help", b"", &mut short, &mut told);
-    assert!(rt; status == 5 && told == 0 && short == [b'.'; 8]);
+    let status = irikit_run(rt.alloc(), b"--version", b"", &mut short, &mut out_len);
+    assert!(rt; status == 5 && out_len == 0 && short == [b'.'; 8]);
+    let status = irikit_run(rt.alloc(), b"--help", b"", &mut short, &mut out_len);
+    assert!(rt; status == 5 && out_len == 0 && short == [b'.'; 8]);
 }

@@ -25,27 +25,27 @@ use Rattle.iri_robots.specs.declared.robots.Verdict.TheVariants.{Allow}
 use Rattle.iri_robots.proofs.Agents.{prefix_ascii}
 use Rattle.iri_robots.proofs.Decisions.{allowed_is}
 use Rattle.iri_robots.proofs.ReadBack.{file_read_back, right}
-use Rattle.iri_robots_calls.specs.Outcomes.{ToldOrMemory, allowed_outcome, allowed_status, file_outcome, judged_in}
+use Rattle.iri_robots_calls.specs.Outcomes.{ReturnedOrMemory, allowed_outcome, allowed_status, file_outcome, judged_in}
 
 -- a verdict is what the function says
 verdict_is : (rules : List FileRule) (t : List ℕ) (v : Verdict) → (v ≡ Allow) ↔ IsAllowed rules t → (v ≡ Allow) ↔ (is_allowed rules t ≡ true)
 verdict_is rules t v k = (λ e. (allowed_is rules t).1 (k.0 e), λ e. k.1 ((allowed_is rules t).0 e))
 
--- its status is told
-pub judged : (s : Tests) (rules : List FileRule) (target t : List ℕ) (v : Verdict) (told status code : ℕ)
+-- its status is returned
+pub judged : (s : Tests) (rules : List FileRule) (target t : List ℕ) (v : Verdict) (detail status code : ℕ)
     → bytes_fault (iri_fault s) target ≡ None → t ≡ subject (split_of target) → (v ≡ Allow) ↔ IsAllowed rules t
-    → ((b : Bool) → (v ≡ Allow) ↔ (b ≡ true) → code ≡ allowed_status b) → told ≡ 0 → status ≡ code
-    → ToldOrMemory (judged_in rules target s) told status
-judged s rules target t v told status code f e k says z w =
-    subst (λ o. ToldOrMemory (unless_fault bad_text o (plain (allowed_status (is_allowed rules (subject (split_of target)))))) told status) (sym f)
+    → ((b : Bool) → (v ≡ Allow) ↔ (b ≡ true) → code ≡ allowed_status b) → detail ≡ 0 → status ≡ code
+    → ReturnedOrMemory (judged_in rules target s) detail status
+judged s rules target t v detail status code f e k says z w =
+    subst (λ o. ReturnedOrMemory (unless_fault bad_text o (plain (allowed_status (is_allowed rules (subject (split_of target)))))) detail status) (sym f)
     (inl (refl, z, w ∙ says (is_allowed rules t) (verdict_is rules t v k) ∙ ap (λ x. allowed_status (is_allowed rules x)) e))
 
 -- over the lines that are written of a file's rules
-pub by_file : (grammar : ℕ) (lines target token file : List ℕ) (told status : ℕ) → ToldOrMemory (allowed_outcome grammar lines target) told status
+pub by_file : (grammar : ℕ) (lines target token file : List ℕ) (detail status : ℕ) → ReturnedOrMemory (allowed_outcome grammar lines target) detail status
     → list_all is_byte file ≡ true → lines ≡ rule_lines (rules_for token (file_records file))
-    → ToldOrMemory (file_outcome grammar token file target) told status
-by_file grammar lines target token file told status h b e =
-    subst (λ rules. ToldOrMemory (in_grammar (grammar_of grammar) (judged_in rules target)) told status)
+    → ReturnedOrMemory (file_outcome grammar token file target) detail status
+by_file grammar lines target token file detail status h b e =
+    subst (λ rules. ReturnedOrMemory (in_grammar (grammar_of grammar) (judged_in rules target)) detail status)
     (ap rules_in e ∙ file_read_back token file b) h
 
 -- ---- tokens

@@ -16,13 +16,13 @@ use Rattle.iri_robots.specs.Records.{FileRule, rules_for}
 use Rattle.iri_robots.specs.RuleLines.{rule_lines, rules_in}
 use Rattle.iri_robots_calls.specs.declared.status.TheConstants.{MEMORY, BAD_TOKEN, DISALLOWED}
 
--- Allocation failed: nothing is written, and 0 is told. Otherwise the call comes to this.
+-- Allocation failed: nothing is written, and the detail is 0. Otherwise the call comes to this.
 abbrev pub AnsweredOrMemory : Outcome → List ℕ → List ℕ → ℕ → ℕ → Type 0
-AnsweredOrMemory outcome old new told status = Answered outcome old new told status ⊎ Answered (plain MEMORY) old new told status
+AnsweredOrMemory outcome old new detail status = Answered outcome old new detail status ⊎ Answered (plain MEMORY) old new detail status
 
 -- the same of a call that writes no text
-abbrev pub ToldOrMemory : Outcome → ℕ → ℕ → Type 0
-ToldOrMemory outcome told status = AnsweredOrMemory outcome [] [] told status
+abbrev pub ReturnedOrMemory : Outcome → ℕ → ℕ → Type 0
+ReturnedOrMemory outcome detail status = AnsweredOrMemory outcome [] [] detail status
 
 -- the rules of a file for the crawler of a token, as lines
 abbrev pub rules_outcome : List ℕ → List ℕ → Outcome

@@ -11,7 +11,7 @@ ghost use Rattle.iri_robots.specs.FileLines.{is_token};
 ghost use Rattle.iri_robots.specs.Files.{file_records, is_byte};
 ghost use Rattle.iri_robots.specs.Records.{rules_for};
 ghost use Rattle.iri_robots.specs.RuleLines.{rule_lines, rules_in};
-ghost use Rattle.iri_robots_calls.specs.Outcomes.{AnsweredOrMemory, IsTarget, ToldOrMemory, allowed_outcome, allowed_status, file_outcome, judged_in, rules_outcome};
+ghost use Rattle.iri_robots_calls.specs.Outcomes.{AnsweredOrMemory, IsTarget, ReturnedOrMemory, allowed_outcome, allowed_status, file_outcome, judged_in, rules_outcome};
 
 use crate::status::{BAD_TOKEN, DISALLOWED, MEMORY};
 use iri_calls::grammar::{IRI, URI};
@@ -30,22 +30,22 @@ fn write_over(out: &mut [u8], bytes: &[u8])
     out[..room].copy_from_slice(&bytes[..room]);
 }
 
-// Answers lines: they are written as far as there is room, and their length is told.
-fn answer_lines(lines: &[u8], out: &mut [u8], told: &mut usize) -> u8
-    ensures { Answered (text lines.now) out.old out.new told.new result }
+// Answers lines: they are written as far as there is room, and the detail is their length.
+fn answer_lines(lines: &[u8], out: &mut [u8], detail: &mut usize) -> u8
+    ensures { Answered (text lines.now) out.old out.new detail.new result }
 {
     let size = out.len();
     write_over(out, lines);
-    *told = lines.len();
+    *detail = lines.len();
     if lines.len() <= size { OK } else { SHORT }
 }
 
 // Tells nothing, and returns the status.
-fn answer(status: u8, told: &mut usize) -> u8
-    ensures told { told.new ≡ 0 }
+fn answer(status: u8, detail: &mut usize) -> u8
+    ensures detail { detail.new ≡ 0 }
     ensures status { result ≡ status }
 {
-    *told = 0;
+    *detail = 0;
     status
 }
 
@@ -55,19 +55,19 @@ pub fn irikit_robots_rules(
     token: &[u8],
     file: &[u8],
     out: &mut [u8],
-    told: &mut usize,
+    detail: &mut usize,
 ) -> u8
-    ensures rules { AnsweredOrMemory (rules_outcome token.now file.now) out.old out.new told.new result }
+    ensures rules { AnsweredOrMemory (rules_outcome token.now file.now) out.old out.new detail.new result }
     // Allocation fails only where the token is one.
     ensures memory { result ≡ MEMORY → is_token token.now ≡ true }
 {
     let Ok(token) = str::from_utf8(token) else {
-        return answer(BAD_TOKEN, told);
+        return answer(BAD_TOKEN, detail);
     };
     match rule_lines(alloc, token, file) {
-        Ok(lines) => answer_lines(lines.as_str().as_bytes(), out, told),
-        Err(RobotsError::Token) => answer(BAD_TOKEN, told),
-        Err(RobotsError::Memory(_)) => answer(MEMORY, told),
+        Ok(lines) => answer_lines(lines.as_str().as_bytes(), out, detail),
+        Err(RobotsError::Token) => answer(BAD_TOKEN, detail),
+        Err(RobotsError::Memory(_)) => answer(MEMORY, detail),
     }
 }
 
@@ -87,18 +87,18 @@ fn allows_in<S: Spec>(
     grammar: u32,
     rules: &[u8],
     target: &[u8],
-    told: &mut usize,
+    detail: &mut usize,
 ) -> u8
     requires { grammar_of grammar ≡ Some S.tests }
-    ensures allows { ToldOrMemory (judged_in (rules_in rules.now) target.now S.tests) told.new result }
+    ensures allows { ReturnedOrMemory (judged_in (rules_in rules.now) target.now S.tests) detail.new result }
     ensures memory { result ≡ MEMORY → bytes_fault (iri_fault S.tests) target.now ≡ None }
 {
     let Ok(view) = RiStr::<S>::try_from_bytes(target) else {
-        return irikit_validate(grammar, WITH_SCHEME, target, told);
+        return irikit_validate(grammar, WITH_SCHEME, target, detail);
     };
     match subject_of(alloc, view) {
-        Ok(subject) => answer(status_of(lines_verdict(rules, subject.as_str())), told),
-        Err(_) => answer(MEMORY, told),
+        Ok(subject) => answer(status_of(lines_verdict(rules, subject.as_str())), detail),
+        Err(_) => answer(MEMORY, detail),
     }
 }
 
@@ -108,18 +108,18 @@ pub fn irikit_robots_allows(
     grammar: u32,
     rules: &[u8],
     target: &[u8],
-    told: &mut usize,
+    detail: &mut usize,
 ) -> u8
-    ensures allows { ToldOrMemory (allowed_outcome grammar rules.now target.now) told.new result }
+    ensures allows { ReturnedOrMemory (allowed_outcome grammar rules.now target.now) detail.new result }
     // Over the rules of a file it is what the file says.
     ensures file { (token file : List ℕ) → list_all is_byte file ≡ true → rules.now ≡ rule_lines (rules_for token (file_records file))
-        → ToldOrMemory (file_outcome grammar token file target.now) told.new result }
+        → ReturnedOrMemory (file_outcome grammar token file target.now) detail.new result }
     // Allocation fails only where the target is a URI of the grammar.
     ensures memory { result ≡ MEMORY → IsTarget grammar target.now }
 {
     match grammar {
-        URI => allows_in::<UriSpec>(alloc, grammar, rules, target, told),
-        IRI => allows_in::<IriSpec>(alloc, grammar, rules, target, told),
-        _ => answer(UNKNOWN, told),
+        URI => allows_in::<UriSpec>(alloc, grammar, rules, target, detail),
+        IRI => allows_in::<IriSpec>(alloc, grammar, rules, target, detail),
+        _ => answer(UNKNOWN, detail),
     }
 }

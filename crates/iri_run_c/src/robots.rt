@@ -5,7 +5,7 @@ ghost use Rattle.iri_robots.specs.FileLines.{is_token};
 ghost use Rattle.iri_robots.specs.Files.{file_records, is_byte};
 ghost use Rattle.iri_robots.specs.Records.{rules_for};
 ghost use Rattle.iri_robots.specs.RuleLines.{rule_lines};
-ghost use Rattle.iri_robots_calls.specs.Outcomes.{AnsweredOrMemory, IsTarget, ToldOrMemory, allowed_outcome, file_outcome, rules_outcome};
+ghost use Rattle.iri_robots_calls.specs.Outcomes.{AnsweredOrMemory, IsTarget, ReturnedOrMemory, allowed_outcome, file_outcome, rules_outcome};
 
 use iri_robots_calls::robots;
 use iri_robots_calls::status::MEMORY;
@@ -18,13 +18,13 @@ pub extern "C" fn irikit_robots_rules(
     token: &[u8],
     file: &[u8],
     out: &mut [u8],
-    told: &mut usize,
+    detail: &mut usize,
 ) -> u8
-    ensures rules { AnsweredOrMemory (rules_outcome token.now file.now) out.old out.new told.new result }
+    ensures rules { AnsweredOrMemory (rules_outcome token.now file.now) out.old out.new detail.new result }
     // Allocation fails only where the token is one.
     ensures memory { result ≡ MEMORY → is_token token.now ≡ true }
 {
-    robots::irikit_robots_rules(alloc, token, file, out, told)
+    robots::irikit_robots_rules(alloc, token, file, out, detail)
 }
 
 /// What the rules of lines say of a target: whether the crawler may fetch it.
@@ -34,14 +34,14 @@ pub extern "C" fn irikit_robots_allows(
     grammar: u32,
     rules: &[u8],
     target: &[u8],
-    told: &mut usize,
+    detail: &mut usize,
 ) -> u8
-    ensures allows { ToldOrMemory (allowed_outcome grammar rules.now target.now) told.new result }
+    ensures allows { ReturnedOrMemory (allowed_outcome grammar rules.now target.now) detail.new result }
     // Over the rules of a file it is what the file says.
     ensures file { (token file : List ℕ) → list_all is_byte file ≡ true → rules.now ≡ rule_lines (rules_for token (file_records file))
-        → ToldOrMemory (file_outcome grammar token file target.now) told.new result }
+        → ReturnedOrMemory (file_outcome grammar token file target.now) detail.new result }
     // Allocation fails only where the target is a URI of the grammar.
     ensures memory { result ≡ MEMORY → IsTarget grammar target.now }
 {
-    robots::irikit_robots_allows(alloc, grammar, rules, target, told)
+    robots::irikit_robots_allows(alloc, grammar, rules, target, detail)
 }

@@ -2,7 +2,7 @@
 ghost use Rattle.std.specs.Prelude.{◌≡◌};
 ghost use Rattle.iri_grammar.specs.Blanks.{space};
 ghost use Rattle.iri_grammar.specs.Pieces.{pieces};
-ghost use Rattle.iri_run_calls.specs.Told.{RunTold, TakesMemory};
+ghost use Rattle.iri_run_calls.specs.Runs.{RunAnswered, TakesMemory};
 
 use std::alloc::Global;
 
@@ -13,11 +13,11 @@ pub extern "C" fn irikit_run(
     words: &[u8],
     input: &[u8],
     out: &mut [u8],
-    told: &mut usize,
+    out_len: &mut usize,
 ) -> u8
-    ensures run { RunTold words.now input.now out.old out.new told.new result }
+    ensures run { RunAnswered words.now input.now out.old out.new out_len.new result }
     // Allocation fails only at a command over lines, or at `gen`.
     ensures memory { result ≡ 6 → TakesMemory (pieces space words.now) }
 {
-    iri_run_calls::irikit_run(alloc, words, input, out, told)
+    iri_run_calls::irikit_run(alloc, words, input, out, out_len)
 }

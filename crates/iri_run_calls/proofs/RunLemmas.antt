@@ -13,7 +13,7 @@ use Rattle.iri_cli.specs.declared.run.words.Command.TheVariants.{Lines, Gen, Tel
 use Rattle.iri_cli.proofs.BytesLemmas.{canonical_answers, grammar_is_spec}
 use Rattle.iri_cli.proofs.ToolLaws.{answers_are_expansions, answers_are_links, answers_are_verdicts, live_lines_share_entries}
 use Rattle.iri_cli.proofs.WordLemmas.{obeyed, unknown}
-use Rattle.iri_run_calls.specs.Told.{RunsWords, Told, begun}
+use Rattle.iri_run_calls.specs.Runs.{RunsWords, RanOrMemory, begun}
 
 runs_words : (words : List (List ℕ)) (old new : Outside) (status : ℕ) (command : Option Command)
     → MatchOption command ((c : Command) → ¬ (IsCommand words c)) (IsCommand words)
@@ -33,8 +33,8 @@ runs_words words old new status command is done =
     }
 
 -- words that are no command
-pub none_told : (words : List (List ℕ)) (input old : List ℕ) → ((c : Command) → ¬ (IsCommand words c)) → Told words input old old 0 2
-none_told words input old none =
+pub no_command : (words : List (List ℕ)) (input old : List ℕ) → ((c : Command) → ¬ (IsCommand words c)) → RanOrMemory words input old old 0 2
+no_command words input old none =
     let start = begun input (length old) in
     inl (record {
       end = start;
@@ -64,8 +64,8 @@ module _ (notice : Notice) (input old : List ℕ) where
   failed = outside (Some input) 0 (record { written = Some []; faults = 1; room_left = Some (length old) })
 
   -- a notice that has room
-  pub notice_told : length text ≤ length old → Told words input old (over_start text old) (length text) 0
-  notice_told fits =
+  pub notice_fits : length text ≤ length old → RanOrMemory words input old (over_start text old) (length text) 0
+  notice_fits fits =
       let room : KeepsRoom (Some (length old)) (Some (length old - length text)) text (0 ≢ 5) =
       record { holds = λ _ e. cc e; left = λ more h. omega (arith, h) } in
       let tells : Tells text start written 0 = (inl (refl, refl, refl), refl, refl, room) in
@@ -81,7 +81,7 @@ module _ (notice : Notice) (input old : List ℕ) where
       })
 
   -- one that has none
-  pub notice_refused : length old < length text → Told words input old old 0 5
+  pub notice_refused : length old < length text → RanOrMemory words input old old 0 5
   notice_refused long =
       let room : KeepsRoom (Some (length old)) (Some (length old)) text (5 ≢ 5) =
       record { holds = λ h. absurd (omega (arith, h, long)); left = λ more h. omega (arith, h) } in

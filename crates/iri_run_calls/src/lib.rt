@@ -13,7 +13,7 @@ ghost use Rattle.iri_cli.specs.run.Words.{notice_word};
 ghost use Rattle.iri_grammar.specs.Pieces.{pieces};
 ghost use Rattle.iri_text.specs.SliceText.{over_start};
 ghost use Rattle.iri_grammar.specs.Blanks.{space};
-ghost use Rattle.iri_run_calls.specs.Told.{RunTold, TakesMemory, Told};
+ghost use Rattle.iri_run_calls.specs.Runs.{RanOrMemory, RunAnswered, TakesMemory};
 
 mod words;
 
@@ -59,13 +59,19 @@ fn copy_over(buf: &mut [u8], bytes: &[u8])
 }
 
 // Does what words say with an input, in a buffer of its own.
-fn run_words(alloc: Global, words: &[String], input: &[u8], out: &mut [u8], told: &mut usize) -> u8
-    ensures { Told (map string_bytes words.now) input.now out.old out.new told.new result }
+fn run_words(
+    alloc: Global,
+    words: &[String],
+    input: &[u8],
+    out: &mut [u8],
+    out_len: &mut usize,
+) -> u8
+    ensures { RanOrMemory (map string_bytes words.now) input.now out.old out.new out_len.new result }
 {
     let mut buffer = match Vec::from_elem(alloc, 0u8, out.len()) {
         Ok(buffer) => buffer,
         Err(_) => {
-            *told = 0;
+            *out_len = 0;
             return MEMORY;
         }
     };
@@ -75,63 +81,69 @@ fn run_words(alloc: Global, words: &[String], input: &[u8], out: &mut [u8], told
     let written = sink.written();
     // The sink has just that room. No contract of a run says so, since it speaks of every sink.
     if written.len() > out.len() {
-        *told = 0;
+        *out_len = 0;
         return MEMORY;
     }
     copy_over(out, written);
-    *told = written.len();
+    *out_len = written.len();
     status
 }
 
 // Does what the words of a text say with an input.
-fn run_text(alloc: Global, text: &str, input: &[u8], out: &mut [u8], told: &mut usize) -> u8
-    ensures { Told (pieces space text.now) input.now out.old out.new told.new result }
+fn run_text(alloc: Global, text: &str, input: &[u8], out: &mut [u8], out_len: &mut usize) -> u8
+    ensures { RanOrMemory (pieces space text.now) input.now out.old out.new out_len.new result }
 {
     match words_in(alloc, text) {
-        Ok(words) => run_words(alloc, words.as_slice(), input, out, told),
+        Ok(words) => run_words(alloc, words.as_slice(), input, out, out_len),
         Err(_) => {
-            *told = 0;
+            *out_len = 0;
             MEMORY
         }
     }
 }
 
 // Writes a notice over the start of a buffer, where it has room.
-fn tell(notice: Notice, input: &[u8], out: &mut [u8], told: &mut usize) -> u8
-    ensures run { Told (notice_word notice ∷ []) input.now out.old out.new told.new result }
+fn write_notice(notice: Notice, input: &[u8], out: &mut [u8], out_len: &mut usize) -> u8
+    ensures run { RanOrMemory (notice_word notice ∷ []) input.now out.old out.new out_len.new result }
     ensures memory { result ≢ 6 }
 {
     let text = text_of(notice);
     if text.len() > out.len() {
-        *told = 0;
+        *out_len = 0;
         return SHORT;
     }
     copy_over(out, text.as_bytes());
-    *told = text.len();
+    *out_len = text.len();
     0
 }
 
 // Tells that nothing was written, since words are no command.
-fn no_command(told: &mut usize) -> u8
-    ensures told { told.new ≡ 0 }
+fn no_command(out_len: &mut usize) -> u8
+    ensures out_len { out_len.new ≡ 0 }
     ensures status { result ≡ 2 }
 {
-    *told = 0;
+    *out_len = 0;
     NO_COMMAND
 }
 
 /// What the program would do with words, one space between each two, and an input. Words are looked at before memory is taken.
-pub fn irikit_run(alloc: Global, words: &[u8], input: &[u8], out: &mut [u8], told: &mut usize) -> u8
-    ensures run { RunTold words.now input.now out.old out.new told.new result }
+pub fn irikit_run(
+    alloc: Global,
+    words: &[u8],
+    input: &[u8],
+    out: &mut [u8],
+    out_len: &mut usize,
+) -> u8
+    ensures run { RunAnswered words.now input.now out.old out.new out_len.new result }
     // Allocation fails only at a command over lines, or at `gen`.
     ensures memory { result ≡ 6 → TakesMemory (pieces space words.now) }
 {
     let Ok(text) = str::from_utf8(words) else {
-        return no_command(told);
+        return no_command(out_len);
     };
     match command_in(text) {
-        Some(Command::Tell(notice)) => tell(notice, input, out, told),
-        Some(_) => run_text(alloc, text, input, out, told),
-        None => no_command(told),
+        Some(Command::Tell(notice)) => write_notice(notice, input, out, out_len),
+        Some(_) => run_text(alloc, text, input, out, out_len),
+        None => no_command(out_len),
     }
 }

@@ -1,4 +1,4 @@
-// The command that a text names, told before memory is taken for its words.
+// The command that a text names, found before memory is taken for its words.
 ghost use Rattle.std.specs.Prelude.{[], ◌∷◌, MatchOption};
 ghost use Rattle.iri_cli.specs.run.Words.{IsCommand};
 ghost use Rattle.iri_cli.specs.declared.run.words.Command.{Command};

@@ -26,11 +26,11 @@ def fault(text: Text, kind: Kind = REFERENCE, grammar: Grammar = URI) -> Fault |
     >>> str(fault("//[::1"))
     'invalid host'
     """
-    passed, told = bytes_of(text), size_t()
-    status = _validate(of_kind(grammar, Grammar), of_kind(kind, Kind), passed, len(passed), told)
+    passed, detail = bytes_of(text), size_t()
+    status = _validate(of_kind(grammar, Grammar), of_kind(kind, Kind), passed, len(passed), detail)
     if status not in (OK, BAD_TEXT):
-        raise refusal(status, told.value)
-    return Fault(told.value) if status == BAD_TEXT else None
+        raise refusal(status, detail.value)
+    return Fault(detail.value) if status == BAD_TEXT else None
 
 
 def faulty_part(text: Text, kind: Kind = REFERENCE, grammar: Grammar = URI) -> slice | None:
@@ -69,10 +69,10 @@ def is_normalized(text: Text, mode: Mode = NORMAL, grammar: Grammar = URI) -> bo
 
     Raises `Refused` where the text is no URI of the grammar.
     """
-    passed, told = bytes_of(text), size_t()
-    status = _is_normalized(of_kind(grammar, Grammar), of_kind(mode, Mode), passed, len(passed), told)
+    passed, detail = bytes_of(text), size_t()
+    status = _is_normalized(of_kind(grammar, Grammar), of_kind(mode, Mode), passed, len(passed), detail)
     if status not in (OK, NOT_NORMAL):
-        raise refusal(status, told.value)
+        raise refusal(status, detail.value)
     return bool(status == OK)
 
 

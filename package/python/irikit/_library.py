@@ -53,9 +53,9 @@ def address(data: bytes) -> int:
 
 def words(call: Callable[..., int], number: int) -> str:
     """The words for a fault."""
-    out, told = room(64), size_t()
-    call(number, out, len(out), told)
-    return str(out[: told.value], "ascii")
+    out, detail = room(64), size_t()
+    call(number, out, len(out), detail)
+    return str(out[: detail.value], "ascii")
 
 
 fault_words = declared("fault_words", "size text sizes")

@@ -57,13 +57,13 @@ class Links(Immutable):
         base, grammar = self._made_of
         reference = bytes_of(reference)
         size = len(base) + len(reference) + 3
-        out, told = room(size), size_t()
+        out, detail = room(size), size_t()
         status = _canonical(
-            grammar, of_kind(mode, Mode), base, len(base), reference, len(reference), out, size, told
+            grammar, of_kind(mode, Mode), base, len(base), reference, len(reference), out, size, detail
         )
         if status != OK:
-            raise refusal(status, told.value)
-        return out[: told.value]  # type: ignore[no-any-return]
+            raise refusal(status, detail.value)
+        return out[: detail.value]  # type: ignore[no-any-return]
 
     def canonical(self, reference: Text, mode: Mode = NORMAL) -> str:
         """The canonical text of a reference: resolved against the base (RFC 3986 section 5.2), in normal form.
@@ -114,14 +114,14 @@ class Links(Immutable):
         if lines and not lines.endswith(b"\n"):
             lines += b"\n"
         start, end = address(lines), len(lines)
-        at, pieces, out, used, told, status = 0, [], room(min(_ANSWERS, 64 + 4 * (len(base) + end))), size_t(), size_t(), int(SHORT)
+        at, pieces, out, used, detail, status = 0, [], room(min(_ANSWERS, 64 + 4 * (len(base) + end))), size_t(), size_t(), int(SHORT)
         while status == SHORT:
             status = _canonical_lines(
-                grammar, mode, base, len(base), start + at, end - at, out, len(out), used, told
+                grammar, mode, base, len(base), start + at, end - at, out, len(out), used, detail
             )
             if status not in (OK, SHORT):
-                raise refusal(status, told.value)
-            pieces.append(out[: told.value])
+                raise refusal(status, detail.value)
+            pieces.append(out[: detail.value])
             at += used.value
             if not used.value:
                 out = room(2 * len(out))

@@ -30,8 +30,8 @@ class Refused(ValueError):
         return type(self), (self.status, self.fault, self.place, str(self))
 
 
-def refusal(status: int, told: int) -> Exception:
-    """What a call's status and what it told come to."""
+def refusal(status: int, detail: int) -> Exception:
+    """The exception for a call's status and detail."""
     if status == MEMORY:
         return MemoryError()
-    return Refused(Status(status), None if Status(status) in _WORDS else Fault(told))
+    return Refused(Status(status), None if Status(status) in _WORDS else Fault(detail))

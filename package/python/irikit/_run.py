@@ -21,11 +21,11 @@ def run(words: Text, lines: Text) -> tuple[bytes, int]:
     >>> run("canon uri", "http://a/b\\n../c\\n")
     (b'ok http://a/c\\n', 0)
     """
-    words, lines, told = bytes_of(words), bytes_of(lines), size_t()
+    words, lines, out_len = bytes_of(words), bytes_of(lines), size_t()
     size = 4 * len(lines) + 4096
     while True:
         out = room(size)
-        status = _run(words, len(words), lines, len(lines), out, len(out), told)
+        status = _run(words, len(words), lines, len(lines), out, len(out), out_len)
         if status != SHORT:
-            return out[: told.value], status
+            return out[: out_len.value], status
         size *= 4

@@ -56,11 +56,11 @@ def variables(template: Text) -> list[str]:
     """
     text = bytes_of(template)
     most = len(text) // 2
-    slots, told, place = (size_t * (2 * most))(), size_t(), size_t()
-    status = _template_variables(text, len(text), slots, most, told, place)
+    slots, detail, place = (size_t * (2 * most))(), size_t(), size_t()
+    status = _template_variables(text, len(text), slots, most, detail, place)
     if status != OK:
-        raise Refused(BAD_TEXT, TemplateFault(told.value), place.value)
-    places = zip(slots[: 2 * told.value : 2], slots[1 : 2 * told.value : 2])
+        raise Refused(BAD_TEXT, TemplateFault(detail.value), place.value)
+    places = zip(slots[: 2 * detail.value : 2], slots[1 : 2 * detail.value : 2])
     return [text[offset : offset + size].decode() for offset, size in places]
 
 
@@ -85,17 +85,17 @@ def _expanded(text: bytes, grammar: Grammar, values: Mapping[Any, Any] | None, m
     if not isinstance(values, (dict, Mapping, type(None))):
         raise TypeError(f"a mapping of variables is wanted, and not {type(values).__name__}")
     given = {bytes_of(name): value for name, value in [*(values or {}).items(), *more.items()]}
-    array, told, place, size = _variables(given), size_t(), size_t(), len(text) + 256
+    array, detail, place, size = _variables(given), size_t(), size_t(), len(text) + 256
     while True:
         out = room(size)
-        status = _expand(grammar, text, len(text), array, len(given), out, size, told, place)
+        status = _expand(grammar, text, len(text), array, len(given), out, size, detail, place)
         if status == OK:
-            return str(out[: told.value], "utf-8")
+            return str(out[: detail.value], "utf-8")
         if status == BAD_TEXT:
-            raise Refused(BAD_TEXT, TemplateFault(told.value), place.value)
+            raise Refused(BAD_TEXT, TemplateFault(detail.value), place.value)
         if status != SHORT:
             raise Refused(Status(status), None, place.value)
-        size = told.value
+        size = detail.value
 
 
 def _variables(given: dict[bytes, Any]) -> Any:

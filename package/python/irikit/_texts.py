@@ -76,13 +76,13 @@ def of_kind(number: Any, kind: type) -> Any:
 def written(size: int, call: Callable[..., int], *given: Any) -> bytes:
     """What a call writes, in so much room, or in as much as it asks for."""
     while True:
-        out, told = room(size), size_t()
-        status = call(*given, out, size, told)
+        out, detail = room(size), size_t()
+        status = call(*given, out, size, detail)
         if status == OK:
-            return out[: told.value]  # type: ignore[no-any-return]
+            return out[: detail.value]  # type: ignore[no-any-return]
         if status != SHORT:
-            raise refusal(status, told.value)
-        size = told.value
+            raise refusal(status, detail.value)
+        size = detail.value
 
 
 def writing(name: str, numbers: int, texts: int = 1) -> Callable[..., bytes]:

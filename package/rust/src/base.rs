@@ -106,7 +106,7 @@ impl Base {
     /// ```
     pub fn target(&self, reference: &str) -> Result<String, Error> {
         let ((base, base_len), (text, len)) = (at(&self.text), at(reference));
-        owned(self.room(reference), |out, size, told| unsafe {
+        owned(self.room(reference), |out, size, detail| unsafe {
             ffi::irikit_target(
                 self.grammar as u32,
                 base,
@@ -115,7 +115,7 @@ impl Base {
                 len,
                 out,
                 size,
-                told,
+                detail,
             )
         })
     }
@@ -168,8 +168,8 @@ impl Base {
     fn answer_ended(&self, lines: &str, mut len: usize, buffer: &mut Vec<u8>) -> usize {
         let mut at = 0;
         loop {
-            let (status, consumed, told) = self.answer(&lines[at..], &mut buffer[len..]);
-            (at, len) = (at + consumed, len + told);
+            let (status, consumed, detail) = self.answer(&lines[at..], &mut buffer[len..]);
+            (at, len) = (at + consumed, len + detail);
             match status {
                 ffi::IRIKIT_OK => return len,
                 ffi::IRIKIT_SHORT => {
@@ -183,7 +183,7 @@ impl Base {
     /// The status of answering lines, how many bytes of them are answered, and how many bytes the answers have.
     fn answer(&self, lines: &str, out: &mut [u8]) -> (u8, usize, usize) {
         let ((base, base_len), (lines, len)) = (at(&self.text), at(lines));
-        let (mut consumed, mut told, size, out) = (0, 0, out.len(), out.as_mut_ptr().cast());
+        let (mut consumed, mut detail, size, out) = (0, 0, out.len(), out.as_mut_ptr().cast());
         let (grammar, mode) = (self.grammar as u32, self.mode as u32);
         let status = unsafe {
             ffi::irikit_canonical_lines(
@@ -196,10 +196,10 @@ impl Base {
                 out,
                 size,
                 &mut consumed,
-                &mut told,
+                &mut detail,
             )
         };
-        (status, consumed, told)
+        (status, consumed, detail)
     }
 
     fn room(&self, reference: &str) -> usize {
@@ -211,12 +211,12 @@ fn canonicalizing<'t>(
     by: &'t Base,
     reference: &'t str,
 ) -> impl FnOnce(*mut c_char, usize, *mut usize) -> u8 + 't {
-    move |out, size, told| {
+    move |out, size, detail| {
         let ((base, base_len), (reference, len)) = (at(&by.text), at(reference));
         let (grammar, mode) = (by.grammar as u32, by.mode as u32);
         unsafe {
             ffi::irikit_canonical(
-                grammar, mode, base, base_len, reference, len, out, size, told,
+                grammar, mode, base, base_len, reference, len, out, size, detail,
             )
         }
     }
@@ -226,7 +226,7 @@ fn resolving<'t>(
     by: &'t Base,
     reference: &'t str,
 ) -> impl FnOnce(*mut c_char, usize, *mut usize) -> u8 + 't {
-    move |out, size, told| {
+    move |out, size, detail| {
         let ((base, base_len), (reference, len)) = (at(&by.text), at(reference));
         unsafe {
             ffi::irikit_resolve(
@@ -237,7 +237,7 @@ fn resolving<'t>(
                 len,
                 out,
                 size,
-                told,
+                detail,
             )
         }
     }

@@ -93,9 +93,9 @@ impl Fault {
     /// assert_eq!(fault.part_of(text, Kind::Reference), Some(10..13));
     /// ```
     pub fn part_of(self, text: &str, kind: Kind) -> Option<Range<usize>> {
-        let ((bytes, len), mut part, mut told) = (at(text), ffi::Slot::default(), 0);
+        let ((bytes, len), mut part, mut detail) = (at(text), ffi::Slot::default(), 0);
         let status = unsafe {
-            ffi::irikit_fault_part(kind as u32, self.0, bytes, len, &mut part, &mut told)
+            ffi::irikit_fault_part(kind as u32, self.0, bytes, len, &mut part, &mut detail)
         };
         if status != ffi::IRIKIT_OK {
             return None;
@@ -107,40 +107,40 @@ impl Fault {
 }
 
 impl Error {
-    /// The refusal that a status and what is told with it stand for.
-    pub(crate) fn of(status: u8, told: usize) -> Self {
+    /// The refusal that a status and its detail stand for.
+    pub(crate) fn of(status: u8, detail: usize) -> Self {
         match status {
-            ffi::IRIKIT_SHORT => Error::Short(told),
-            ffi::IRIKIT_BAD_TEXT => Error::Text(Fault(told)),
-            ffi::IRIKIT_BAD_BASE => Error::Base(Fault(told)),
-            ffi::IRIKIT_BAD_REFERENCE => Error::Reference(Fault(told)),
-            ffi::IRIKIT_BAD_PART => Error::Part(Fault(told)),
+            ffi::IRIKIT_SHORT => Error::Short(detail),
+            ffi::IRIKIT_BAD_TEXT => Error::Text(Fault(detail)),
+            ffi::IRIKIT_BAD_BASE => Error::Base(Fault(detail)),
+            ffi::IRIKIT_BAD_REFERENCE => Error::Reference(Fault(detail)),
+            ffi::IRIKIT_BAD_PART => Error::Part(Fault(detail)),
             ffi::IRIKIT_NO_HOST => Error::NoHost,
             _ => unreachable!("irikit.h has no status {status} for this call"),
         }
     }
 
     /// The same where the text is a template.
-    pub(crate) fn of_template(status: u8, told: usize, place: usize) -> Self {
+    pub(crate) fn of_template(status: u8, detail: usize, place: usize) -> Self {
         match status {
-            ffi::IRIKIT_BAD_TEXT => Error::Template(TemplateFault(told), place),
-            _ => Error::of(status, told),
+            ffi::IRIKIT_BAD_TEXT => Error::Template(TemplateFault(detail), place),
+            _ => Error::of(status, detail),
         }
     }
 }
 
 impl fmt::Display for Fault {
     fn fmt(&self, f: &mut fmt::Formatter<'_>) -> fmt::Result {
-        f.write_str(words(&mut [0; 64], |out, size, told| unsafe {
-            ffi::irikit_fault_words(self.0, out, size, told)
+        f.write_str(words(&mut [0; 64], |out, size, detail| unsafe {
+            ffi::irikit_fault_words(self.0, out, size, detail)
         }))
     }
 }
 
 impl fmt::Display for TemplateFault {
     fn fmt(&self, f: &mut fmt::Formatter<'_>) -> fmt::Result {
-        f.write_str(words(&mut [0; 64], |out, size, told| unsafe {
-            ffi::irikit_template_fault_words(self.0, out, size, told)
+        f.write_str(words(&mut [0; 64], |out, size, detail| unsafe {
+            ffi::irikit_template_fault_words(self.0, out, size, detail)
         }))
     }
 }

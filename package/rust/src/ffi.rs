@@ -71,40 +71,40 @@ extern "C" {
 
 calls! {
     irikit_canonical(grammar: u32, mode: u32, base: *const c_char, base_len: usize, reference: *const c_char, reference_len: usize,
-        out: *mut c_char, size: usize, told: *mut usize);
+        out: *mut c_char, size: usize, detail: *mut usize);
     irikit_canonical_lines(grammar: u32, mode: u32, base: *const c_char, base_len: usize, lines: *const c_char, lines_len: usize,
-        out: *mut c_char, size: usize, consumed: *mut usize, told: *mut usize);
-    irikit_validate(grammar: u32, kind: u32, text: *const c_char, len: usize, told: *mut usize);
-    irikit_fault_part(kind: u32, fault: usize, text: *const c_char, len: usize, part: *mut Slot, told: *mut usize);
-    irikit_split(grammar: u32, text: *const c_char, len: usize, parts: *mut Slots, told: *mut usize);
-    irikit_is_normalized(grammar: u32, mode: u32, text: *const c_char, len: usize, told: *mut usize);
-    irikit_map_to_uri(text: *const c_char, len: usize, out: *mut c_char, size: usize, told: *mut usize);
+        out: *mut c_char, size: usize, consumed: *mut usize, detail: *mut usize);
+    irikit_validate(grammar: u32, kind: u32, text: *const c_char, len: usize, detail: *mut usize);
+    irikit_fault_part(kind: u32, fault: usize, text: *const c_char, len: usize, part: *mut Slot, detail: *mut usize);
+    irikit_split(grammar: u32, text: *const c_char, len: usize, parts: *mut Slots, detail: *mut usize);
+    irikit_is_normalized(grammar: u32, mode: u32, text: *const c_char, len: usize, detail: *mut usize);
+    irikit_map_to_uri(text: *const c_char, len: usize, out: *mut c_char, size: usize, detail: *mut usize);
     irikit_resolve(grammar: u32, base: *const c_char, base_len: usize, reference: *const c_char, reference_len: usize,
-        out: *mut c_char, size: usize, told: *mut usize);
+        out: *mut c_char, size: usize, detail: *mut usize);
     irikit_target(grammar: u32, base: *const c_char, base_len: usize, reference: *const c_char, reference_len: usize,
-        out: *mut c_char, size: usize, told: *mut usize);
-    irikit_steps(grammar: u32, mode: u32, text: *const c_char, len: usize, out: *mut c_char, size: usize, told: *mut usize);
-    irikit_normalize(grammar: u32, mode: u32, text: *const c_char, len: usize, out: *mut c_char, size: usize, told: *mut usize);
-    irikit_encode(grammar: u32, place: u32, text: *const c_char, len: usize, out: *mut c_char, size: usize, told: *mut usize);
-    irikit_decode(text: *const c_char, len: usize, out: *mut c_char, size: usize, told: *mut usize);
-    irikit_mask_password(grammar: u32, text: *const c_char, len: usize, out: *mut c_char, size: usize, told: *mut usize);
+        out: *mut c_char, size: usize, detail: *mut usize);
+    irikit_steps(grammar: u32, mode: u32, text: *const c_char, len: usize, out: *mut c_char, size: usize, detail: *mut usize);
+    irikit_normalize(grammar: u32, mode: u32, text: *const c_char, len: usize, out: *mut c_char, size: usize, detail: *mut usize);
+    irikit_encode(grammar: u32, place: u32, text: *const c_char, len: usize, out: *mut c_char, size: usize, detail: *mut usize);
+    irikit_decode(text: *const c_char, len: usize, out: *mut c_char, size: usize, detail: *mut usize);
+    irikit_mask_password(grammar: u32, text: *const c_char, len: usize, out: *mut c_char, size: usize, detail: *mut usize);
     irikit_replace_password(grammar: u32, text: *const c_char, len: usize, password: *const c_char, password_len: usize,
-        out: *mut c_char, size: usize, told: *mut usize);
-    irikit_remove_fragment(grammar: u32, text: *const c_char, len: usize, out: *mut c_char, size: usize, told: *mut usize);
+        out: *mut c_char, size: usize, detail: *mut usize);
+    irikit_remove_fragment(grammar: u32, text: *const c_char, len: usize, out: *mut c_char, size: usize, detail: *mut usize);
     irikit_set_fragment(grammar: u32, text: *const c_char, len: usize, fragment: *const c_char, fragment_len: usize,
-        out: *mut c_char, size: usize, told: *mut usize);
-    irikit_remove_password(grammar: u32, text: *const c_char, len: usize, out: *mut c_char, size: usize, told: *mut usize);
+        out: *mut c_char, size: usize, detail: *mut usize);
+    irikit_remove_password(grammar: u32, text: *const c_char, len: usize, out: *mut c_char, size: usize, detail: *mut usize);
     irikit_replace_host(grammar: u32, text: *const c_char, len: usize, host: *const c_char, host_len: usize, out: *mut c_char,
-        size: usize, told: *mut usize);
+        size: usize, detail: *mut usize);
     irikit_replace_reg_name(grammar: u32, text: *const c_char, len: usize, host: *const c_char, host_len: usize,
-        out: *mut c_char, size: usize, told: *mut usize);
-    irikit_build(grammar: u32, kind: u32, parts: *const Given, count: usize, out: *mut c_char, size: usize, told: *mut usize);
-    irikit_template_variables(template: *const c_char, len: usize, names: *mut Slot, count: usize, told: *mut usize,
+        out: *mut c_char, size: usize, detail: *mut usize);
+    irikit_build(grammar: u32, kind: u32, parts: *const Given, count: usize, out: *mut c_char, size: usize, detail: *mut usize);
+    irikit_template_variables(template: *const c_char, len: usize, names: *mut Slot, count: usize, detail: *mut usize,
         place: *mut usize);
     irikit_expand(grammar: u32, template: *const c_char, template_len: usize, variables: *const Variable, count: usize,
-        out: *mut c_char, size: usize, told: *mut usize, place: *mut usize);
-    irikit_fault_words(fault: usize, out: *mut c_char, size: usize, told: *mut usize);
-    irikit_template_fault_words(fault: usize, out: *mut c_char, size: usize, told: *mut usize);
+        out: *mut c_char, size: usize, detail: *mut usize, place: *mut usize);
+    irikit_fault_words(fault: usize, out: *mut c_char, size: usize, detail: *mut usize);
+    irikit_template_fault_words(fault: usize, out: *mut c_char, size: usize, detail: *mut usize);
     irikit_run(words: *const c_char, words_len: usize, input: *const c_char, input_len: usize, out: *mut c_char, size: usize,
-        told: *mut usize);
+        out_len: *mut usize);
 }

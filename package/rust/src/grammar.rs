@@ -113,10 +113,10 @@ impl Grammar {
     /// assert_eq!(Iri.validate(Kind::Reference, "/café"), Ok(()));
     /// ```
     pub fn validate(self, kind: Kind, text: &str) -> Result<(), Fault> {
-        let ((text, len), mut told) = (at(text), 0);
-        match unsafe { ffi::irikit_validate(self as u32, kind as u32, text, len, &mut told) } {
+        let ((text, len), mut detail) = (at(text), 0);
+        match unsafe { ffi::irikit_validate(self as u32, kind as u32, text, len, &mut detail) } {
             ffi::IRIKIT_OK => Ok(()),
-            ffi::IRIKIT_BAD_TEXT => Err(Fault::of(told)),
+            ffi::IRIKIT_BAD_TEXT => Err(Fault::of(detail)),
             status => unreachable!("irikit.h has no status {status} for this call"),
         }
     }
@@ -133,10 +133,10 @@ impl Grammar {
     /// # Ok::<(), irikit::Error>(())
     /// ```
     pub fn split(self, text: &str) -> Result<Parts<'_>, Error> {
-        let ((bytes, len), mut slots, mut told) = (at(text), ffi::Slots::default(), 0);
-        match unsafe { ffi::irikit_split(self as u32, bytes, len, &mut slots, &mut told) } {
+        let ((bytes, len), mut slots, mut detail) = (at(text), ffi::Slots::default(), 0);
+        match unsafe { ffi::irikit_split(self as u32, bytes, len, &mut slots, &mut detail) } {
             ffi::IRIKIT_OK => Ok(Parts::of(text, &slots)),
-            status => Err(Error::of(status, told)),
+            status => Err(Error::of(status, detail)),
         }
     }
 
@@ -151,11 +151,12 @@ impl Grammar {
     /// # Ok::<(), irikit::Error>(())
     /// ```
     pub fn is_normalized(self, text: &str, mode: Mode) -> Result<bool, Error> {
-        let ((text, len), mut told) = (at(text), 0);
-        match unsafe { ffi::irikit_is_normalized(self as u32, mode as u32, text, len, &mut told) } {
+        let ((text, len), mut detail) = (at(text), 0);
+        match unsafe { ffi::irikit_is_normalized(self as u32, mode as u32, text, len, &mut detail) }
+        {
             ffi::IRIKIT_OK => Ok(true),
             ffi::IRIKIT_NOT_NORMAL => Ok(false),
-            status => Err(Error::of(status, told)),
+            status => Err(Error::of(status, detail)),
         }
     }
 
@@ -192,9 +193,9 @@ impl Grammar {
         text: &str,
         mode: Mode,
     ) -> impl FnOnce(*mut c_char, usize, *mut usize) -> u8 + '_ {
-        move |out, size, told| {
+        move |out, size, detail| {
             let (text, len) = at(text);
-            unsafe { ffi::irikit_normalize(self as u32, mode as u32, text, len, out, size, told) }
+            unsafe { ffi::irikit_normalize(self as u32, mode as u32, text, len, out, size, detail) }
         }
     }
 
@@ -229,8 +230,8 @@ impl Grammar {
 
     fn steps_in(self, text: &str, mode: Mode) -> Result<Vec<String>, Error> {
         let (text, len) = at(text);
-        let call = move |out: *mut c_char, size: usize, told: *mut usize| unsafe {
-            ffi::irikit_steps(self as u32, mode as u32, text, len, out, size, told)
+        let call = move |out: *mut c_char, size: usize, detail: *mut usize| unsafe {
+            ffi::irikit_steps(self as u32, mode as u32, text, len, out, size, detail)
         };
         let lines = match owned(0, call) {
             Err(Error::Short(needed)) => owned(needed, call),
@@ -270,9 +271,9 @@ impl Grammar {
         text: &str,
         place: Place,
     ) -> impl FnOnce(*mut c_char, usize, *mut usize) -> u8 + '_ {
-        move |out, size, told| {
+        move |out, size, detail| {
             let (text, len) = at(text);
-            unsafe { ffi::irikit_encode(self as u32, place as u32, text, len, out, size, told) }
+            unsafe { ffi::irikit_encode(self as u32, place as u32, text, len, out, size, detail) }
         }
     }
 
@@ -288,8 +289,8 @@ impl Grammar {
     /// ```
     pub fn mask_password(self, text: &str) -> Result<String, Error> {
         let (text, len) = at(text);
-        owned(len, |out, size, told| unsafe {
-            ffi::irikit_mask_password(self as u32, text, len, out, size, told)
+        owned(len, |out, size, detail| unsafe {
+            ffi::irikit_mask_password(self as u32, text, len, out, size, detail)
         })
     }
 
@@ -305,8 +306,8 @@ impl Grammar {
     /// ```
     pub fn without_password(self, text: &str) -> Result<String, Error> {
         let (text, len) = at(text);
-        owned(len, |out, size, told| unsafe {
-            ffi::irikit_remove_password(self as u32, text, len, out, size, told)
+        owned(len, |out, size, detail| unsafe {
+            ffi::irikit_remove_password(self as u32, text, len, out, size, detail)
         })
     }
 
@@ -323,8 +324,8 @@ impl Grammar {
     /// ```
     pub fn with_host(self, text: &str, host: &str) -> Result<String, Error> {
         let ((text, len), (host, host_len)) = (at(text), at(host));
-        owned(len + host_len, |out, size, told| unsafe {
-            ffi::irikit_replace_host(self as u32, text, len, host, host_len, out, size, told)
+        owned(len + host_len, |out, size, detail| unsafe {
+            ffi::irikit_replace_host(self as u32, text, len, host, host_len, out, size, detail)
         })
     }
 
@@ -335,8 +336,8 @@ impl Grammar {
     /// Those of [`with_host`](Self::with_host), and [`Error::NoHost`] where the host is an IP literal or an IPv4 address.
     pub fn with_reg_name(self, text: &str, name: &str) -> Result<String, Error> {
         let ((text, len), (host, host_len)) = (at(text), at(name));
-        owned(len + host_len, |out, size, told| unsafe {
-            ffi::irikit_replace_reg_name(self as u32, text, len, host, host_len, out, size, told)
+        owned(len + host_len, |out, size, detail| unsafe {
+            ffi::irikit_replace_reg_name(self as u32, text, len, host, host_len, out, size, detail)
         })
     }
 
@@ -363,7 +364,7 @@ impl Grammar {
         };
         let given: Vec<ffi::Given> = parts.iter().map(given).collect();
         let room = parts.iter().map(|(_, text)| text.len()).sum::<usize>() + 7;
-        owned(room, |out, size, told| unsafe {
+        owned(room, |out, size, detail| unsafe {
             ffi::irikit_build(
                 self as u32,
                 kind as u32,
@@ -371,7 +372,7 @@ impl Grammar {
                 given.len(),
                 out,
                 size,
-                told,
+                detail,
             )
         })
     }
@@ -389,7 +390,7 @@ impl Grammar {
     /// ```
     pub fn replace_password(self, text: &str, password: &str) -> Result<String, Error> {
         let ((text, len), (password, password_len)) = (at(text), at(password));
-        owned(len + password_len, |out, size, told| unsafe {
+        owned(len + password_len, |out, size, detail| unsafe {
             ffi::irikit_replace_password(
                 self as u32,
                 text,
@@ -398,7 +399,7 @@ impl Grammar {
                 password_len,
                 out,
                 size,
-                told,
+                detail,
             )
         })
     }
@@ -417,11 +418,11 @@ impl Grammar {
     pub fn with_fragment(self, text: &str, fragment: Option<&str>) -> Result<String, Error> {
         let (text, len) = at(text);
         match fragment.map(at) {
-            None => owned(len, |out, size, told| unsafe {
-                ffi::irikit_remove_fragment(self as u32, text, len, out, size, told)
+            None => owned(len, |out, size, detail| unsafe {
+                ffi::irikit_remove_fragment(self as u32, text, len, out, size, detail)
             }),
             Some((fragment, fragment_len)) => {
-                owned(len + fragment_len + 1, |out, size, told| unsafe {
+                owned(len + fragment_len + 1, |out, size, detail| unsafe {
                     ffi::irikit_set_fragment(
                         self as u32,
                         text,
@@ -430,7 +431,7 @@ impl Grammar {
                         fragment_len,
                         out,
                         size,
-                        told,
+                        detail,
                     )
                 })
             }
@@ -487,7 +488,7 @@ impl Grammar {
         out: &mut [u8],
     ) -> Result<usize, Error> {
         let ((template, template_len), (variables, count)) = (at(template), array.parts());
-        let (size, out, mut told, mut place) = (out.len(), out.as_mut_ptr().cast(), 0, 0);
+        let (size, out, mut detail, mut place) = (out.len(), out.as_mut_ptr().cast(), 0, 0);
         let status = unsafe {
             ffi::irikit_expand(
                 self as u32,
@@ -497,11 +498,11 @@ impl Grammar {
                 count,
                 out,
                 size,
-                &mut told,
+                &mut detail,
                 &mut place,
             )
         };
-        refuse(status, told, place)
+        refuse(status, detail, place)
     }
 }
 
@@ -516,12 +517,13 @@ impl Grammar {
 /// # Ok::<(), irikit::Error>(())
 /// ```
 pub fn template_variables(template: &str) -> Result<Vec<&str>, Error> {
-    let ((bytes, len), mut told, mut place) = (at(template), 0, 0);
+    let ((bytes, len), mut detail, mut place) = (at(template), 0, 0);
     let mut slots = vec![ffi::Slot::default(); len / 2];
     let (names, count) = (slots.as_mut_ptr(), slots.len());
-    let status =
-        unsafe { ffi::irikit_template_variables(bytes, len, names, count, &mut told, &mut place) };
-    slots.truncate(refuse(status, told, place)?);
+    let status = unsafe {
+        ffi::irikit_template_variables(bytes, len, names, count, &mut detail, &mut place)
+    };
+    slots.truncate(refuse(status, detail, place)?);
     Ok(slots
         .iter()
         .map(|s| &template[s.offset..s.offset + s.len])
@@ -540,8 +542,8 @@ pub fn template_variables(template: &str) -> Result<Vec<&str>, Error> {
 /// ```
 pub fn map_to_uri(text: &str) -> Result<String, Error> {
     let (text, len) = at(text);
-    owned(3 * len, |out, size, told| unsafe {
-        ffi::irikit_map_to_uri(text, len, out, size, told)
+    owned(3 * len, |out, size, detail| unsafe {
+        ffi::irikit_map_to_uri(text, len, out, size, detail)
     })
 }
 
@@ -552,8 +554,8 @@ pub fn map_to_uri(text: &str) -> Result<String, Error> {
 /// ```
 pub fn decode(text: &str) -> Vec<u8> {
     let ((text, len), mut out) = (at(text), vec![0; text.len()]);
-    let decoded = bytes(&mut out, |out, size, told| unsafe {
-        ffi::irikit_decode(text, len, out, size, told)
+    let decoded = bytes(&mut out, |out, size, detail| unsafe {
+        ffi::irikit_decode(text, len, out, size, detail)
     });
     let len = decoded.expect("what is decoded isn't longer").len();
     out.truncate(len);

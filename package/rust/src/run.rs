@@ -61,7 +61,7 @@ pub fn run(words: &str, input: impl AsRef<[u8]>) -> (Status, String) {
 
 /// [`run`] into a buffer: gives its status, and how many bytes it wrote.
 pub fn run_into(words: &str, input: &[u8], out: &mut [u8]) -> (Status, usize) {
-    let ((words, words_len), mut told) = (at(words), 0);
+    let ((words, words_len), mut out_len) = (at(words), 0);
     let (size, out) = (out.len(), out.as_mut_ptr().cast());
     let number = unsafe {
         ffi::irikit_run(
@@ -71,8 +71,8 @@ pub fn run_into(words: &str, input: &[u8], out: &mut [u8]) -> (Status, usize) {
             input.len(),
             out,
             size,
-            &mut told,
+            &mut out_len,
         )
     };
-    (status(number), told)
+    (status(number), out_len)
 }

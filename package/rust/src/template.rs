@@ -93,9 +93,9 @@ fn texts(value: &Value<'_>) -> Vec<ffi::Text> {
 }
 
 /// The length of an expansion, or why there is none.
-pub(crate) fn refuse(status: u8, told: usize, place: usize) -> Result<usize, Error> {
+pub(crate) fn refuse(status: u8, detail: usize, place: usize) -> Result<usize, Error> {
     match status {
-        ffi::IRIKIT_OK => Ok(told),
-        _ => Err(Error::of_template(status, told, place)),
+        ffi::IRIKIT_OK => Ok(detail),
+        _ => Err(Error::of_template(status, detail, place)),
     }
 }

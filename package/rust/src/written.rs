@@ -11,10 +11,10 @@ pub(crate) fn bytes<C>(out: &mut [u8], call: C) -> Result<&[u8], Error>
 where
     C: FnOnce(*mut c_char, usize, *mut usize) -> u8,
 {
-    let mut told = 0;
-    match call(out.as_mut_ptr().cast(), out.len(), &mut told) {
-        IRIKIT_OK => Ok(&out[..told]),
-        status => Err(Error::of(status, told)),
+    let mut detail = 0;
+    match call(out.as_mut_ptr().cast(), out.len(), &mut detail) {
+        IRIKIT_OK => Ok(&out[..detail]),
+        status => Err(Error::of(status, detail)),
     }
 }
 
@@ -42,9 +42,9 @@ pub(crate) fn words<C>(out: &mut [u8; 64], call: C) -> &str
 where
     C: FnOnce(*mut c_char, usize, *mut usize) -> u8,
 {
-    let mut told = 0;
-    match call(out.as_mut_ptr().cast(), out.len(), &mut told) {
-        IRIKIT_OK => str::from_utf8(&out[..told]).expect(UTF8),
+    let mut detail = 0;
+    match call(out.as_mut_ptr().cast(), out.len(), &mut detail) {
+        IRIKIT_OK => str::from_utf8(&out[..detail]).expect(UTF8),
         _ => "another fault",
     }
 }

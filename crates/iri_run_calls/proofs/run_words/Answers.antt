@@ -1,7 +1,7 @@
 use Rattle.std.proofs.Common.{◌≡◌, [], length, map, string_bytes, Some, ap, sym, subst, refl, ◌∙◌, inl}
 use Rattle.iri_text.specs.Memory.{room_left_of, state_of}
 use Rattle.iri_cli.specs.run.Run.{outside}
-use Rattle.iri_run_calls.specs.Told.{RunsWords, begun}
+use Rattle.iri_run_calls.specs.Runs.{RunsWords, begun}
 use Rattle.iri_run_calls.proofs.run_words.Goals as goal
 
 pub returns : goal.returns

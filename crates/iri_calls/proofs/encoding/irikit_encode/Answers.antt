@@ -5,7 +5,7 @@ use Rattle.iri_calls.proofs.encoding.irikit_encode.Goals as goal
 pub returns-in-Ok : goal.returns-in-Ok
 returns-in-Ok c =
     let by = λ (t : List ℕ). encoded_by c.args.grammar c.args.place t in
-    let answered = λ (o : Outcome). Answered o c.args.out.now c.encode_text.new.out c.encode_text.new.told c.encode_text.result in
+    let answered = λ (o : Outcome). Answered o c.args.out.now c.encode_text.new.out c.encode_text.new.detail c.encode_text.result in
     let whole = c.in-Ok.ensures.cases in
     subst (λ f. answered (unless_fault bad_text f (by c.args.raw.now))) (sym (text_fault no_fault c.args.raw.now whole.1))
     (subst (λ t. answered (by t)) whole.0 c.encode_text.ensures)
@@ -13,5 +13,5 @@ returns-in-Ok c =
 pub returns-in-Err : goal.returns-in-Err
 returns-in-Err c =
     subst (λ f. Answered (unless_fault bad_text f (encoded_by c.args.grammar c.args.place c.args.raw.now))
-    c.args.out.now c.args.out.now c.answer_fault.new.told c.answer_fault.result)
-    (sym (no_text_fault no_fault c.args.raw.now c.in-Err.ensures.cases.0)) (refl, c.answer_fault.ensures.told, c.answer_fault.ensures.status)
+    c.args.out.now c.args.out.now c.answer_fault.new.detail c.answer_fault.result)
+    (sym (no_text_fault no_fault c.args.raw.now c.in-Err.ensures.cases.0)) (refl, c.answer_fault.ensures.detail, c.answer_fault.ensures.status)

@@ -5,7 +5,7 @@ use Rattle.iri_template.specs.declared.visitor.Phase.TheVariants.{InPairs}
 use Rattle.iri_calls.specs.Variables.{shown, paired}
 use Rattle.iri_calls.proofs.variables.visit_pairs.Given as goal
 
--- the pairs before those that are left were told
+-- the pairs before those that are left were visited
 abbrev pub invariant-loop-i : goal.invariant-loop-i
 invariant-loop-i g l =
     let v = g.V.Visitor in

@@ -11,5 +11,5 @@ use Rattle.iri_robots_calls.proofs.robots.irikit_robots_rules.Goals as goal
 pub returns-in_default-clause-rules : goal.returns-in_default-clause-rules
 returns-in_default-clause-rules c =
     subst (λ b. AnsweredOrMemory (cond b (text (rule_lines (rules_for c.args.token.now (file_records c.args.file.now)))) (plain BAD_TOKEN))
-    c.args.out.now c.args.out.now c.answer.new.told c.answer.result)
-    (sym (no_token c.args.token.now c.in_default.ensures.cases.0)) (inl (refl, c.answer.ensures.told, c.answer.ensures.status))
+    c.args.out.now c.args.out.now c.answer.new.detail c.answer.result)
+    (sym (no_token c.args.token.now c.in_default.ensures.cases.0)) (inl (refl, c.answer.ensures.detail, c.answer.ensures.status))

@@ -49,22 +49,22 @@ begun input room = outside (Some input) 0 (record { written = Some []; faults = 
 
 -- The output fits the buffer, and stands over its start; a sink with room for as many bytes as the buffer has would have taken it, and the source
 -- never failed.
-pub record Ran (words : List (List ℕ)) (input old new : List ℕ) (told status : ℕ) : Type 0 where
+pub record Ran (words : List (List ℕ)) (input old new : List ℕ) (out_len status : ℕ) : Type 0 where
   pub end : Outside
   pub output : List ℕ
   pub written : end.sink.written ≡ Some output
   pub runs : RunsWords words (begun input (length old)) end status
   pub out : new ≡ over_start output old
-  pub len : told ≡ length output
+  pub len : out_len ≡ length output
   pub within : length output ≤ length old
   pub source : end.source_faults ≡ 0
 
 -- That, or allocation failed before anything was read.
-abbrev pub Told : List (List ℕ) → List ℕ → List ℕ → List ℕ → ℕ → ℕ → Type 0
-Told words input old new told status = Ran words input old new told status ⊎ ((new ≡ old) × (told ≡ 0) × (status ≡ 6))
+abbrev pub RanOrMemory : List (List ℕ) → List ℕ → List ℕ → List ℕ → ℕ → ℕ → Type 0
+RanOrMemory words input old new out_len status = Ran words input old new out_len status ⊎ ((new ≡ old) × (out_len ≡ 0) × (status ≡ 6))
 
 -- The words are what stands between the spaces; bytes that aren't UTF-8 are no command.
-abbrev pub RunTold : List ℕ → List ℕ → List ℕ → List ℕ → ℕ → ℕ → Type 0
-RunTold words input old new told status =
-    (IsUtf8 words × Told (pieces space words) input old new told status)
-    ⊎ ((¬ (IsUtf8 words)) × (new ≡ old) × (told ≡ 0) × (status ≡ 2))
+abbrev pub RunAnswered : List ℕ → List ℕ → List ℕ → List ℕ → ℕ → ℕ → Type 0
+RunAnswered words input old new out_len status =
+    (IsUtf8 words × RanOrMemory (pieces space words) input old new out_len status)
+    ⊎ ((¬ (IsUtf8 words)) × (new ≡ old) × (out_len ≡ 0) × (status ≡ 2))
