@@ -24,6 +24,7 @@ pub mod PlainReferences
 pub mod AuthorityForm
 pub mod FormLaws
 pub mod SchemeForm
+pub mod SchemeRules
 pub mod CanonLaws
 pub mod HostLaws
 pub mod LengthLaws

@@ -22,7 +22,7 @@ after-dot d r h = past_dot (after 47) (λ x xs e. rw e refl) d r h
 two-kind : (t r : List ℕ) → Some r ≡ after_dot t → is_two_dots (before 47 t) ≡ is_all (cut_rest (after_dot r))
 two-kind t r h = ap is_one_dot_after (dot_cut t ∙ ap cut_rest (sym h)) ∙ ap is_all (dot_cut r)
 
-nothing-before : (xs : List ℕ) → is_empty xs ≡ true → [] ≡ xs
+pub nothing-before : (xs : List ℕ) → is_empty xs ≡ true → [] ≡ xs
 nothing-before [] h = refl
 nothing-before (x ∷ xs) h = cc
 

@@ -6,9 +6,10 @@ use Rattle.iri_normal.proofs.Common.{is_scheme, is_scheme_char, lacks, delimited
 use Rattle.iri_normal.proofs.Common.{recompose, scheme_text, starts_with_slash, starts_with_slashes, split_of, both, lacks-append}
 use Rattle.iri_normal.proofs.Common.{scheme-chars, normal_authority, pct, whole_triplets, pct_delimiter, whole_plain, fragment-whole}
 use Rattle.iri_normal.proofs.Common.{path-whole, query-whole, has_dot_segment, guard, lowered, where_there, canonical, normal_form}
-use Rattle.iri_normal.proofs.Common.{normal_path, IsPrefix, prefix_in, ends_at_slash, merge_prefix, target, target_path, Normal}
+use Rattle.iri_normal.proofs.Common.{eqb-true, absolute_fault, absolute-law, split_is, normal_nil, IsSome, normal_path, IsPrefix, prefix_in, ends_at_slash, merge_prefix, target, target_path, Normal}
+use Rattle.std.specs.Prelude.{IsNone}
 use Rattle.std.specs.Str.{IsAscii}
-use Rattle.std.proofs.lemmas.List.{map-append}
+use Rattle.std.proofs.lemmas.List.{map-append, nil_from_length}
 use Rattle.std.proofs.lemmas.Str.Ascii.{IsAscii-cons, IsAscii-nil}
 use Rattle.std.proofs.Math.Seq.{drop-append_seam}
 use Rattle.std.proofs.lemmas.Str.{IsAscii-append}
@@ -18,12 +19,14 @@ use Rattle.iri_grammar.proofs.SplitUnique.{scheme_char-below}
 use Rattle.iri_grammar.proofs.AuthorityTexts.{all_below}
 use Rattle.iri_grammar.proofs.LiteralChars.{all-join}
 use Rattle.iri_percent.specs.DelimiterLaws.{IsOutsideTriplets}
-use Rattle.iri_percent.proofs.PlainTexts.{pct-prefix, pct-delimited, plain-ascii, plain-lacks, plain_authority, small-lowered}
+use Rattle.iri_percent.proofs.PlainTexts.{pct-prefix, pct-same, pct-delimited, plain-ascii, plain-lacks, plain_authority, small-lowered}
 use Rattle.iri_percent.proofs.WholeLaws.{lacks-whole, whole-append}
-use Rattle.iri_normal.specs.inside.Unchanged.{EndsCanonical, IsLowered, KeepsPrefix, LacksTriplets, StandBefore, is_plain_prefix}
+use Rattle.iri_normal.specs.inside.Unchanged.{EndsCanonical, EndsParts, PutsPath, IsLowered, KeepsPrefix, LacksTriplets, StandBefore, is_plain_prefix}
 use Rattle.iri_normal.specs.inside.Unchanged.{lacks_triplets_and_dots}
 use Rattle.iri_normal.proofs.PieceLaws.{nothing-is_no_dot}
 use Rattle.iri_normal.proofs.PrefixLemmas.{prefix-form, rest, text-cut}
+use Rattle.iri_percent.specs.Triplets.{as_it_is}
+use Rattle.iri_normal.specs.Target.{or_base}
 use Rattle.iri_normal.proofs.SegmentLemmas.{dot_in_parts}
 use Rattle.iri_normal.proofs.StableLaws.{no_dots-same}
 use Rattle.iri_normal.proofs.TripletHeads.{pct-heads}
@@ -173,6 +176,101 @@ unchanged s base t prefix directory k f b n =
       bare = λ h. ap (lacks 37) (text-cut t) ∙ lacks-append 37 own (rest r) b.percent (rest-lacks r h);
     }
 
+-- so it is of each reference with these parts
+pub parts-unchanged : (s : Tests) (base : List ℕ) (r : Parts) (prefix directory : List ℕ) → IsSpec s → Fits s r
+    → StandBefore s (split_of base) r prefix directory (prefix_in s false r) → EndsParts s base r prefix directory
+parts-unchanged s base r prefix directory k f b t e n =
+    unchanged s base t prefix directory k (subst (Fits s) (sym e) f)
+    (subst (λ p. StandBefore s (split_of base) p prefix directory (prefix_in s false p)) (sym e) b) (ap (λ (p : Parts). has_dot_segment p.path) e ∙ n)
+
+-- ---- a reference that takes the base's path
+record TakesPath (s : Tests) (has_query : Bool) (r : Parts) : Type 0 where
+  fits : Fits s r
+  scheme : r.scheme ≡ None
+  authority : r.authority ≡ None
+  empty : [] ≡ r.path
+  query : has_query ≡ is_some r.query
+
+-- the query that it takes is the base's, or its own
+query-put : (s : Tests) (q base : Option (List ℕ)) → (is_some q ≡ false → if_there (lacks 37) base ≡ true)
+    → delimited 63 (where_there (pct s) (or_base q base)) ≡ cond (is_some q) [] (delimited 63 base) ++ delimited 63 (where_there (pct s) q)
+query-put s None None h = refl
+query-put s None (Some x) h = ap (λ y. 63 ∷ y) (pct-same s x (h refl)) ∙ sym (append-nil (63 ∷ x))
+query-put s (Some q) base h = refl
+
+-- its text is its query and its fragment
+own-text : (s : Tests) (t : List ℕ) → (split_of t).scheme ≡ None → (split_of t).authority ≡ None → rest (split_of t) ≡ t
+own-text s t h k = sym (text-cut t ∙ rw (h, k) refl)
+
+own-form : (s : Tests) (r : Parts) → [] ≡ r.path
+    → pct s (rest r) ≡ delimited 63 (where_there (pct s) r.query) ++ delimited 35 (where_there (pct s) r.fragment)
+own-form s r e =
+    let tail = delimited 63 (where_there (pct s) r.query) ++ delimited 35 (where_there (pct s) r.fragment) in
+    rest-form s r.path r.query r.fragment
+    ∙ (ap (λ p. pct s p ++ tail) (sym e) ∙ ap (λ p. p ++ tail) (normal_nil s as_it_is))
+
+takes-path : (s : Tests) (base t prefix directory : List ℕ) (has_query : Bool) → IsSpec s → TakesPath s has_query (split_of t)
+    → PutsPath s (split_of base) has_query prefix directory → EndsCanonical s base t prefix directory
+unfolding canonical normal_form target
+takes-path s base t prefix directory has_query k h p =
+    let b = split_of base in
+    let r = split_of t in
+    let u = target b r in
+    let q = delimited 63 (where_there (pct s) r.query) in
+    let f = delimited 35 (where_there (pct s) r.fragment) in
+    let stays = both (is_some b.authority) (lacks_triplets_and_dots b.path b.path) p.path_stays in
+    let plain = both (lacks 37 b.path) (not (has_dot_segment b.path)) stays.1 in
+    let own = own-text s t h.scheme h.authority in
+    let before : prefix_in s true u ≡ prefix = rw (h.scheme, h.authority) (sym p.prefix_stays.1) in
+    let path : normal_path s u.authority u.path ≡ b.path = rw (h.scheme, h.authority, sym h.empty)
+    (path-form s b.authority b.path k (not-true (has_dot_segment b.path) plain.1) (lacks-whole b.path plain.0) (rw stays.0 refl)
+    ∙ pct-same s b.path plain.0) in
+    let query : delimited 63 (where_there (pct s) u.query) ≡ cond (is_some r.query) [] (delimited 63 b.query) ++ q =
+    rw (h.scheme, h.authority, sym h.empty) (query-put s r.query b.query (λ e. p.query_stays (h.query ∙ e))) in
+    let fragment : delimited 35 (where_there (pct s) u.fragment) ≡ f = rw (h.scheme, h.authority) refl in
+    let text : directory ≡ b.path ++ cond (is_some r.query) [] (delimited 63 b.query) =
+    p.text ∙ ap (λ c. b.path ++ cond c [] (delimited 63 b.query)) h.query in
+    record {
+      text = sym (prefix-form s Normal false u (prefix_in s true u) refl refl)
+          ∙ (ap (λ x. x ++ (normal_path s u.authority u.path ++ (delimited 63 (where_there (pct s) u.query)
+          ++ delimited 35 (where_there (pct s) u.fragment)))) before
+          ∙ (ap (λ x. prefix ++ (x ++ (delimited 63 (where_there (pct s) u.query) ++ delimited 35 (where_there (pct s) u.fragment)))) path
+          ∙ (ap (λ x. prefix ++ (b.path ++ (x ++ delimited 35 (where_there (pct s) u.fragment)))) query
+          ∙ (ap (λ x. prefix ++ (b.path ++ ((cond (is_some r.query) [] (delimited 63 b.query) ++ q) ++ x))) fragment
+          ∙ (ap (λ x. prefix ++ (b.path ++ x)) (append_assoc (cond (is_some r.query) [] (delimited 63 b.query)) q f)
+          ∙ (ap (λ x. prefix ++ x) (sym (append_assoc b.path (cond (is_some r.query) [] (delimited 63 b.query)) (q ++ f)))
+          ∙ (ap (λ x. prefix ++ (x ++ (q ++ f))) (sym text)
+          ∙ (ap (λ x. prefix ++ (directory ++ x)) (sym (own-form s r h.empty))
+          ∙ ap (λ x. prefix ++ (directory ++ pct s x)) own))))))));
+      whole = ap whole_triplets (sym own) ∙ rest-whole s r k h.fits;
+      bare = λ l. ap (lacks 37) (sym own) ∙ rest-lacks r l;
+    }
+
+pub path-put : (s : Tests) (base : List ℕ) (r : Parts) (prefix directory : List ℕ) (has_query : Bool) → IsSpec s → Fits s r → r.scheme ≡ None
+    → r.authority ≡ None → [] ≡ r.path → has_query ≡ is_some r.query → PutsPath s (split_of base) has_query prefix directory
+    → EndsParts s base r prefix directory
+path-put s base r prefix directory has_query k f h a e q p t same n =
+    takes-path s base t prefix directory has_query k (subst (TakesPath s has_query) (sym same)
+    (record { fits = f; scheme = h; authority = a; empty = e; query = q })) p
+
+-- what follows the prefix of a base
+cut-rest : (a b c d : List ℕ) → a ≡ c → a ++ b ≡ c ++ d → b ≡ d
+cut-rest a b c d e h =
+    sym (drop-append_seam c b) ∙ (ap (λ x. drop (length c) (x ++ b)) (sym e) ∙ (ap (drop (length c)) h ∙ drop-append_seam c d))
+
+no_fragment : (o : Option (List ℕ)) → IsNone o → delimited 35 o ≡ []
+no_fragment None h = refl
+no_fragment (Some x) h = cc
+
+pub base-rest : (s : Tests) (t first second : List ℕ) → IsSpec s → absolute_fault s t ≡ None → t ≡ first ++ second
+    → first ≡ prefix_in s false (split_of t) → second ≡ (split_of t).path ++ delimited 63 (split_of t).query
+base-rest s t first second k h w e =
+    let b = split_of t in
+    let r = (absolute-law s k t).0 h in
+    let none = no_fragment b.fragment (subst (λ (p : Parts). IsNone p.fragment) (sym (split_is s t r.0 k r.1)) r.3) in
+    cut-rest first second (prefix_in s false b) (rest b) e (sym w ∙ text-cut t)
+    ∙ ap (λ x. b.path ++ x) (ap (λ x. delimited 63 b.query ++ x) none ∙ append-nil (delimited 63 b.query))
+
 -- ---- what stands before
 -- a reference with a scheme
 own-stands : (s : Tests) (b r : Parts) (x own : List ℕ) → r.scheme ≡ Some x → Fits s r → prefix_in s true r ≡ own
@@ -197,15 +295,18 @@ own-stands s b r x own e f p l =
     own-rules x None p h = h
 
 -- its own prefix stays
-pub own-before : (s : Tests) (b r : Parts) (x : List ℕ) → r.scheme ≡ Some x → Fits s r → KeepsPrefix s r
+own-before : (s : Tests) (b r : Parts) (x : List ℕ) → r.scheme ≡ Some x → Fits s r → KeepsPrefix s r
     → StandBefore s b r [] [] (prefix_in s false r)
 own-before s b r x e f p = own-stands s b r x (prefix_in s false r) e f p.0 p.1
 
--- its own prefix is put into lower case
-cut-rest : (a b c d : List ℕ) → a ≡ c → a ++ b ≡ c ++ d → b ≡ d
-cut-rest a b c d e h =
-    sym (drop-append_seam c b) ∙ (ap (λ x. drop (length c) (x ++ b)) (sym e) ∙ (ap (drop (length c)) h ∙ drop-append_seam c d))
+pub own-put : (s : Tests) (base : List ℕ) (r : Parts) → IsSpec s → Fits s r → IsSome r.scheme → KeepsPrefix s r → EndsParts s base r [] []
+own-put s base r k f h p = at r.scheme refl h
+  where
+    at : (o : Option (List ℕ)) → r.scheme ≡ o → IsSome o → EndsParts s base r [] []
+    at None e none = cc
+    at (Some x) e some = parts-unchanged s base r [] [] k f (own-before s (split_of base) r x e f p)
 
+-- its own prefix is put into lower case
 pub lowered-before : (s : Tests) (t first second x : List ℕ) → IsSpec s → Fits s (split_of t) → (split_of t).scheme ≡ Some x
     → if_there is_plain_authority (split_of t).authority ≡ true → has_dot_segment (split_of t).path ≡ false → t ≡ first ++ second
     → first ≡ prefix_in s false (split_of t) → length first ≤ 64 → IsLowered s t first second
@@ -278,6 +379,9 @@ merged-before s b r p f h k n st i m e plain =
     let both-of = both (is_some b.authority) (lacks_triplets_and_dots f f) plain in
     base-before s b r p f (record { scheme = h; authority = k; some = n }) i both-of.1 e
     (path-merged b r.path n st ∙ ap (λ x. x ++ r.path) (sym m)) (rw both-of.0 refl)
+
+pub nothing : (xs : List ℕ) → (length xs == 0) ≡ true → [] ≡ xs
+nothing xs h = sym (nil_from_length xs (eqb-true (length xs) 0 h))
 
 pub not-empty : (xs : List ℕ) → (length xs == 0) ≡ false → is_empty xs ≡ false
 not-empty [] h = cc

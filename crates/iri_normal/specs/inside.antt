@@ -8,3 +8,4 @@ pub mod NextDots
 pub mod Unchanged
 pub mod Kept
 pub mod PathForm
+pub mod SchemeRules

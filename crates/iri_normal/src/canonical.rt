@@ -69,10 +69,19 @@ pub fn show_canonical<'a, S: Spec, W: TextSink>(
     ensures { Shows W.puts W.halts W.stops sink.old
         (canonical S.tests (base_text resolver.now) (split_text reference.now)) sink.new result }
 {
-    show_canonical_in(sink, CanonMode::Default, resolver, reference)
+    if let Some(before) = resolver.before_unchanged(reference) {
+        let bare = lacks_triplets(reference.parts());
+        return show_after::<S, W>(sink, before, reference.view().as_str(), bare);
+    }
+    if let Some((prefix, rest)) = cut_lowered(reference) {
+        let bare = lacks_triplets(reference.parts());
+        return show_lowered::<S, W>(sink, prefix, rest, bare);
+    }
+    resolver.resolve_split(reference).and_normalize().show(sink)
 }
 
-/// The same by the rules of a mode.
+/// Shows the canonical text of a reference by the rules of a mode: those of every scheme, or the scheme's too (RFC 3986
+/// section 6.2.3).
 ///
 /// # Errors
 ///
@@ -98,15 +107,8 @@ pub fn show_canonical_in<'a, S: Spec, W: TextSink>(
     ensures { Shows W.puts W.halts W.stops sink.old
         (canonical_in S.tests mode (base_text resolver.now) (split_text reference.now)) sink.new result }
 {
-    if let CanonMode::Default = mode {
-        if let Some(before) = resolver.before_unchanged(reference) {
-            let bare = lacks_triplets(reference.parts());
-            return show_after::<S, W>(sink, before, reference.view().as_str(), bare);
-        }
-        if let Some((prefix, rest)) = cut_lowered(reference) {
-            let bare = lacks_triplets(reference.parts());
-            return show_lowered::<S, W>(sink, prefix, rest, bare);
-        }
+    if resolver.is_alike(mode, reference) {
+        return show_canonical(sink, resolver, reference);
     }
     resolver
         .resolve_split(reference)

@@ -51,6 +51,7 @@ mod path_writer;
 mod prefix;
 mod remove_dot_segments;
 pub mod resolver;
+mod scheme_rules;
 mod target;
 pub mod target_text;
 mod unchanged;

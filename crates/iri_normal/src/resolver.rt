@@ -1,24 +1,30 @@
 //! References against one base (RFC 3986 section 5.2).
-ghost use Rattle.std.specs.Prelude.{◌≡◌, ◌++◌, IfOk, IsSome, MatchOption, None, Some, false, true};
-ghost use Rattle.iri_grammar.specs.Parts.{Fits, Parts};
+ghost use Rattle.std.specs.Prelude.{◌≡◌, ◌++◌, ◌&&◌, ℕ, List, IfOk, IsSome, MatchOption, None, Some, false, true};
+ghost use Rattle.iri_grammar.specs.Characters.{percent_sign};
+ghost use Rattle.iri_grammar.specs.Components.{if_there};
+ghost use Rattle.iri_grammar.specs.Cut.{lacks};
+ghost use Rattle.iri_grammar.specs.Parts.{Fits, Parts, is_empty};
 ghost use Rattle.iri_grammar.specs.Split.{split_of};
 ghost use Rattle.iri_grammar.specs.Splitters.{parts};
 ghost use Rattle.iri_grammar.specs.OptionalSlices.{now_of};
 ghost use Rattle.iri_types.specs.SplitText.{split_text};
 ghost use Rattle.iri_types.specs.Texts.{text, text_of};
 ghost use Rattle.iri_normal.specs.Prefix.{IsPrefix, prefix_in};
-ghost use Rattle.iri_normal.specs.inside.Unchanged.{EndsCanonical, StandBefore, is_plain_prefix};
+ghost use Rattle.iri_normal.specs.NormalForm.{canonical, canonical_in};
+ghost use Rattle.iri_normal.specs.inside.SchemeRules.{StaysByScheme, ends_in_port};
+ghost use Rattle.iri_normal.specs.inside.Unchanged.{EndsCanonical, EndsParts, PutsPath, StandBefore, is_plain_prefix};
 ghost use Rattle.iri_normal.specs.Slices.{slices};
 ghost use Rattle.iri_normal.specs.Target.{ends_at_slash, merge_prefix, target, takes_base_path};
 ghost use Rattle.std.proofs.Props.{props};
 ghost use Rattle.iri_normal.specs.declared.mode.Mode.TheVariants.{Plain};
 
-use crate::mode::Mode;
+use crate::mode::{CanonMode, Mode};
 use crate::normalized::{Normalized, NormalizedText};
 use crate::owned_target::Target;
-use crate::prefix::normal_prefix;
+use crate::prefix::{cut_prefix, normal_prefix};
+use crate::scheme_rules::{keeps_port, stays_by_scheme};
 use crate::target::{TargetSlices, merge_prefix, starts_with_slash, takes_base_path, target};
-use crate::unchanged::{Before, keeps_prefix, lacks_triplets_and_dots};
+use crate::unchanged::{Before, keeps_path, keeps_prefix, keeps_query, lacks_triplets_and_dots};
 use iri_grammar::spec::Spec;
 use iri_grammar::splitter::Splitter;
 use iri_types::kind::{Absolute, Reference};
@@ -46,9 +52,34 @@ pub struct FixedBaseResolver<'a, S: Spec> {
     // Nothing in the prefix of relative paths changes.
     plain: bool,
     prefix: Option<&'a str>,
+    // The path stays as it is in normal form, and so does the query.
+    path_stays: bool,
+    query_stays: bool,
+    // No scheme's default port ends the authority.
+    keeps_port: bool,
     pub ghost prepared: { (directory.now ≡ merge_prefix (split_of (split_text base))) × (ends_at_slash directory.now ≡ true)
         × IsPrefix S.tests (split_of (split_text base)) (now_of prefix)
-        × (plain ≡ is_plain_prefix (split_of (split_text base)) directory.now) } by { Prim.hlevel props },
+        × (plain ≡ is_plain_prefix (split_of (split_text base)) directory.now)
+        × (path_stays ≡ true → is_plain_prefix (split_of (split_text base)) (split_of (split_text base)).path ≡ true)
+        × (query_stays ≡ true → if_there (lacks percent_sign) (split_of (split_text base)).query ≡ true)
+        × (keeps_port ≡ true → ends_in_port (split_of (split_text base)).authority ≡ false) } by { Prim.hlevel props },
+}
+
+// What comes before a reference with a scheme, of which nothing changes but its percent-encoded octets: nothing.
+fn own_before<'a, S: Spec>(reference: &Splitter<'_>) -> Option<Before<'a>>
+    requires fits { Fits S.tests (parts reference.now) }
+    requires scheme { IsSome (parts reference.now).scheme }
+    ensures { MatchOption result (Unit {0}) (λ b. (base : List ℕ) → EndsParts S.tests base (parts reference.now)
+        b.prefix.now b.directory.now) }
+{
+    if keeps_prefix::<S>(reference) {
+        Some(Before {
+            prefix: "",
+            directory: "",
+        })
+    } else {
+        None
+    }
 }
 
 impl<S: Spec> Clone for FixedBaseResolver<'_, S> {
@@ -97,6 +128,9 @@ impl<'a, S: Spec> FixedBaseResolver<'a, S> {
             directory,
             plain,
             prefix,
+            path_stays: keeps_path(&base),
+            query_stays: keeps_query(&base),
+            keeps_port: keeps_port(&base),
         }
     }
 
@@ -165,16 +199,14 @@ impl<'a, S: Spec> FixedBaseResolver<'a, S> {
         }
     }
 
-    // What the base puts before the path of a reference without dot segments that has neither scheme nor authority. An empty path is the base's.
-    fn base_before(&self, path: &str) -> Option<Before<'a>>
+    // What the base puts before a path that isn't empty and has no dot segments, of a reference with neither scheme nor authority.
+    fn before_path(&self, path: &str) -> Option<Before<'a>>
+        requires { is_empty path.now ≡ false }
         ensures { MatchOption result (Unit {0}) (λ b. (r : Parts) → r.path ≡ path.now → r.scheme ≡ None → r.authority ≡ None
             → Fits S.tests r → StandBefore S.tests (split_of (base_text self.now)) r b.prefix.now b.directory.now
             (prefix_in S.tests false r)) }
     {
         let prefix = self.prefix?;
-        if path.is_empty() {
-            return None;
-        }
         if starts_with_slash(path) {
             return Some(Before {
                 prefix,
@@ -189,19 +221,72 @@ impl<'a, S: Spec> FixedBaseResolver<'a, S> {
         }
     }
 
-    // The same for the parts of any such reference.
-    fn before(&self, reference: &Splitter<'_>) -> Option<Before<'a>>
+    // What the base puts before the query or the fragment of a reference that has nothing before them: its path, and its query where the
+    // reference has none.
+    fn before_query(&self, has_query: bool) -> Option<Before<'a>>
+        ensures { MatchOption result (Unit {0}) (λ b. PutsPath S.tests (split_of (base_text self.now)) has_query
+            b.prefix.now b.directory.now) }
+    {
+        let prefix = self.prefix?;
+        if !self.path_stays {
+            return None;
+        }
+        if has_query {
+            let directory = self.base.parts().path();
+            return Some(Before { prefix, directory });
+        }
+        if self.query_stays {
+            let (_, directory) = cut_prefix(&self.base);
+            Some(Before { prefix, directory })
+        } else {
+            None
+        }
+    }
+
+    // What the base puts before a reference with neither scheme nor authority, of which nothing changes but its percent-encoded octets.
+    fn base_before(&self, reference: &Splitter<'_>) -> Option<Before<'a>>
+        requires fits { Fits S.tests (parts reference.now) }
+        requires scheme { (parts reference.now).scheme ≡ None }
+        requires authority { (parts reference.now).authority ≡ None }
+        ensures { MatchOption result (Unit {0}) (λ b. EndsParts S.tests (base_text self.now) (parts reference.now)
+            b.prefix.now b.directory.now) }
+    {
+        let path = reference.path();
+        if path.is_empty() {
+            self.before_query(reference.query().is_some())
+        } else {
+            self.before_path(path)
+        }
+    }
+
+    // Whether a path and the base's are empty.
+    fn lacks_path(&self, path: &str) -> bool
+        ensures { result ≡ (is_empty path.now && is_empty (split_of (base_text self.now)).path) }
+    {
+        path.is_empty() && self.base.parts().path().is_empty()
+    }
+
+    // Whether scheme rules (RFC 3986 section 6.2.3) change nothing in the target of a reference. `false` says nothing.
+    fn stays_by_scheme(&self, reference: &Splitter<'_>) -> bool
         requires { Fits S.tests (parts reference.now) }
-        ensures { MatchOption result (Unit {0}) (λ b. StandBefore S.tests (split_of (base_text self.now)) (parts reference.now)
-            b.prefix.now b.directory.now (prefix_in S.tests false (parts reference.now))) }
+        ensures { result ≡ true → StaysByScheme (target (split_of (base_text self.now)) (parts reference.now)) }
     {
         match (reference.scheme(), reference.authority()) {
-            (Some(_), _) if keeps_prefix::<S>(reference) => Some(Before {
-                prefix: "",
-                directory: "",
-            }),
-            (None, None) => self.base_before(reference.path()),
-            _ => None,
+            (Some(_), authority) => stays_by_scheme(authority, reference.path()),
+            (None, None) => self.keeps_port && !self.lacks_path(reference.path()),
+            _ => false,
+        }
+    }
+
+    // Whether the canonical text of a reference is the same in a mode as by the rules of every scheme. `false` says nothing.
+    #[inline(always)]
+    pub(crate) fn is_alike(&self, mode: CanonMode, reference: &SplitView<'a, S, Reference>) -> bool
+        ensures { result ≡ true → canonical_in S.tests mode (base_text self.now) (split_text reference.now)
+            ≡ canonical S.tests (base_text self.now) (split_text reference.now) }
+    {
+        match mode {
+            CanonMode::Default => true,
+            CanonMode::Scheme => self.stays_by_scheme(reference.parts()),
         }
     }
 
@@ -216,9 +301,12 @@ impl<'a, S: Spec> FixedBaseResolver<'a, S> {
     {
         let parts = reference.parts();
         if parts.seen().dots {
-            None
-        } else {
-            self.before(parts)
+            return None;
+        }
+        match (parts.scheme(), parts.authority()) {
+            (Some(_), _) => own_before::<S>(parts),
+            (None, None) => self.base_before(parts),
+            _ => None,
         }
     }
 

@@ -1,13 +1,16 @@
 // References whose text ends their canonical text: nothing in them changes but their percent-encoded octets.
 ghost use Rattle.std.specs.Prelude.{◌≡◌, ◌≤◌, ◌++◌, length, true, MatchOption};
 ghost use Rattle.std.specs.Str.{IsAscii};
+ghost use Rattle.iri_grammar.specs.Components.{if_there};
 ghost use Rattle.iri_grammar.specs.Cut.{lacks};
 ghost use Rattle.iri_grammar.specs.Characters.{percent_sign};
 ghost use Rattle.iri_grammar.specs.Parts.{Fits};
+ghost use Rattle.iri_grammar.specs.Split.{split_of};
 ghost use Rattle.iri_grammar.specs.Splitters.{parts};
 ghost use Rattle.iri_percent.specs.Triplets.{pct};
 ghost use Rattle.iri_percent.specs.Units.{whole_triplets};
-ghost use Rattle.iri_normal.specs.inside.Unchanged.{IsLowered, KeepsPrefix, LacksTriplets, lacks_triplets_and_dots};
+ghost use Rattle.iri_normal.specs.inside.Unchanged.{IsLowered, KeepsPrefix, LacksTriplets, is_plain_prefix};
+ghost use Rattle.iri_normal.specs.inside.Unchanged.{lacks_triplets_and_dots};
 ghost use Rattle.iri_normal.specs.LowerCase.{lowered};
 ghost use Rattle.iri_types.specs.SplitText.{split_text};
 ghost use Rattle.iri_text.specs.Shown.{Shows};
@@ -19,7 +22,7 @@ use iri_grammar::spec::Spec;
 use iri_grammar::splitter::Splitter;
 use iri_percent::PctCaseNormalized;
 use iri_text::{Show, Stop, TextSink};
-use iri_types::kind::Reference;
+use iri_types::kind::{Absolute, Reference};
 use iri_types::split::SplitView;
 
 // What comes before such a reference: the prefix of the base and the path that relative ones are put after, or nothing.
@@ -51,6 +54,22 @@ pub(crate) fn keeps_prefix<S: Spec>(reference: &Splitter<'_>) -> bool
 {
     let seen = reference.seen();
     !(seen.capitals | seen.other_authority)
+}
+
+// Whether the path of a base beside an authority stays as it is. Others may too.
+pub(crate) fn keeps_path<S: Spec>(base: &SplitView<'_, S, Absolute>) -> bool
+    ensures { result ≡ true → is_plain_prefix (split_of (split_text base.now)) (split_of (split_text base.now)).path ≡ true }
+{
+    let parts = base.parts();
+    let seen = parts.seen();
+    parts.authority().is_some() && !(seen.dots | seen.path_triplets)
+}
+
+// Whether the query of a base has no percent-encoded octet, or there is none.
+pub(crate) fn keeps_query<S: Spec>(base: &SplitView<'_, S, Absolute>) -> bool
+    ensures { result ≡ true → if_there (lacks percent_sign) (split_of (split_text base.now)).query ≡ true }
+{
+    !base.parts().seen().query_triplets
 }
 
 // A text, where it isn't empty.

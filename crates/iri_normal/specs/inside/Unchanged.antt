@@ -1,10 +1,10 @@
 -- References that end their canonical text as they stand.
-use Rattle.std.specs.Prelude.{◌≡◌, ℕ, ◌≤◌, Bool, true, false, not, ◌&&◌, ◌||◌, List, ◌++◌, is_some, length}
+use Rattle.std.specs.Prelude.{◌≡◌, ℕ, ◌≤◌, Bool, true, false, cond, not, ◌&&◌, ◌||◌, List, [], ◌++◌, Some, is_some, length}
 use Rattle.std.specs.Str.{IsAscii}
-use Rattle.iri_grammar.specs.Characters.{percent_sign}
+use Rattle.iri_grammar.specs.Characters.{percent_sign, question_mark}
 use Rattle.iri_grammar.specs.Classes.{Tests}
 use Rattle.iri_grammar.specs.Components.{if_there}
-use Rattle.iri_grammar.specs.Cut.{lacks}
+use Rattle.iri_grammar.specs.Cut.{delimited, lacks}
 use Rattle.iri_grammar.specs.Parts.{Parts, starts_with_slashes}
 use Rattle.iri_normal.specs.Dots.{has_dot_segment}
 use Rattle.iri_grammar.specs.Split.{split_of}
@@ -12,7 +12,7 @@ use Rattle.iri_percent.specs.Triplets.{pct}
 use Rattle.iri_percent.specs.Units.{whole_triplets}
 use Rattle.iri_normal.specs.LowerCase.{lowered}
 use Rattle.iri_normal.specs.NormalForm.{canonical}
-use Rattle.iri_normal.specs.Prefix.{prefix_in}
+use Rattle.iri_normal.specs.Prefix.{IsPrefix, prefix_in}
 use Rattle.iri_normal.specs.Target.{ends_at_slash, target}
 
 -- the text has no triplet, and the path no dot segment
@@ -49,6 +49,18 @@ pub record EndsCanonical (s : Tests) (base reference prefix directory : List ℕ
   pub text : canonical s base reference ≡ prefix ++ (directory ++ pct s reference)
   pub whole : whole_triplets reference ≡ true
   pub bare : LacksTriplets (split_of reference) → lacks percent_sign reference ≡ true
+
+-- so it is of any reference with these parts and no dot segment
+abbrev pub EndsParts : Tests → List ℕ → Parts → List ℕ → List ℕ → Type 0
+EndsParts s base r prefix directory = (t : List ℕ) → split_of t ≡ r → has_dot_segment r.path ≡ false → EndsCanonical s base t prefix directory
+
+-- before the query of a reference, or where it has none before its fragment, the base puts what stays as it is: its prefix, and its path
+-- with the query that the reference takes
+pub record PutsPath (s : Tests) (base : Parts) (has_query : Bool) (prefix directory : List ℕ) : Type 0 where
+  pub prefix_stays : IsPrefix s base (Some prefix)
+  pub path_stays : is_plain_prefix base base.path ≡ true
+  pub query_stays : has_query ≡ false → if_there (lacks percent_sign) base.query ≡ true
+  pub text : directory ≡ base.path ++ cond has_query [] (delimited question_mark base.query)
 
 -- the canonical text, against any base, is the first piece of the reference in lower case, and the second with its triplets in normal form
 pub record IsLowered (s : Tests) (reference first second : List ℕ) : Type 0 where

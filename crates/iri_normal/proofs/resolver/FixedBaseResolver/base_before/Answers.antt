@@ -1,22 +1,29 @@
-use Rattle.iri_normal.proofs.Common.{◌∙◌, ap, sym, subst, is_empty, starts_with_slash, now_of, split_of, IsPrefix, base_text}
-use Rattle.iri_normal.proofs.PlainReferences.{not-empty, rooted-before, merged-before}
+use Rattle.std.proofs.Common.{rules}
+use Rattle.iri_normal.proofs.Common.{◌≡◌, ◌∙◌, sym, false, is_some, None, Parts, Fits, parts, split_of, prefix_in, base_text}
+use Rattle.iri_normal.specs.declared.unchanged.Before.{Before}
+use Rattle.iri_normal.specs.inside.Unchanged.{EndsParts, PutsPath, StandBefore}
+use Rattle.iri_normal.proofs.PlainReferences.{matched, nothing, parts-unchanged, path-put}
 use Rattle.iri_normal.proofs.resolver.FixedBaseResolver.base_before.Goals as goal
 
-pub returns-then-starts_with_slash : goal.returns-then-starts_with_slash
-returns-then-starts_with_slash g c r path scheme authority fits =
+pub returns-then-is_empty : goal.returns-then-is_empty
+returns-then-is_empty g c =
     let s = g.S.Spec.tests in
-    let b = split_of (base_text c.args.self.now) in
-    rooted-before s b r c.in_ok-prefix.prefix.now scheme authority
-    (ap is_empty path ∙ not-empty c.args.path.now (sym c.if-is_empty.ensures))
-    (ap starts_with_slash path ∙ sym c.starts_with_slash.ensures ∙ c.if-starts_with_slash.true) fits
-    (subst (λ o. IsPrefix s b (now_of o)) c.in_ok-prefix.was c.args.self.now.prepared.2)
+    let base = base_text c.args.self.now in
+    let r = parts c.args.reference.now in
+    let query : c.is_some.result ≡ is_some r.query = search rules in
+    matched c.before_query.result (λ (b : Before). PutsPath s (split_of base) c.is_some.result b.prefix.now b.directory.now)
+    (λ (b : Before). EndsParts s base r b.prefix.now b.directory.now)
+    (λ b h. path-put s base r b.prefix.now b.directory.now c.is_some.result g.met.S.Spec.lawful c.requires.fits c.requires.scheme
+    c.requires.authority (nothing c.path-path.result.now (sym c.if-is_empty.ensures) ∙ c.path-path.ensures) query h) c.before_query.ensures
 
-pub returns-then-self : goal.returns-then-self
-returns-then-self g c r path scheme authority fits =
+pub returns-else-is_empty : goal.returns-else-is_empty
+returns-else-is_empty g c =
     let s = g.S.Spec.tests in
-    let b = split_of (base_text c.args.self.now) in
-    let base = c.args.self.now.prepared in
-    merged-before s b r c.in_ok-prefix.prefix.now c.args.self.now.directory.now scheme authority
-    (ap is_empty path ∙ not-empty c.args.path.now (sym c.if-is_empty.ensures))
-    (ap starts_with_slash path ∙ sym c.if-starts_with_slash.ensures)
-    (subst (λ o. IsPrefix s b (now_of o)) c.in_ok-prefix.was base.2) base.0 base.1 (sym base.3 ∙ c.if-self.true)
+    let base = base_text c.args.self.now in
+    let r = parts c.args.reference.now in
+    matched c.before_path.result
+    (λ (b : Before). (p : Parts) → p.path ≡ c.path-path.result.now → p.scheme ≡ None → p.authority ≡ None → Fits s p
+    → StandBefore s (split_of base) p b.prefix.now b.directory.now (prefix_in s false p))
+    (λ (b : Before). EndsParts s base r b.prefix.now b.directory.now)
+    (λ b h. parts-unchanged s base r b.prefix.now b.directory.now g.met.S.Spec.lawful c.requires.fits
+    (h r (sym c.path-path.ensures) c.requires.scheme c.requires.authority c.requires.fits)) c.before_path.ensures
