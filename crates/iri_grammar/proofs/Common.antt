@@ -25,8 +25,7 @@ unfoldable pub use Rattle.iri_grammar.specs.Classes.{is_ascii_unreserved, is_sub
 unfoldable pub use Rattle.iri_grammar.specs.Classes.{is_ascii_any, is_gen_delim, path_char, query_char, fragment_char}
 pub use Rattle.iri_grammar.specs.Components.{is_userinfo, is_port, if_there, is_scheme, is_query, is_fragment}
 unfoldable pub use Rattle.iri_grammar.specs.Components.{is_letter, is_scheme_char}
-pub use Rattle.iri_grammar.specs.Cut.{before, after, lacks, delimited, from, begins, tail}
-pub use Rattle.iri_grammar.specs.Delimiters.{before_any, from_any}
+pub use Rattle.iri_grammar.specs.Cut.{before, after, lacks, delimited, from, begins, tail, before_any, from_any}
 pub use Rattle.iri_grammar.specs.Fault.{first, unless, part_fault, authority_fault, query_fault, fragment_fault, bytes_fault, Answers}
 pub use Rattle.iri_grammar.specs.Host.{is_host, is_reg_name}
 pub use Rattle.iri_grammar.specs.IpLiteral.{is_end, is_ip_literal, is_ipvfuture}

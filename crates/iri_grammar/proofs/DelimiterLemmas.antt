@@ -10,7 +10,8 @@ use Rattle.memchr.specs.Find.{is_byte3, IsFirstByte}
 use Rattle.iri_grammar.proofs.SplitUnique.{scheme_char-below}
 use Rattle.iri_grammar.proofs.CutLaws.{both, and_three, test_apart}
 use Rattle.iri_grammar.proofs.SplitLaws.{letter-is_scheme_char, colon_ends}
-use Rattle.iri_grammar.specs.inside.Delimiters.{NoScheme, AuthorityEndAt, NoAuthorityEnd}
+use Rattle.iri_grammar.specs.inside.Delimiters.{NoScheme, EndsAuthority}
+use Rattle.std.proofs.lemmas.List.{drop_all, take_all}
 use Rattle.iri_grammar.proofs.AuthorityTexts.{all_below}
 
 -- ---- the scheme
@@ -150,11 +151,18 @@ none-any p (x ∷ xs) n =
 
 -- what `memchr3` says, in these words
 pub authority_end : (bs : List ℕ) (r : Option ℕ) → IsFirstByte (is_byte3 47 63 35) bs r
-    → MatchOption r (NoAuthorityEnd bs) (λ k. AuthorityEndAt bs k)
-authority_end bs None h = let n = none-any ends_authority bs (λ j b. h j (omega arith) b) in record { prefix = n.0; rest = n.1 }
+    → MatchOption r (EndsAuthority bs (length bs)) (λ k. EndsAuthority bs k)
+authority_end bs None h =
+    let n = none-any ends_authority bs (λ j b. h j (omega arith) b) in
+    record {
+      within = omega arith;
+      ascii = λ l. absurd (omega (arith, l));
+      prefix = take_all (length bs) bs (omega arith) ∙ n.0;
+      rest = drop_all (length bs) bs (omega arith) ∙ n.1;
+    }
 authority_end bs (Some k) h =
     let f = prefix-any ends_authority bs k h.0.high (λ j b. h.0.before j (omega arith) b) h.1 in
-    record { inside = h.0.high; ascii = below_three (slice_index bs k) h.1; prefix = f.0; rest = f.1 }
+    record { within = omega (arith, h.0.high); ascii = λ _. below_three (slice_index bs k) h.1; prefix = f.0; rest = f.1 }
   where
     below_three : (x : ℕ) → (x == 47 || x == 63 || x == 35) ≡ true → x < 128
     below_three x e = grind (arith, nat_tests)

@@ -81,36 +81,35 @@ at_fragment None true = refl
 at_fragment None false = refl
 at_fragment (Some e) c = refl
 
+path-lacks : (s : Tests) → IsSpec s → (x : List ℕ) → text_over (path_char s) x ≡ true → (lacks 35 x ≡ true) × (lacks 63 x ≡ true)
+path-lacks s k x h =
+    let apart = path_apart s k in
+    (over_text-lacks (path_char s) 35 x (omega arith) apart.0 refl refl h, over_text-lacks (path_char s) 63 x (omega arith) apart.1 refl refl h)
+
 tail-fault : (s : Tests) → IsSpec s → (sch a : Option (List ℕ)) (t x : List ℕ) (q f : Option (List ℕ)) (r : List ℕ)
     → t ≡ x ++ (delimited 63 q ++ (delimited 35 f ++ r)) → AreOver s x q f → TailStops s q f r → is_empty r ≡ false
     → parts_fault s (fragment_fault s) (tail (hier_of t) sch a (after 63 (before 35 t)) (after 35 t)) ≡ stop_fault s (tail x sch a q f)
 unfolding parts_fault fault_before_fragment
 tail-fault s k sch a t x q (Some f) r e h stops some =
-    let apart = path_apart s k in
-    let hash = over_text-lacks (path_char s) 35 x (omega arith) apart.0 refl refl h.0 in
-    let delimiter = over_text-lacks (path_char s) 63 x (omega arith) apart.1 refl refl h.0 in
-    let is = tail-is t x q (Some (f ++ r)) e hash delimiter (queries-lack s q k h.1) in
+    let lacking = path-lacks s k x h.0 in
+    let is = tail-is t x q (Some (f ++ r)) e lacking.0 lacking.1 (queries-lack s q k h.1) in
     let fails : text_over (fragment_char s) (f ++ r) ≡ false =
     stops-over (fragment_char s) f r [] h.2 some (subst (HasNoUnit (fragment_char s)) (sym (append-nil r)) stops.fragment) in
     rw (is.path, is.query, is.fragment, h.0, part-no_fault (is_query s) InvalidQuery q h.1, fails)
     (at_fragment (part_fault (authority_fault s) a) (colon_allowed (tail x sch a q (Some f))))
 tail-fault s k sch a t x (Some q) None r e h stops some =
-    let apart = path_apart s k in
-    let hash = over_text-lacks (path_char s) 35 x (omega arith) apart.0 refl refl h.0 in
-    let delimiter = over_text-lacks (path_char s) 63 x (omega arith) apart.1 refl refl h.0 in
+    let lacking = path-lacks s k x h.0 in
     let y = before 35 r in
     let z = delimited 35 (after 35 r) in
     let whole = e ∙ (ap (λ l. x ++ 63 ∷ (q ++ l)) (sym (joined 35 r)) ∙ ap (λ l. x ++ 63 ∷ l) (sym (append_assoc q y z))) in
-    let is = tail-is t x (Some (q ++ y)) (after 35 r) whole hash delimiter (lacks-append 35 q y (queries-lack s (Some q) k h.1) (before-lacks 35 r)) in
+    let is = tail-is t x (Some (q ++ y)) (after 35 r) whole lacking.0 lacking.1 (lacks-append 35 q y (queries-lack s (Some q) k h.1) (before-lacks 35 r)) in
     let fails : text_over (query_char s) (q ++ y) ≡ false =
     stops-over (query_char s) q y z h.1 (hash-some r stops.fragment some) (subst (HasNoUnit (query_char s)) (sym (joined 35 r)) stops.query) in
     rw (is.path, is.query, is.fragment, h.0, fails)
     (at_query (part_fault (authority_fault s) a) (part_fault (fragment_fault s) (after 35 r)) (colon_allowed (tail x sch a (Some q) None)))
 tail-fault s k sch a t x None None r e h stops some =
-    let apart = path_apart s k in
-    let hash = over_text-lacks (path_char s) 35 x (omega arith) apart.0 refl refl h.0 in
-    let delimiter = over_text-lacks (path_char s) 63 x (omega arith) apart.1 refl refl h.0 in
-    let path : hier_of t ≡ x ++ hier_of r = ap hier_of e ∙ (ap (before 63) (before-past 35 x r hash) ∙ before-past 63 x (before 35 r) delimiter) in
+    let lacking = path-lacks s k x h.0 in
+    let path : hier_of t ≡ x ++ hier_of r = ap hier_of e ∙ (ap (before 63) (before-past 35 x r lacking.0) ∙ before-past 63 x (before 35 r) lacking.1) in
     let fails : text_over (path_char s) (x ++ hier_of r) ≡ false =
     stops-over (path_char s) x (hier_of r) _ h.0 (hier-some r stops.query stops.fragment some)
     (subst (HasNoUnit (path_char s)) (sym (hier-joined r)) stops.path) in
@@ -131,7 +130,7 @@ scanned s k sch t a r p authority rest same scan =
     let f = now_of p.fragment in
     let x = p.path.now in
     let h = scan.over in
-    let apart = path_apart s k in
+    let lacking = path-lacks s k x h.0 in
     let whole = past sch t r a authority rest in
     record {
       text = same ∙ (ap is_utf8 scan.whole ∙ tail-text s x q f p.rest.now h);
@@ -139,8 +138,7 @@ scanned s k sch t a r p authority rest same scan =
       whole = λ none.
           let all = scan.whole ∙ (ap (λ l. x ++ (delimited 63 q ++ (delimited 35 f ++ l))) none
           ∙ ap (λ l. x ++ (delimited 63 q ++ l)) (append-nil (delimited 35 f))) in
-          let is = tail-is r x q f all (over_text-lacks (path_char s) 35 x (omega arith) apart.0 refl refl h.0)
-          (over_text-lacks (path_char s) 63 x (omega arith) apart.1 refl refl h.0) (queries-lack s q k h.1) in
+          let is = tail-is r x q f all lacking.0 lacking.1 (queries-lack s q k h.1) in
           sym (whole ∙ rw (is.path, is.query, is.fragment) refl);
       fault = λ u some.
           ap (parts_fault s (fragment_fault s)) whole ∙ tail-fault s k sch a r x q f p.rest.now scan.whole h

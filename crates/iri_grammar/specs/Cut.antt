@@ -17,6 +17,16 @@ abbrev pub after : ℕ → List ℕ → Option (List ℕ)
 after c [] = None
 after c (x ∷ xs) = cond (x == c) (Some xs) (after c xs)
 
+-- what stands before the first byte that passes the test, or all
+abbrev pub before_any : (ℕ → Bool) → List ℕ → List ℕ
+before_any p [] = []
+before_any p (x ∷ xs) = cond (p x) [] (x ∷ before_any p xs)
+
+-- the rest from it on, or nothing
+abbrev pub from_any : (ℕ → Bool) → List ℕ → List ℕ
+from_any p [] = []
+from_any p (x ∷ xs) = cond (p x) (x ∷ xs) (from_any p xs)
+
 -- what follows the first byte
 abbrev pub tail : List ℕ → List ℕ
 tail [] = []

@@ -24,5 +24,4 @@ pub mod WholeFault
 pub mod Seen
 pub mod Splitters
 pub mod Examples
-pub mod Delimiters
 pub mod inside

@@ -1,13 +1,13 @@
 //! The split of a reference into its five parts (RFC 3986 section 3).
-ghost use Rattle.std.specs.Prelude.{◌≡◌, ◌∷◌, None, Some, IfOk, MatchOption, false, true};
+ghost use Rattle.std.specs.Prelude.{◌≡◌, ◌∷◌, None, Some, IfOk, MatchOption, false, length, true};
 ghost use Rattle.std.specs.List.{list_all};
 ghost use Rattle.std.specs.Str.{is_utf8};
 ghost use Rattle.iri_grammar.specs.Characters.{slash};
 ghost use Rattle.iri_grammar.specs.Components.{if_there, is_scheme, is_scheme_char};
 ghost use Rattle.iri_grammar.specs.Fault.{Answers, bytes_fault};
-ghost use Rattle.iri_grammar.specs.Delimiters.{before_any, from_any};
-ghost use Rattle.iri_grammar.specs.inside.Delimiters.{ends_scheme, SchemeAt, NoScheme, ends_authority, AuthorityEndAt, EndsAuthority};
-ghost use Rattle.iri_grammar.specs.inside.Delimiters.{NoAuthorityEnd, IsPastAuthority, ends_at_start};
+ghost use Rattle.iri_grammar.specs.Cut.{before_any, from_any};
+ghost use Rattle.iri_grammar.specs.inside.Delimiters.{ends_scheme, SchemeAt, NoScheme, ends_authority, EndsAuthority};
+ghost use Rattle.iri_grammar.specs.inside.Delimiters.{IsPastAuthority, ends_at_start};
 ghost use Rattle.iri_grammar.specs.inside.Scans.{fault_after, stop_fault};
 ghost use Rattle.iri_grammar.specs.inside.AuthorityCuts.{KeepsAuthorityNotes};
 ghost use Rattle.iri_grammar.specs.Parts.{Splits, starts_with_slashes};
@@ -161,10 +161,10 @@ fn cut_scheme(s: &[u8]) -> (Option<&str>, &[u8])
     }
 }
 
-// Where the first `/`, `?` or `#` is.
+// Where the first `/`, `?` or `#` is, which ends an authority.
 #[tactic(auto, using(crate::proofs::DelimiterLemmas::authority_end))]
 fn authority_end(bytes: &[u8]) -> Option<usize>
-    ensures { MatchOption result (NoAuthorityEnd bytes.now) (λ k. AuthorityEndAt bytes.now k) }
+    ensures { MatchOption result (EndsAuthority bytes.now (length bytes.now)) (λ k. EndsAuthority bytes.now k) }
 {
     memchr3(b'/', b'?', b'#', bytes)
 }

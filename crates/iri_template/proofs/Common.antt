@@ -20,8 +20,7 @@ pub use Rattle.iri_grammar.proofs.Delimiters.{text_after}
 pub use Rattle.iri_grammar.specs.Classes.{Tests, unreserved}
 unfoldable pub use Rattle.iri_grammar.specs.Classes.{any_char, is_ascii_any, is_ucschar, is_ucschar_plane, is_iprivate, is_ascii_reg_name}
 unfoldable pub use Rattle.iri_grammar.specs.Classes.{is_ascii_unreserved, is_sub_delim, is_gen_delim}
-pub use Rattle.iri_grammar.specs.Cut.{before, after, lacks, delimited}
-pub use Rattle.iri_grammar.specs.Delimiters.{before_any, from_any}
+pub use Rattle.iri_grammar.specs.Cut.{before, after, lacks, delimited, before_any, from_any}
 pub use Rattle.iri_grammar.specs.OptionalSlices.{now_of}
 pub use Rattle.iri_grammar.specs.Over.{over}
 unfoldable pub use Rattle.iri_grammar.specs.Over.{over_from}

@@ -4,8 +4,7 @@ use Rattle.std.specs.Prelude.{Result, MatchResult}
 use Rattle.std.specs.Char.{is_ascii_digit, is_ascii_hexdigit}
 use Rattle.std.specs.Str.{is_utf8}
 use Rattle.std.specs.Str.Lossy.{utf8_valid_len}
-use Rattle.iri_grammar.specs.Cut.{tail, lacks}
-use Rattle.iri_grammar.specs.Delimiters.{from_any}
+use Rattle.iri_grammar.specs.Cut.{tail, lacks, from_any}
 use Rattle.iri_grammar.specs.Pieces.{pieces}
 use Rattle.iri_grammar.specs.Runs.{run_of}
 use Rattle.std.specs.Str.{chars}

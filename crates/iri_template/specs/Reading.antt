@@ -2,8 +2,7 @@
 use Rattle.std.specs.Prelude.{ℕ, zero, suc, ◌+◌, ◌-◌, Bool, cond, ◌||◌, ◌==◌, List, [], ◌∷◌, map, length, drop}
 use Rattle.std.specs.Char.{len_utf8}
 use Rattle.std.specs.Str.{chars}
-use Rattle.iri_grammar.specs.Cut.{before, tail}
-use Rattle.iri_grammar.specs.Delimiters.{before_any, from_any}
+use Rattle.iri_grammar.specs.Cut.{before, tail, before_any, from_any}
 use Rattle.iri_grammar.specs.Pieces.{pieces}
 use Rattle.iri_template.specs.Template.{Modifier, whole, explode, prefix, VarSpec, Piece, literal, triplet, expression, operator_text}
 use Rattle.iri_template.specs.declared.operator.Operator.{Operator}

@@ -1,8 +1,7 @@
 //! Varspecs: a variable's name and a modifier (RFC 6570 sections 2.3 and 2.4).
 ghost use Rattle.std.specs.Prelude.{◌≡◌, ◌≤◌, ◌<◌, ◌+◌, ◌^◌, true, length, slice_index, take, drop, MatchResult, IfOk};
 ghost use Rattle.std.specs.Prelude.{Some, None};
-ghost use Rattle.iri_grammar.specs.Cut.{before, after};
-ghost use Rattle.iri_grammar.specs.Delimiters.{from_any};
+ghost use Rattle.iri_grammar.specs.Cut.{before, after, from_any};
 ghost use Rattle.iri_grammar.specs.OptionalSlices.{now_of};
 ghost use Rattle.iri_template.specs.Reading.{ends_name, name_of, modifier_of, varspec_of};
 ghost use Rattle.iri_template.specs.Fault.{Answers, moved, max_length_fault, modifier_fault, varspec_fault};

@@ -3,9 +3,8 @@ use Rattle.std.specs.Prelude.{◌≡◌, ℕ, ◌+◌, ◌<◌, ◌≤◌, Bool,
 use Rattle.std.specs.Prelude.{slice_index}
 use Rattle.std.specs.Char.{is_ascii_alphabetic}
 use Rattle.std.specs.Str.{IsUtf8}
-use Rattle.iri_grammar.specs.Cut.{before, after}
+use Rattle.iri_grammar.specs.Cut.{before, after, before_any, from_any}
 use Rattle.iri_grammar.specs.Split.{scheme_of, after_scheme, path_of, hier_of}
-use Rattle.iri_grammar.specs.Delimiters.{before_any, from_any}
 
 -- ---- the scheme
 -- at k stands a colon, and the text begins with a letter
@@ -34,18 +33,6 @@ ends_authority x = x == 47 || x == 63 || x == 35
 abbrev pub ends_at_start : List ℕ → Bool
 ends_at_start [] = true
 ends_at_start (x ∷ xs) = ends_authority x
-
--- the first such delimiter stands at k
-pub record AuthorityEndAt (bs : List ℕ) (k : ℕ) : Type 0 where
-  pub inside : k < length bs
-  pub ascii : slice_index bs k < 128
-  pub prefix : take k bs ≡ before_any ends_authority bs
-  pub rest : drop k bs ≡ from_any ends_authority bs
-
--- none stands in the text
-pub record NoAuthorityEnd (bs : List ℕ) : Type 0 where
-  pub prefix : bs ≡ before_any ends_authority bs
-  pub rest : [] ≡ from_any ends_authority bs
 
 -- its first k bytes are what stands before one, or all
 pub record EndsAuthority (bs : List ℕ) (k : ℕ) : Type 0 where
