@@ -123,8 +123,8 @@ invariant_of-self-in-Err g c =
     let wide : vec_capacity s.buf ≤ vec_capacity c.fill.new.buf = omega (arith, c.fill.ensures.capacity, c.make_room-self-inside.ensures.capacity) in
     kept_sound buf s.buf.items s.ended i.fresh.1 r s.start s.end k s.lf s.line_start s.line_end s.taken s.line_limit s.input_limit kept len wide i.sound refl (omega (arith, c.make_room-self-inside.ensures.room, c.fill.ensures.len)) in_limit
 
-pub returns-in-Err-clause-advances : goal.returns-in-Err-clause-advances
-returns-in-Err-clause-advances g c =
+pub returns-in-Err : goal.returns-in-Err
+returns-in-Err g c =
     let s = c.loop-i.self-inside in
     let i = c.loop-i.invariant in
     let e = c.deref.ensures.value in
@@ -147,12 +147,15 @@ returns-in-Err-clause-advances g c =
     } in
     let moved = more c.args.self.now (line_state s) now _ _ _ [] i.so_far p.2 c.in-Err.ensures.nothing (kept ∙ sym (append-nil _))
     (omega arith) refl refl in
-    answers c.args.self.now now now _ _ _ _ (Err Source) moved (omega (arith, ap length kept, few i.sound))
-    (omega (arith, i.faults, c.fill.ensures.later)) (omega (arith, i.faults, c.in-Err.ensures.cause)) refl refl refl refl i.fresh.0
-    (refl, subst NoLf (sym kept) p.2, omega (arith, ap length kept, p.0, p.1), in_limit)
+    record {
+      needed = record { now = _; calls = OneMore _ _ _ _ i.needed p.2 c.fill.ensures.call c.in-Err.ensures.nothing };
+      advances = answers c.args.self.now now now _ _ _ _ (Err Source) moved (omega (arith, ap length kept, few i.sound))
+          (omega (arith, i.faults, c.fill.ensures.later)) (omega (arith, i.faults, c.in-Err.ensures.cause)) refl refl refl refl i.fresh.0
+          (refl, subst NoLf (sym kept) p.2, omega (arith, ap length kept, p.0, p.1), in_limit);
+    }
 
-pub returns-in-Ok-eq0-2-clause-advances : goal.returns-in-Ok-eq0-2-clause-advances
-returns-in-Ok-eq0-2-clause-advances g c =
+pub returns-in-Ok-eq0-2 : goal.returns-in-Ok-eq0-2
+returns-in-Ok-eq0-2 g c =
     let s = c.loop-i.self-inside in
     let i = c.loop-i.invariant in
     let e = c.deref.ensures.value in
@@ -174,34 +177,27 @@ returns-in-Ok-eq0-2-clause-advances g c =
     let len : length (slice_range buf r (r + k)) ≡ k = ap length kept ∙ length-part s.buf.items s.start s.end i.sound.end_in in
     let moved = more c.args.self.now (line_state s) (line_state s) _ _ _ [] i.so_far p.2 came (sym (append-nil _))
     (omega arith) refl refl in
-    answers c.args.self.now (line_state s) _ _ _ _ _ (Ok true) moved (few i.sound)
-    (omega (arith, i.faults, c.fill.ensures.later)) tt refl refl refl refl i.fresh.0
-    (record {
-      raw = held;
-      whole = p.2;
-      short = omega (arith, p.0, p.1);
-      line = part-prefix buf r (r + k) c.line_len-in-Ok-eq0-2.result (omega (arith, q.within, len)) ∙ q.line ∙ ap no_cr kept;
-      within = omega (arith, in_limit);
-      rest = inr (
-        refl,
-        (λ is. c.if-len-eq0.false (omega (arith, ap length is, length-part s.buf.items s.start s.end i.sound.end_in))),
-        empty-part buf (r + k) (r + k) (omega arith),
-        still_at_end _ _ [] (c.in-Ok-eq0.ensures.ends zero) came,
-        refl,
-      );
-    })
-
-pub returns-in-Err-clause-needed : goal.returns-in-Err-clause-needed
-returns-in-Err-clause-needed g c =
-    let p = rw c.deref.ensures.value at c.in-More.ensures in
-    record { now = _; calls = OneMore _ _ _ _ c.loop-i.invariant.needed p.2 c.fill.ensures.call c.in-Err.ensures.nothing }
+    record {
+      needed = record { now = _; calls = OneMore _ _ _ _ i.needed p.2 c.fill.ensures.call c.in-Ok-eq0.ensures.bytes };
+      advances = answers c.args.self.now (line_state s) _ _ _ _ _ (Ok true) moved (few i.sound)
+          (omega (arith, i.faults, c.fill.ensures.later)) tt refl refl refl refl i.fresh.0
+          (record {
+            raw = held;
+            whole = p.2;
+            short = omega (arith, p.0, p.1);
+            line = part-prefix buf r (r + k) c.line_len-in-Ok-eq0-2.result (omega (arith, q.within, len)) ∙ q.line ∙ ap no_cr kept;
+            within = omega (arith, in_limit);
+            rest = inr (
+              refl,
+              (λ is. c.if-len-eq0.false (omega (arith, ap length is, length-part s.buf.items s.start s.end i.sound.end_in))),
+              empty-part buf (r + k) (r + k) (omega arith),
+              still_at_end _ _ [] (c.in-Ok-eq0.ensures.ends zero) came,
+              refl,
+            );
+          });
+    }
 
 pub returns-in-Ok-eq0-clause-needed : goal.returns-in-Ok-eq0-clause-needed
 returns-in-Ok-eq0-clause-needed g c =
-    let p = rw c.deref.ensures.value at c.in-More.ensures in
-    record { now = _; calls = OneMore _ _ _ _ c.loop-i.invariant.needed p.2 c.fill.ensures.call c.in-Ok-eq0.ensures.bytes }
-
-pub returns-in-Ok-eq0-2-clause-needed : goal.returns-in-Ok-eq0-2-clause-needed
-returns-in-Ok-eq0-2-clause-needed g c =
     let p = rw c.deref.ensures.value at c.in-More.ensures in
     record { now = _; calls = OneMore _ _ _ _ c.loop-i.invariant.needed p.2 c.fill.ensures.call c.in-Ok-eq0.ensures.bytes }
