@@ -34,7 +34,7 @@ def fault(text: Text, kind: Kind = REFERENCE, grammar: Grammar = URI) -> Fault |
 
 
 def faulty_part(text: Text, kind: Kind = REFERENCE, grammar: Grammar = URI) -> slice | None:
-    """Where the part of a text stands that has its first fault, as a slice of that text; None where it is of the kind.
+    """The place of the part that has a text's first fault, as a slice of that text; None where it is of the kind.
 
     >>> text = "http://me@h h:8/"
     >>> text[faulty_part(text)]

@@ -102,6 +102,14 @@ class SplitResult(NamedTuple):
         ))
 
 
+# What `help` says of a field, in place of its number.
+for _field, _words in (
+    ("scheme", "The scheme (RFC 3986 section 3.1)."), ("netloc", "The authority (section 3.2)."), ("path", "The path (section 3.3)."),
+    ("query", "The query (section 3.4), without its `?`."), ("fragment", "The fragment (section 3.5), without its `#`."),
+):
+    getattr(SplitResult, _field).__doc__ = _words
+
+
 def split(text: Text, grammar: Grammar = URI) -> SplitResult:
     """The parts of a reference, a tuple as `urllib.parse.urlsplit` gives, but that what isn't there is None.
 

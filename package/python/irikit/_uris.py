@@ -74,8 +74,8 @@ class _Parted(Identifier):
         return self._part(FRAGMENT)
 
     def join(self: _Same, link: Text) -> _Same:
-        """Where a link leads that stands in what this one, but for its fragment, names (sections 5.1 and 5.2). Raises `Refused` where the
-        link is no reference."""
+        """A link of this one's page, resolved against this one without its fragment (sections 5.1 and 5.2). Raises `Refused` where the link
+        is no reference."""
         base, _, _ = self._made_of[0].partition(b"#")
         return type(self)(resolve(base, link, self._grammar))
 

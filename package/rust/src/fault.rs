@@ -82,7 +82,7 @@ impl Fault {
         Fault(number)
     }
 
-    /// Where the part of a text stands that has this fault, in bytes; `None` where it has no such part. The kind is that of text
+    /// The place in bytes of the part of a text that has this fault; `None` where it has no such part. The kind is that of text
     /// which was wanted.
     ///
     /// ```
