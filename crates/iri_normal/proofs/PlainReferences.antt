@@ -18,7 +18,7 @@ use Rattle.iri_grammar.proofs.SplitLaws.{scheme-lacks, delimited-lacks}
 use Rattle.iri_grammar.proofs.SplitUnique.{scheme_char-below}
 use Rattle.iri_grammar.proofs.AuthorityTexts.{all_below}
 use Rattle.iri_grammar.proofs.LiteralChars.{all-join}
-use Rattle.iri_percent.specs.DelimiterLaws.{IsOutsideTriplets}
+use Rattle.iri_percent.specs.Units.{IsOutsideTriplets}
 use Rattle.iri_percent.proofs.PlainTexts.{pct-prefix, pct-same, pct-delimited, plain-ascii, plain-lacks, plain_authority, small-lowered}
 use Rattle.iri_percent.proofs.WholeLaws.{lacks-whole, whole-append}
 use Rattle.iri_normal.specs.inside.Unchanged.{EndsCanonical, EndsParts, PutsPath, IsLowered, KeepsPrefix, LacksTriplets, StandBefore, is_plain_prefix}

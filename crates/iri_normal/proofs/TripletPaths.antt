@@ -6,7 +6,7 @@ use Rattle.iri_normal.proofs.Common.{test_apart, pieces, onto, more_pieces, piec
 use Rattle.iri_normal.proofs.Common.{none, more, pct_delimiter, slash, normal_nil, normal_plain, normal_lone, normal_char, Reading, done}
 use Rattle.iri_normal.proofs.Common.{plain, char, lone, read, upper_hex, dots}
 use Rattle.iri_grammar.proofs.CutBytes.{lacks-encodes}
-use Rattle.iri_percent.specs.DelimiterLaws.{IsOutsideTriplets}
+use Rattle.iri_percent.specs.Units.{IsOutsideTriplets}
 use Rattle.iri_normal.proofs.PieceLaws.{all_lack, pieces-whole, pieces-slash, pieces-lack}
 use Rattle.iri_normal.proofs.OutputLaws.{KeepsSegments, dots-map}
 use Rattle.iri_normal.proofs.StableLaws.{unsplit, unsplit-pieces}

@@ -2,7 +2,7 @@
 use Rattle.iri_percent.proofs.Common.{◌≡◌, ℕ, true, false, cond, List, [], ◌∷◌, ◌++◌, None, refl, sym, ◌∙◌, ap, subst, ◌==◌, map}
 use Rattle.iri_percent.proofs.Common.{is_ascii_hexdigit, to_ascii_uppercase, chars, IsUtf8, encode, encodes, scalar, encodes-chars}
 use Rattle.iri_percent.proofs.Common.{scalars-chars, map-id, Tests, IsSpec, unreserved, both, Plain, Char, Lone, octets, first_char, units}
-use Rattle.iri_percent.proofs.Common.{two_digits, whole_triplets, char_units, char_units_from, pct, as_it_is, normal_units}
+use Rattle.iri_percent.proofs.Common.{two_digits, whole_triplets, char_units, char_units_from, pct, as_it_is, normal_unit}
 use Rattle.iri_percent.specs.Triplets.{unit_in_form}
 use Rattle.iri_percent.proofs.UnitLaws.{Spells, encodes_triplet, units_lone}
 use Rattle.iri_percent.proofs.NormalLaws.{normal_nil, normal_plains, normal_lone, normal_char}
@@ -10,6 +10,7 @@ use Rattle.iri_percent.proofs.Reading.{whole_triplet, whole_after}
 use Rattle.iri_percent.proofs.Stability.{as_it_is-case, upper_spells, unreserved_percent, encode_percent, whole_plains, units-normal}
 use Rattle.iri_percent.proofs.CharUnits.{CharReading, done, plain, char, lone, stray, read, percent_unit, char_units_char, char_units_plain}
 use Rattle.iri_percent.proofs.CharUnits.{encodes_spelled, encodes_percent, octets_encoded}
+use Rattle.iri_percent.proofs.Common.{flat_map}
 
 abbrev IsFormed : Tests → List ℕ → Type 0
 IsFormed s t = char_units (pct s t) ≡ map (unit_in_form s) (char_units t)
@@ -45,11 +46,11 @@ lone_formed s a b xs i p q n w k =
     let A = to_ascii_uppercase a in
     let B = to_ascii_uppercase b in
     let written : pct s (37 ∷ a ∷ b ∷ xs) ≡ 37 ∷ A ∷ B ∷ pct s xs = normal_lone s as_it_is a b xs p q n in
-    let bytes : units (37 ∷ A ∷ B ∷ pct s xs) ≡ Lone A B ∷ normal_units s as_it_is (units xs) =
+    let bytes : units (37 ∷ A ∷ B ∷ pct s xs) ≡ Lone A B ∷ flat_map (normal_unit s as_it_is) (units xs) =
     sym (ap units written) ∙ units-normal s as_it_is (37 ∷ a ∷ b ∷ xs) i as_it_is-case (whole_triplet a b xs p q ∙ w)
-    ∙ ap (normal_units s as_it_is) (units_lone a b xs p q n) in
+    ∙ ap (flat_map (normal_unit s as_it_is)) (units_lone a b xs p q n) in
     ap char_units written
-    ∙ percent_unit (A ∷ B ∷ []) (pct s xs) (Lone A B) (normal_units s as_it_is (units xs)) bytes refl
+    ∙ percent_unit (A ∷ B ∷ []) (pct s xs) (Lone A B) (flat_map (normal_unit s as_it_is) (units xs)) bytes refl
     ∙ ap (λ us. Lone A B ∷ us) k
     ∙ sym (ap (map (unit_in_form s)) (percent_unit (a ∷ b ∷ []) xs (Lone a b) (units xs) (units_lone a b xs p q n) refl))
 

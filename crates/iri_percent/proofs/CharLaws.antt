@@ -1,12 +1,14 @@
 -- The units of a text, character by character and byte by byte.
 use Rattle.iri_percent.proofs.Common.{◌≡◌, ℕ, zero, suc, ◌-◌, true, false, cond, ◌&&◌, List, [], ◌∷◌, ◌++◌, Option, Some, None, length}
-use Rattle.iri_percent.proofs.Common.{drop, refl, sym, ◌∙◌, ap, subst, arith, append_assoc, append-nil, eqb-true, ◌==◌, map, flat_map}
-use Rattle.iri_percent.proofs.Common.{list_all, is_ascii_hexdigit, to_ascii_uppercase, encode_utf8, drop_at, nat_tests, Tests, unreserved}
-use Rattle.iri_percent.proofs.Common.{both, TextUnit, Plain, Char, Lone, Stray, IllFormed, octets, first_char, triplet_unit, first_unit}
+use Rattle.iri_percent.proofs.Common.{drop, refl, sym, ◌∙◌, ap, subst, arith, append-nil, eqb-true, ◌==◌, map, flat_map}
+use Rattle.iri_percent.proofs.Common.{is_ascii_hexdigit, to_ascii_uppercase, encode_utf8, drop_at, Tests, unreserved}
+use Rattle.iri_percent.proofs.Common.{TextUnit, Plain, Char, Lone, Stray, IllFormed, octets, first_char, triplet_unit, first_unit}
 use Rattle.iri_percent.proofs.Common.{unit_text, units_from, units, by_character, char_unit_text, char_units_from, char_units, plains}
-use Rattle.iri_percent.proofs.Common.{byte_units, normal, written, all_written}
+use Rattle.iri_percent.proofs.Common.{byte_units, normal, written}
+use Rattle.std.proofs.lemmas.Grind.{flat_map-append}
 use Rattle.iri_percent.specs.Triplets.{unit_form}
-use Rattle.iri_percent.proofs.UnitLaws.{BeginsChar, first_char_is, is_continuation, encode_bytes, units_from_drop, byte_other, units_plain}
+use Rattle.iri_percent.proofs.UnitLaws.{BeginsChar, first_char_is, is_continuation, encode_bytes, units_from_drop, byte_other, units_plain, units_plains}
+use Rattle.iri_percent.proofs.Common.{all-lacks}
 
 -- a unit that is the same in both readings
 pub record IsSame (u : TextUnit) (o : Option ℕ) : Type 0 where
@@ -27,16 +29,6 @@ percent_same (a ∷ b ∷ xs) o =
       | true ↦ triplet_same a b (37 ∷ a ∷ b ∷ xs) (first_char (octets (37 ∷ a ∷ b ∷ xs))) o
       | false ↦ record { unit = refl; text = refl; bytes = refl }
     ]
-
--- the bytes after the first one of a character
-continued : (ys xs : List ℕ) → list_all is_continuation ys ≡ true → units (ys ++ xs) ≡ plains ys ++ units xs
-continued [] xs h = refl
-continued (y ∷ ys) xs h =
-    let k = both (is_continuation y) (list_all is_continuation ys) h in
-    units_plain y (ys ++ xs) (apart y k.0) ∙ ap (λ l. Plain y ∷ l) (continued ys xs k.1)
-  where
-    apart : (y : ℕ) → is_continuation y ≡ true → (y == 37) ≡ false
-    apart y h = grind (arith, nat_tests)
 
 -- both readings of what stands after so many bytes
 abbrev IsTied : List ℕ → Type 0
@@ -64,7 +56,7 @@ character_tied x c xs tied g =
     (ap (drop (length b.tail)) after ∙ drop_at b.tail g.rest (length b.tail) refl)) in
     subst (λ l. Plain x ∷ units xs ≡ plains l ++ flat_map byte_units (char_units_from (length l - 1) xs)) (sym b.split)
     (ap (λ y. Plain y ∷ units xs) first
-    ∙ ap (λ us. Plain b.lead ∷ us) (ap units after ∙ continued b.tail g.rest b.continue
+    ∙ ap (λ us. Plain b.lead ∷ us) (ap units after ∙ units_plains b.tail g.rest (all-lacks is_continuation 37 b.tail refl b.continue)
     ∙ ap (λ us. plains b.tail ++ us) (rest ∙ tied (length b.tail)))
     ∙ sym (ap (λ n. Plain b.lead ∷ (plains b.tail ++ flat_map byte_units (char_units_from n xs))) less))
 
@@ -98,31 +90,25 @@ pub units-by_chars : (t : List ℕ) → units t ≡ flat_map byte_units (char_un
 units-by_chars t = units_tied 0 t
 
 -- ---- triplet normal form
-pub all_written-append : (s : Tests) (f : ℕ → ℕ) (us vs : List TextUnit)
-    → all_written s f (us ++ vs) ≡ all_written s f us ++ all_written s f vs
-all_written-append s f [] vs = refl
-all_written-append s f (u ∷ us) vs = ap (λ l. written s f u ++ l) (all_written-append s f us vs)
-    ∙ sym (append_assoc (written s f u) (all_written s f us) (all_written s f vs))
-
-pub written_plains : (s : Tests) (f : ℕ → ℕ) (xs : List ℕ) → all_written s f (plains xs) ≡ map f xs
+pub written_plains : (s : Tests) (f : ℕ → ℕ) (xs : List ℕ) → flat_map (written s f) (plains xs) ≡ map f xs
 written_plains s f [] = refl
 written_plains s f (x ∷ xs) = ap (λ l. f x ∷ l) (written_plains s f xs)
 
-unit_written : (s : Tests) (f : ℕ → ℕ) (u : TextUnit) → all_written s f (byte_units u) ≡ unit_form s f u
+unit_written : (s : Tests) (f : ℕ → ℕ) (u : TextUnit) → flat_map (written s f) (byte_units u) ≡ unit_form s f u
 unit_written s f (Plain c) = written_plains s f (encode_utf8 c)
 unit_written s f (Char c sp) = append-nil (cond (unreserved s c) (map f (encode_utf8 c)) (map to_ascii_uppercase sp))
 unit_written s f (Lone a b) = refl
 unit_written s f Stray = refl
 unit_written s f (IllFormed b) = refl
 
-units_written : (s : Tests) (f : ℕ → ℕ) (us : List TextUnit) → all_written s f (flat_map byte_units us) ≡ flat_map (unit_form s f) us
+units_written : (s : Tests) (f : ℕ → ℕ) (us : List TextUnit) → flat_map (written s f) (flat_map byte_units us) ≡ flat_map (unit_form s f) us
 units_written s f [] = refl
 units_written s f (u ∷ us) =
-    all_written-append s f (byte_units u) (flat_map byte_units us)
-    ∙ ap (λ l. l ++ all_written s f (flat_map byte_units us)) (unit_written s f u)
+    flat_map-append (written s f) (byte_units u) (flat_map byte_units us)
+    ∙ ap (λ l. l ++ flat_map (written s f) (flat_map byte_units us)) (unit_written s f u)
     ∙ ap (λ l. unit_form s f u ++ l) (units_written s f us)
 
 -- the normal form, byte by byte
-pub normal-by_bytes : (s : Tests) (f : ℕ → ℕ) (t : List ℕ) → normal s f t ≡ all_written s f (units t)
+pub normal-by_bytes : (s : Tests) (f : ℕ → ℕ) (t : List ℕ) → normal s f t ≡ flat_map (written s f) (units t)
 unfolding normal
-normal-by_bytes s f t = sym (ap (all_written s f) (units-by_chars t) ∙ units_written s f (char_units t))
+normal-by_bytes s f t = sym (ap (flat_map (written s f)) (units-by_chars t) ∙ units_written s f (char_units t))

@@ -10,7 +10,6 @@ use Rattle.iri_percent.proofs.UnitLaws.{encode_bytes, encodes_triplet, byte_othe
 use Rattle.iri_percent.proofs.CharLaws.{percent_same, units-by_chars}
 use Rattle.iri_percent.proofs.NormalLaws.{PrefixTriplet, prefix_triplet}
 use Rattle.iri_percent.proofs.MapTexts.{is_high, encode-high}
-use Rattle.iri_percent.specs.UnitTexts.{units_text}
 use Rattle.iri_percent.proofs.UnitTexts.{units-text}
 use Rattle.iri_percent.specs.CharUnits.{first_char_unit}
 use Rattle.iri_grammar.proofs.Units.{past_hex as high_no_hex}
@@ -229,23 +228,23 @@ pub units-of_chars : (t : List ℕ) → IsUtf8 t → char_units t ≡ units (cha
 units-of_chars t u = ap char_units (sym (encodes-chars t u)) ∙ units_encoded (chars t) (read (chars t) (scalars-chars t u))
 
 -- ---- the text of the units
-plains_text : (os : List ℕ) (us : List TextUnit) → units_text (plains os ++ us) ≡ os ++ units_text us
+plains_text : (os : List ℕ) (us : List TextUnit) → flat_map unit_text (plains os ++ us) ≡ os ++ flat_map unit_text us
 plains_text [] us = refl
 plains_text (o ∷ os) us = ap (λ l. o ∷ l) (plains_text os us)
 
-unit_bytes : (u : TextUnit) (us : List TextUnit) → units_text (byte_units u ++ us) ≡ char_unit_text u ++ units_text us
+unit_bytes : (u : TextUnit) (us : List TextUnit) → flat_map unit_text (byte_units u ++ us) ≡ char_unit_text u ++ flat_map unit_text us
 unit_bytes (Plain c) us = plains_text (encode c) us
 unit_bytes (Char c sp) us = refl
 unit_bytes (Lone a b) us = refl
 unit_bytes Stray us = refl
 unit_bytes (IllFormed b) us = refl
 
-all_bytes : (us : List TextUnit) → units_text (flat_map byte_units us) ≡ flat_map char_unit_text us
+all_bytes : (us : List TextUnit) → flat_map unit_text (flat_map byte_units us) ≡ flat_map char_unit_text us
 all_bytes [] = refl
 all_bytes (u ∷ us) = unit_bytes u (flat_map byte_units us) ∙ ap (λ l. char_unit_text u ++ l) (all_bytes us)
 
 pub char_units-text : (t : List ℕ) → flat_map char_unit_text (char_units t) ≡ t
-char_units-text t = sym (all_bytes (char_units t)) ∙ ap units_text (sym (units-by_chars t)) ∙ units-text t
+char_units-text t = sym (all_bytes (char_units t)) ∙ ap (flat_map unit_text) (sym (units-by_chars t)) ∙ units-text t
 
 -- ---- where a character in triplets stands
 record IsSplit (c : ℕ) (sp : List ℕ) (us before : List TextUnit) : Type 0 where
@@ -263,6 +262,21 @@ after_plains (o ∷ os) rest (v ∷ before) after c sp e =
     let suffix : plains os ++ rest ≡ before ++ Char c sp ∷ after = cc in
     let r = after_plains os rest before after c sp suffix in
     (r.0, sym (ap (λ x. x ∷ before) first) ∙ ap (λ l. Plain o ∷ l) r.1, r.2)
+
+-- a unit that is a unit of bytes too, before others
+unit_split : (u v w : TextUnit) (us before after : List TextUnit) (c : ℕ) (sp : List ℕ) → byte_units u ≡ v ∷ []
+    → v ∷ flat_map byte_units us ≡ w ∷ (before ++ Char c sp ∷ after)
+    → (flat_map byte_units us ≡ before ++ Char c sp ∷ after → IsSplit c sp us before) → IsSplit c sp (u ∷ us) (w ∷ before)
+unit_split u v w us before after c sp one e rest =
+    let first : v ≡ w = cc in
+    let suffix : flat_map byte_units us ≡ before ++ Char c sp ∷ after = cc in
+    let r = rest suffix in
+    record {
+      prefix = u ∷ r.prefix;
+      back = r.back;
+      split = ap (λ l. u ∷ l) r.split;
+      same = ap (λ l. l ++ flat_map byte_units r.prefix) one ∙ ap (λ l. v ∷ l) r.same ∙ ap (λ x. x ∷ before) first;
+    }
 
 char_split : (us before after : List TextUnit) (c : ℕ) (sp : List ℕ) → flat_map byte_units us ≡ before ++ Char c sp ∷ after
     → IsSplit c sp us before
@@ -284,45 +298,12 @@ char_split (Lone a b ∷ us) [] after c sp e = cc
 char_split (Stray ∷ us) [] after c sp e = cc
 char_split (IllFormed b ∷ us) [] after c sp e = cc
 char_split (Char d sq ∷ us) (v ∷ before) after c sp e =
-    let first : Char d sq ≡ v = cc in
-    let suffix : flat_map byte_units us ≡ before ++ Char c sp ∷ after = cc in
-    let r = char_split us before after c sp suffix in
-    record {
-      prefix = Char d sq ∷ r.prefix;
-      back = r.back;
-      split = ap (λ l. Char d sq ∷ l) r.split;
-      same = ap (λ l. Char d sq ∷ l) r.same ∙ ap (λ x. x ∷ before) first;
-    }
+    unit_split (Char d sq) (Char d sq) v us before after c sp refl e (λ k. char_split us before after c sp k)
 char_split (Lone a b ∷ us) (v ∷ before) after c sp e =
-    let first : Lone a b ≡ v = cc in
-    let suffix : flat_map byte_units us ≡ before ++ Char c sp ∷ after = cc in
-    let r = char_split us before after c sp suffix in
-    record {
-      prefix = Lone a b ∷ r.prefix;
-      back = r.back;
-      split = ap (λ l. Lone a b ∷ l) r.split;
-      same = ap (λ l. Lone a b ∷ l) r.same ∙ ap (λ x. x ∷ before) first;
-    }
-char_split (Stray ∷ us) (v ∷ before) after c sp e =
-    let first : Stray ≡ v = cc in
-    let suffix : flat_map byte_units us ≡ before ++ Char c sp ∷ after = cc in
-    let r = char_split us before after c sp suffix in
-    record {
-      prefix = Stray ∷ r.prefix;
-      back = r.back;
-      split = ap (λ l. Stray ∷ l) r.split;
-      same = ap (λ l. Stray ∷ l) r.same ∙ ap (λ x. x ∷ before) first;
-    }
+    unit_split (Lone a b) (Lone a b) v us before after c sp refl e (λ k. char_split us before after c sp k)
+char_split (Stray ∷ us) (v ∷ before) after c sp e = unit_split Stray Stray v us before after c sp refl e (λ k. char_split us before after c sp k)
 char_split (IllFormed b ∷ us) (v ∷ before) after c sp e =
-    let first : Plain b ≡ v = cc in
-    let suffix : flat_map byte_units us ≡ before ++ Char c sp ∷ after = cc in
-    let r = char_split us before after c sp suffix in
-    record {
-      prefix = IllFormed b ∷ r.prefix;
-      back = r.back;
-      split = ap (λ l. IllFormed b ∷ l) r.split;
-      same = ap (λ l. Plain b ∷ l) r.same ∙ ap (λ x. x ∷ before) first;
-    }
+    unit_split (IllFormed b) (Plain b) v us before after c sp refl e (λ k. char_split us before after c sp k)
 
 -- a unit of bytes that is a character in triplets is a unit of characters, at the same byte
 pub record IsPlaced (c : ℕ) (sp t : List ℕ) (place : ℕ) : Type 0 where
@@ -332,7 +313,7 @@ pub record IsPlaced (c : ℕ) (sp t : List ℕ) (place : ℕ) : Type 0 where
   pub at : length (flat_map char_unit_text prefix) ≡ place
 
 pub char_placed : (c : ℕ) (sp t : List ℕ) (before after : List TextUnit) → units t ≡ before ++ Char c sp ∷ after
-    → IsPlaced c sp t (length (units_text before))
+    → IsPlaced c sp t (length (flat_map unit_text before))
 char_placed c sp t before after e =
     let r = char_split (char_units t) before after c sp (sym (units-by_chars t) ∙ e) in
-    record { prefix = r.prefix; back = r.back; split = r.split; at = ap length (sym (all_bytes r.prefix) ∙ ap units_text r.same) }
+    record { prefix = r.prefix; back = r.back; split = r.split; at = ap length (sym (all_bytes r.prefix) ∙ ap (flat_map unit_text) r.same) }

@@ -1,5 +1,5 @@
 -- Triplet normal form keeps the class of a text.
-use Rattle.iri_percent.proofs.Common.{◌≡◌, ℕ, zero, suc, ◌<◌, ◌≤◌, Bool, true, false, ◌&&◌, ◌||◌, List, [], ◌∷◌, ◌++◌, Option, Some, None}
+use Rattle.iri_percent.proofs.Common.{◌≡◌, ℕ, zero, suc, ◌≤◌, Bool, true, false, ◌&&◌, ◌||◌, List, [], ◌∷◌, ◌++◌, Option, Some, None}
 use Rattle.iri_percent.proofs.Common.{length, refl, sym, ◌∙◌, ap, subst, arith, length-append, ◌==◌, map, chars, is_utf8, encode, encodes}
 use Rattle.iri_percent.proofs.Common.{scalar, scalars, encodes-chars, scalars-chars, IsUtf8-from_is_utf8, nat_tests, Tests, IsSpec}
 use Rattle.iri_percent.proofs.Common.{unreserved, reg_name_char, userinfo_char, pchar, path_char, query_char, fragment_char}
@@ -10,7 +10,7 @@ use Rattle.std.specs.Prelude.{codes}
 use Rattle.std.specs.Char.{is_ascii_hexdigit, is_ascii_uppercase, char_set_contains, to_ascii_uppercase, to_ascii_lowercase}
 use Rattle.std.proofs.lemmas.Str.{chars-encodes, is_utf8-from_IsUtf8}
 use Rattle.iri_grammar.proofs.OverLaws.{units-from_over, over-from_units}
-use Rattle.iri_percent.proofs.UnitLaws.{Spells, none, more, Spelled, spelled, encode_bytes, encodes_triplet}
+use Rattle.iri_percent.proofs.UnitLaws.{Spells, none, more, Spelled, spelled, length-spelled, encode_bytes, encodes_triplet}
 use Rattle.iri_percent.proofs.NormalLaws.{normal_nil, normal_plains, normal_decoded, normal_kept}
 use Rattle.iri_percent.proofs.Stability.{IsCase, as_it_is-case, lower-case, upper_hex, encode_percent}
 use Rattle.iri_percent.proofs.CaseLaws.{encode_case, case_scalar, is_decoded}
@@ -132,16 +132,9 @@ kept_within (suc n) s f p t i k l (escape a b t' ha hb r) =
             let q = k.unreserved c u in
             let m = class_percent p c k.percent q in
             let all : IsText p (g.sp ++ g.xs) = subst (λ x. IsText p x) g.text (escape a b t' ha hb r) in
-            let short : length g.xs ≤ n = omega (arith, l, ap length g.text, length-append g.sp g.xs, some c g.sp g.spells) in
+            let short : length g.xs ≤ n = omega (arith, l, ap length g.text, length-append g.sp g.xs, length-spelled g.sp (encode c) g.spells, ap length (encode_bytes c).split) in
             subst (λ x. IsText p x) (sym (ap (normal s f) g.text ∙ normal_decoded s f c g.sp g.xs h u g.spells))
             (letter_case s f p c (normal s f g.xs) i k h q m (go g.xs short (after_spelled p g.sp (encode c) g.xs g.spells all)))
-          where
-            some_at : (sp os : List ℕ) → Spells sp os → (b : ℕ) (bs : List ℕ) → os ≡ b ∷ bs → 0 < length sp
-            some_at sp os none b bs e = cc
-            some_at sp os (more a b' sp' os' p q k) b bs e = omega arith
-
-            some : (c : ℕ) (sp : List ℕ) → Spells sp (encode c) → 0 < length sp
-            some c sp j = let b = encode_bytes c in some_at sp (encode c) j b.lead b.tail b.split
 
 pub normal-over : (s : Tests) (f : ℕ → ℕ) (p : ℕ → Bool) (t : List ℕ) → IsCase f → IsKept s f p → text_over p t ≡ true
     → text_over p (normal s f t) ≡ true

@@ -33,7 +33,7 @@ pub use Rattle.iri_grammar.specs.Runs.{run_of}
 pub use Rattle.iri_grammar.specs.inside.Laws.{iri_is_spec}
 pub use Rattle.iri_text.proofs.Compose.{shown_more, shown_exit, shows_all, HasShown}
 pub use Rattle.iri_text.specs.Shown.{Shows}
-pub use Rattle.iri_percent.specs.ByteForm.{normal_units, written, all_written}
+pub use Rattle.iri_percent.specs.ByteForm.{normal_unit, written}
 pub use Rattle.iri_percent.specs.CharUnits.{char_units, by_character, char_unit_text, plains, byte_units}
 unfoldable pub use Rattle.iri_percent.specs.CharUnits.{char_units_from}
 pub use Rattle.iri_percent.specs.Decoding.{Octet, Percent, fragment_bytes}
@@ -43,7 +43,7 @@ unfoldable pub use Rattle.iri_percent.specs.Encoding.{encoded}
 pub use Rattle.iri_percent.specs.Mapping.{capital_hex, triplets, triplet, mapped}
 pub use Rattle.iri_percent.specs.NormalHost.{is_plain_byte}
 unfoldable pub use Rattle.iri_percent.specs.NormalHost.{normal_authority, is_ascii_host, normal_host}
-pub use Rattle.iri_percent.specs.NormalLaws.{decoded, unreserved_only}
+pub use Rattle.iri_percent.specs.Triplets.{decoded, unreserved_only}
 pub use Rattle.iri_percent.specs.Triplets.{pct, as_it_is}
 unfoldable pub use Rattle.iri_percent.specs.Triplets.{normal}
 pub use Rattle.iri_percent.specs.Units.{octet, octets, Plain, Char, Lone, units, two_digits, TextUnit, Stray, IllFormed, triplet_unit}

@@ -1,10 +1,11 @@
 -- Decoding at the start of a text, and the fragments put together.
 use Rattle.iri_percent.proofs.Common.{◌==◌, flat_map, is_ascii_hexdigit, before, lacks, by_test, is_triplet, octet, octets, two_digits}
 use Rattle.iri_percent.proofs.Common.{decoding, has_triplet, Octet, Percent, fragments, fragment_bytes}
-use Rattle.std.proofs.Common.{◌≡◌, ◌≢◌, ℕ, suc, ◌<◌, ◌≤◌, true, false, cond, not, ◌&&◌, ◌||◌, List, [], ◌∷◌, ◌++◌, length, drop, get_or}
+use Rattle.std.proofs.Common.{◌≡◌, ◌≢◌, ℕ, suc, ◌<◌, ◌≤◌, true, false, cond, ◌&&◌, ◌||◌, List, [], ◌∷◌, ◌++◌, length, drop, get_or}
 use Rattle.std.proofs.Common.{min, refl, length-drop, get_or-drop, sym, ◌∙◌, ap, subst, arith, eqb-true}
 use Rattle.iri_grammar.specs.Cut.{from, CutAt, NoCut}
 use Rattle.iri_percent.specs.Decoding.{Fragment, Run, before_fragments, byte_before}
+use Rattle.iri_percent.proofs.UnitLaws.{lacks_first}
 
 -- ---- decoding from the left
 pub decoding-triplet : (a b : ℕ) (xs : List ℕ) → is_ascii_hexdigit a ≡ true → is_ascii_hexdigit b ≡ true
@@ -21,10 +22,8 @@ decoding-plain x (a ∷ b ∷ xs) h = rw h refl
 pub decoding-plains : (ys xs : List ℕ) → lacks 37 ys ≡ true → decoding (ys ++ xs) ≡ ys ++ decoding xs
 decoding-plains [] xs h = refl
 decoding-plains (y ∷ ys) xs h =
-    elim (y == 37) as (λ b. (y == 37) ≡ b → (not b && lacks 37 ys) ≡ true → decoding (y ∷ (ys ++ xs)) ≡ y ∷ (ys ++ decoding xs)) [
-      | true ↦ λ _ l. cc
-      | false ↦ λ e l. decoding-plain y (ys ++ xs) e ∙ ap (λ z. y ∷ z) (decoding-plains ys xs l)
-    ] refl h
+    let k = lacks_first y ys h in
+    decoding-plain y (ys ++ xs) k.0 ∙ ap (λ z. y ∷ z) (decoding-plains ys xs k.1)
 
 -- ---- fragments
 bytes-before : (x : ℕ) (fs : List Fragment) → flat_map fragment_bytes (before_fragments x fs) ≡ x ∷ flat_map fragment_bytes fs
@@ -140,52 +139,38 @@ stray-first t l h e = let p = is_percent t l h in subst (λ z. fragments z ≡ P
     (stray-fragment p.tail (no_digits p.tail (ap octets (sym p.split) ∙ e)))
 
 -- ---- how many there are
-length-before : (x : ℕ) (fs : List Fragment) → length (byte_before x fs) ≤ suc (length fs)
-length-before x fs = elim (x == 37) as (λ b. length (cond b (Percent ∷ fs) (before_fragments x fs)) ≤ suc (length fs)) [
-  | true ↦ omega arith
-  | false ↦ at fs
-]
+count-before : (x : ℕ) (fs : List Fragment) → (0 < length (byte_before x fs)) × (length (byte_before x fs) ≤ suc (length fs))
+count-before x fs = elim (x == 37) as (λ b. (0 < length (cond b (Percent ∷ fs) (before_fragments x fs)))
+    × (length (cond b (Percent ∷ fs) (before_fragments x fs)) ≤ suc (length fs))) [ true ↦ (omega arith, omega arith) | false ↦ at fs ]
   where
-    at : (fs : List Fragment) → length (before_fragments x fs) ≤ suc (length fs)
-    at [] = omega arith
-    at (Run r ∷ fs) = omega arith
-    at (Octet o ∷ fs) = omega arith
-    at (Percent ∷ fs) = omega arith
+    at : (fs : List Fragment) → (0 < length (before_fragments x fs)) × (length (before_fragments x fs) ≤ suc (length fs))
+    at [] = (omega arith, omega arith)
+    at (Run r ∷ fs) = (omega arith, omega arith)
+    at (Octet o ∷ fs) = (omega arith, omega arith)
+    at (Percent ∷ fs) = (omega arith, omega arith)
 
 pub fragments-most : (t : List ℕ) → length (fragments t) ≤ length t
 unfolding fragments
 fragments-most [] = omega arith
-fragments-most (x ∷ []) = length-before x []
-fragments-most (x ∷ a ∷ []) = omega (arith, length-before x (byte_before a []), length-before a [])
+fragments-most (x ∷ []) = (count-before x []).1
+fragments-most (x ∷ a ∷ []) = omega (arith, (count-before x (byte_before a [])).1, (count-before a []).1)
 fragments-most (x ∷ a ∷ b ∷ xs) =
     elim (is_triplet x a b) as (λ v. length (cond v (Octet (octet a b) ∷ fragments xs) (byte_before x (fragments (a ∷ b ∷ xs))))
     ≤ length (x ∷ a ∷ b ∷ xs)) [
       | true ↦ omega (arith, fragments-most xs)
-      | false ↦ omega (arith, length-before x (fragments (a ∷ b ∷ xs)), fragments-most (a ∷ b ∷ xs))
+      | false ↦ omega (arith, (count-before x (fragments (a ∷ b ∷ xs))).1, fragments-most (a ∷ b ∷ xs))
     ]
-
-some-before : (x : ℕ) (fs : List Fragment) → 0 < length (byte_before x fs)
-some-before x fs = elim (x == 37) as (λ b. 0 < length (cond b (Percent ∷ fs) (before_fragments x fs))) [
-  | true ↦ omega arith
-  | false ↦ at fs
-]
-  where
-    at : (fs : List Fragment) → 0 < length (before_fragments x fs)
-    at [] = omega arith
-    at (Run r ∷ fs) = omega arith
-    at (Octet o ∷ fs) = omega arith
-    at (Percent ∷ fs) = omega arith
 
 pub fragments-some : (t : List ℕ) → min (length t) 1 ≤ length (fragments t)
 unfolding fragments
 fragments-some [] = omega arith
-fragments-some (x ∷ []) = omega (arith, some-before x [])
-fragments-some (x ∷ a ∷ []) = omega (arith, some-before x (byte_before a []))
+fragments-some (x ∷ []) = omega (arith, (count-before x []).0)
+fragments-some (x ∷ a ∷ []) = omega (arith, (count-before x (byte_before a [])).0)
 fragments-some (x ∷ a ∷ b ∷ xs) =
     elim (is_triplet x a b) as (λ v. min (length (x ∷ a ∷ b ∷ xs)) 1
     ≤ length (cond v (Octet (octet a b) ∷ fragments xs) (byte_before x (fragments (a ∷ b ∷ xs))))) [
       | true ↦ omega arith
-      | false ↦ omega (arith, some-before x (fragments (a ∷ b ∷ xs)))
+      | false ↦ omega (arith, (count-before x (fragments (a ∷ b ∷ xs))).0)
     ]
 
 pub none-left : (t : List ℕ) → length t ≡ 0 → fragments t ≡ []

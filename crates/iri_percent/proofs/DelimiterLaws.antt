@@ -1,13 +1,16 @@
 -- A text with a delimiter: units and triplet normal form on both sides of it.
 use Rattle.iri_percent.proofs.Common.{◌≡◌, ℕ, zero, suc, ◌+◌, ◌*◌, ◌-◌, ◌≤◌, true, false, cond, ◌&&◌, List, [], ◌∷◌, ◌++◌, Option, Some}
 use Rattle.iri_percent.proofs.Common.{None, length, refl, sym, ◌∙◌, ap, arith, length-append, ◌==◌, is_ascii_hexdigit, len_utf8}
-use Rattle.iri_percent.proofs.Common.{encode_utf8, length-encode, Tests, Plain, Char, Stray, is_triplet, octet, octets, first_char}
-use Rattle.iri_percent.proofs.Common.{triplet_unit, byte_unit, first_unit, unit_text, units_from, units, normal, as_it_is, pct, all_written}
-use Rattle.std.proofs.lemmas.List.{take-append-le, length-take}
+use Rattle.iri_percent.proofs.Common.{encode_utf8, length-encode, Tests, Plain, Char, is_triplet, octet, octets, first_char}
+use Rattle.iri_percent.proofs.Common.{triplet_unit, byte_unit, first_unit, unit_text, units_from, units, normal, as_it_is, pct, written}
+use Rattle.std.proofs.lemmas.List.{take-append-le}
 use Rattle.std.proofs.Math.Bool.{and-false}
-use Rattle.iri_percent.proofs.CharLaws.{all_written-append, normal-by_bytes}
+use Rattle.std.proofs.lemmas.Grind.{flat_map-append}
+use Rattle.iri_percent.proofs.CharLaws.{normal-by_bytes}
 use Rattle.iri_percent.proofs.UnitLaws.{first_char_is, units_plain}
-use Rattle.iri_percent.specs.DelimiterLaws.{IsOutsideTriplets}
+use Rattle.iri_percent.specs.Units.{IsOutsideTriplets}
+use Rattle.iri_percent.proofs.UnitTexts.{unit_prefix}
+use Rattle.iri_percent.proofs.Common.{flat_map}
 
 no_second : (x m b : ℕ) → IsOutsideTriplets m → is_triplet x m b ≡ false
 no_second x m b k = ap (λ v. x == 37 && (v && is_ascii_hexdigit b)) k.digit ∙ and-false (x == 37)
@@ -67,27 +70,9 @@ first_candidate m x (y ∷ z ∷ a) b k =
     ∙ ap (λ u. cond (is_triplet x y z) u (byte_unit x))
     (triplet_more y z (x ∷ y ∷ z ∷ a) (m ∷ b) (first_char (octets (x ∷ y ∷ z ∷ a))) refl)
 
-byte_length : (x : ℕ) (xs : List ℕ) → length (unit_text (byte_unit x)) ≤ length (x ∷ xs)
-byte_length x xs = elim (x == 37) as (λ v. length (unit_text (cond v Stray (Plain x))) ≤ length (x ∷ xs)) [
-  | true ↦ omega arith
-  | false ↦ omega arith
-]
-
-triplet_length : (a b x : ℕ) (xs : List ℕ) (o : Option ℕ)
-    → length (unit_text (triplet_unit a b (x ∷ a ∷ b ∷ xs) o)) ≤ length (x ∷ a ∷ b ∷ xs)
-triplet_length a b x xs None = omega arith
-triplet_length a b x xs (Some c) = omega (arith, length-take (3 * len_utf8 c) (x ∷ a ∷ b ∷ xs))
-
 -- a unit stands in the text
 pub unit_within : (x : ℕ) (xs : List ℕ) → length (unit_text (first_unit x xs)) ≤ length (x ∷ xs)
-unit_within x [] = byte_length x []
-unit_within x (a ∷ []) = byte_length x (a ∷ [])
-unit_within x (a ∷ b ∷ xs) =
-    elim (is_triplet x a b) as (λ v. length (unit_text
-    (cond v (triplet_unit a b (x ∷ a ∷ b ∷ xs) (first_char (octets (x ∷ a ∷ b ∷ xs)))) (byte_unit x))) ≤ length (x ∷ a ∷ b ∷ xs)) [
-      | true ↦ triplet_length a b x xs (first_char (octets (x ∷ a ∷ b ∷ xs)))
-      | false ↦ byte_length x (a ∷ b ∷ xs)
-    ]
+unit_within x xs = let f = unit_prefix x xs in omega (arith, ap length f.split, length-append (unit_text (first_unit x xs)) f.rest)
 
 -- the units before a delimiter, the delimiter, and the units after it
 units_from_delimiter : (m n : ℕ) (a b : List ℕ) → IsOutsideTriplets m → n ≤ length a → units_from n (a ++ m ∷ b) ≡ units_from n a ++ Plain m ∷ units b
@@ -106,10 +91,10 @@ units_delimiter m a b k = units_from_delimiter m 0 a b k (omega arith)
 pub normal_delimiter : (s : Tests) (f : ℕ → ℕ) (m : ℕ) (a b : List ℕ) → IsOutsideTriplets m → normal s f (a ++ m ∷ b) ≡ normal s f a ++ f m ∷ normal s f b
 normal_delimiter s f m a b k =
     normal-by_bytes s f (a ++ m ∷ b)
-    ∙ ap (all_written s f) (units_delimiter m a b k)
-    ∙ all_written-append s f (units a) (Plain m ∷ units b)
+    ∙ ap (flat_map (written s f)) (units_delimiter m a b k)
+    ∙ flat_map-append (written s f) (units a) (Plain m ∷ units b)
     ∙ sym (ap (λ l. l ++ f m ∷ normal s f b) (normal-by_bytes s f a)
-    ∙ ap (λ l. all_written s f (units a) ++ f m ∷ l) (normal-by_bytes s f b))
+    ∙ ap (λ l. flat_map (written s f) (units a) ++ f m ∷ l) (normal-by_bytes s f b))
 
 pub pct_delimiter : (s : Tests) (m : ℕ) (a b : List ℕ) → IsOutsideTriplets m → pct s (a ++ m ∷ b) ≡ pct s a ++ m ∷ pct s b
 pct_delimiter s m a b k = normal_delimiter s as_it_is m a b k

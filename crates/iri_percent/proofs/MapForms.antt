@@ -8,16 +8,17 @@ use Rattle.iri_percent.proofs.Common.{octet, octets, first_char, normal, decoded
 use Rattle.std.proofs.lemmas.Str.{IsAscii-append}
 use Rattle.std.proofs.Math.Bool.{or-false}
 use Rattle.iri_percent.proofs.ClassLaws.{IsText, ended, letter, escape, text-from_over, after_spelled}
-use Rattle.iri_percent.proofs.UnitLaws.{Spells, none, more, spelled, octets_triplet, char_first, encode_bytes}
+use Rattle.iri_percent.proofs.UnitLaws.{Spells, none, more, spelled, length-spelled, octets_triplet, char_first, encode_bytes}
 use Rattle.iri_percent.proofs.NormalLaws.{normal_nil, normal_plain, normal_plains, normal_char, normal_decoded, normal_kept}
 use Rattle.iri_percent.proofs.CaseLaws.{encode_case, is_decoded}
 use Rattle.iri_percent.proofs.Stability.{IsCase, encode_percent, upper_hex}
 use Rattle.iri_percent.proofs.Characters.{unreserved_low}
 use Rattle.iri_percent.proofs.Spelled.{hex_below}
-use Rattle.iri_percent.specs.Mapping.{mapped_char, mapped_chars}
+use Rattle.iri_percent.specs.Mapping.{mapped_char}
 use Rattle.iri_percent.proofs.MapTexts.{mapped-low, mapped-high, mapped-append, mapped-triplet, mapped-spelled, mapped-spells, is_high}
 use Rattle.iri_percent.proofs.MapTexts.{high_past, high_small, first_digit, second_digit, encode-high, uri-spec}
 pub use Rattle.iri_percent.proofs.Characters.{unreserved_low as unreserved_ascii}
+use Rattle.iri_percent.proofs.Common.{flat_map}
 
 -- ---- triplets in capital
 capital_of : (a : ℕ) → is_ascii_hexdigit a ≡ true → capital_hex (digit_value a) ≡ to_ascii_uppercase a
@@ -158,10 +159,6 @@ at_decoded s f c sp t k i h u j rest =
 pub some_bytes : (c : ℕ) → 0 < length (encode c)
 some_bytes c = let b = encode_bytes c in omega (arith, ap length b.split)
 
-some_triplet : (sp os : List ℕ) → Spells sp os → 0 < length os → 0 < length sp
-some_triplet sp os none h = absurd (omega arith)
-some_triplet sp os (more a b sp' os' p q k) h = omega arith
-
 maps_within : (n : ℕ) (s : Tests) (f : ℕ → ℕ) (p : ℕ → Bool) (t : List ℕ) → IsSpec s → IsCase f → length t ≤ n → IsText p t → Maps s f t
 maps_within n s f p t k i l ended = ap mapped (normal_nil s f) ∙ sym (normal_nil uri_tests f)
 maps_within zero s f p t k i l (letter c t' h q m r) = absurd (omega (arith, l, some_bytes c, length-append (encode c) t'))
@@ -184,7 +181,8 @@ maps_within (suc n) s f p t k i l (escape a b t' ha hb r) =
           l,
           ap length g.text,
           length-append g.sp g.xs,
-          some_triplet g.sp (encode c) g.spells (some_bytes c),
+          length-spelled g.sp (encode c) g.spells,
+          some_bytes c,
         ) in
         subst (λ z. Maps s f z) (sym g.text) (at_decoded s f c g.sp g.xs k i d.0.is_scalar d.1 g.spells
         (go g.xs short (after_spelled p g.sp (encode c) g.xs g.spells all)))
@@ -246,12 +244,12 @@ mapped-encoded c h =
       | false ↦ λ e. high-triplets (encode c) (encode-high c h e)
     ] refl
 
-mapped-encodes : (cs : List ℕ) → scalars cs ≡ true → mapped (encodes cs) ≡ mapped_chars cs
+mapped-encodes : (cs : List ℕ) → scalars cs ≡ true → mapped (encodes cs) ≡ flat_map mapped_char cs
 mapped-encodes [] h = refl
 mapped-encodes (c ∷ cs) h =
     let k = both (scalar c) (scalars cs) h in
     mapped-append (encode c) (encodes cs) ∙ ap (λ z. z ++ mapped (encodes cs)) (mapped-encoded c k.0)
     ∙ ap (λ z. mapped_char c ++ z) (mapped-encodes cs k.1)
 
-pub mapped-by_chars : (t : List ℕ) → IsUtf8 t → mapped t ≡ mapped_chars (chars t)
+pub mapped-by_chars : (t : List ℕ) → IsUtf8 t → mapped t ≡ flat_map mapped_char (chars t)
 mapped-by_chars t u = ap mapped (sym (encodes-chars t u)) ∙ mapped-encodes (chars t) (scalars-chars t u)

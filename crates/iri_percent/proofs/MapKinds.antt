@@ -39,17 +39,9 @@ mapped-authority_text : (o : Option (List ℕ)) → mapped (authority_text o) �
 mapped-authority_text None = refl
 mapped-authority_text (Some x) = refl
 
-mapped-query_text : (o : Option (List ℕ)) → mapped (delimited 63 o) ≡ delimited 63 (option_map mapped o)
-mapped-query_text None = refl
-mapped-query_text (Some x) = refl
-
-mapped-fragment_text : (o : Option (List ℕ)) → mapped (delimited 35 o) ≡ delimited 35 (option_map mapped o)
-mapped-fragment_text None = refl
-mapped-fragment_text (Some x) = refl
-
-mapped-port_text : (o : Option (List ℕ)) → mapped (delimited 58 o) ≡ delimited 58 (option_map mapped o)
-mapped-port_text None = refl
-mapped-port_text (Some x) = refl
+mapped-delimited : (c : ℕ) (o : Option (List ℕ)) → nat_lt c 128 ≡ true → mapped (delimited c o) ≡ delimited c (option_map mapped o)
+mapped-delimited c None h = refl
+mapped-delimited c (Some x) h = mapped-low c x h
 
 mapped-userinfo_text : (o : Option (List ℕ)) → mapped (userinfo_text o) ≡ userinfo_text (option_map mapped o)
 mapped-userinfo_text None = refl
@@ -65,15 +57,15 @@ mapped-recomposed t =
       mapped-authority_text t.authority,
       mapped-append t.path (delimited 63 t.query ++ delimited 35 t.fragment),
       mapped-append (delimited 63 t.query) (delimited 35 t.fragment),
-      mapped-query_text t.query,
-      mapped-fragment_text t.fragment,
+      mapped-delimited 63 t.query refl,
+      mapped-delimited 35 t.fragment refl,
     ) refl
 
 pub mapped-recomposed_authority : (a : AuthorityParts) → mapped (recompose_authority a) ≡ recompose_authority (mapped_authority a)
 unfolding recompose_authority
 mapped-recomposed_authority a =
     mapped-append (userinfo_text a.userinfo) (a.host ++ delimited 58 a.port)
-    ∙ rw (mapped-userinfo_text a.userinfo, mapped-append a.host (delimited 58 a.port), mapped-port_text a.port) refl
+    ∙ rw (mapped-userinfo_text a.userinfo, mapped-append a.host (delimited 58 a.port), mapped-delimited 58 a.port refl) refl
 
 -- ---- classes
 low_class : (a u : Bool) → u ≡ false → (a || u) ≡ true → (a || false) ≡ true
@@ -141,23 +133,19 @@ mapped-host s x k h =
     ] refl h
 
 -- ---- authorities
-userinfo-fits : (s : Tests) (o : Option (List ℕ)) → IsSpec s → if_there (is_userinfo s) o ≡ true
-    → if_there (is_userinfo uri_tests) (option_map mapped o) ≡ true
-userinfo-fits s None k h = refl
-userinfo-fits s (Some u) k h = mapped-userinfo s u k h
-
-port-fits : (o : Option (List ℕ)) → if_there is_port o ≡ true → if_there is_port (option_map mapped o) ≡ true
-port-fits None h = refl
-port-fits (Some x) h = ap is_port (mapped-port x h) ∙ h
+part-there : (p q : List ℕ → Bool) → ((x : List ℕ) → p x ≡ true → q (mapped x) ≡ true) → (o : Option (List ℕ)) → if_there p o ≡ true
+    → if_there q (option_map mapped o) ≡ true
+part-there p q k None h = refl
+part-there p q k (Some x) h = k x h
 
 pub authority-reads : (s : Tests) (t : List ℕ) → IsSpec s → is_authority s t ≡ true → FitsAuthority s (authority_parts t)
 authority-reads s t k h = let r = (authority_law s k t).0 h in subst (λ a. FitsAuthority s a) (sym (reading_is s k t r.0 r.1)) r.1.0
 
 authority-fits : (s : Tests) (a : AuthorityParts) → IsSpec s → FitsAuthority s a → FitsAuthority uri_tests (mapped_authority a)
 authority-fits s a k f = record {
-  userinfo = userinfo-fits s a.userinfo k f.userinfo;
+  userinfo = part-there (is_userinfo s) (is_userinfo uri_tests) (λ x. mapped-userinfo s x k) a.userinfo f.userinfo;
   host = mapped-host s a.host k f.host;
-  port = port-fits a.port f.port;
+  port = part-there is_port is_port (λ x h. ap is_port (mapped-port x h) ∙ h) a.port f.port;
 }
 
 -- the mapped authority, and how it is read
@@ -176,26 +164,7 @@ mapped-authority s t k h =
       parts = reading_is uri_tests uri-spec (mapped t) (mapped_authority a) (g, text);
     }
 
--- ---- the other parts, where they stand
-scheme-fits : (o : Option (List ℕ)) → if_there is_scheme o ≡ true → if_there is_scheme (option_map mapped o) ≡ true
-scheme-fits None h = refl
-scheme-fits (Some x) h = ap is_scheme (mapped-scheme x h) ∙ h
-
-authority-there : (s : Tests) (o : Option (List ℕ)) → IsSpec s → if_there (is_authority s) o ≡ true
-    → if_there (is_authority uri_tests) (option_map mapped o) ≡ true
-authority-there s None k h = refl
-authority-there s (Some x) k h = (mapped-authority s x k h).whole
-
-query-fits : (s : Tests) (o : Option (List ℕ)) → IsSpec s → if_there (is_query s) o ≡ true
-    → if_there (is_query uri_tests) (option_map mapped o) ≡ true
-query-fits s None k h = refl
-query-fits s (Some x) k h = mapped-query s x k h
-
-fragment-fits : (s : Tests) (o : Option (List ℕ)) → IsSpec s → if_there (is_fragment s) o ≡ true
-    → if_there (is_fragment uri_tests) (option_map mapped o) ≡ true
-fragment-fits s None k h = refl
-fragment-fits s (Some x) k h = mapped-fragment s x k h
-
+-- ---- all parts
 mapped-rules : (o a : Option (List ℕ)) (p : List ℕ) → path_rules (option_map mapped o) (option_map mapped a) (mapped p) ≡ path_rules o a p
 mapped-rules None (Some a) p = rw (mapped-empty p, mapped-slash p) refl
 mapped-rules (Some x) (Some a) p = rw (mapped-empty p, mapped-slash p) refl
@@ -204,11 +173,11 @@ mapped-rules None None p = rw (mapped-slashes p, mapped-before 47 p slash-apart,
 
 pub mapped-fits : (s : Tests) (t : Parts) → IsSpec s → Fits s t → Fits uri_tests (mapped_parts t)
 mapped-fits s t k f = record {
-  scheme = scheme-fits t.scheme f.scheme;
-  authority = authority-there s t.authority k f.authority;
+  scheme = part-there is_scheme is_scheme (λ x h. ap is_scheme (mapped-scheme x h) ∙ h) t.scheme f.scheme;
+  authority = part-there (is_authority s) (is_authority uri_tests) (λ x h. (mapped-authority s x k h).whole) t.authority f.authority;
   path = mapped-path s t.path k f.path;
-  query = query-fits s t.query k f.query;
-  fragment = fragment-fits s t.fragment k f.fragment;
+  query = part-there (is_query s) (is_query uri_tests) (λ x. mapped-query s x k) t.query f.query;
+  fragment = part-there (is_fragment s) (is_fragment uri_tests) (λ x. mapped-fragment s x k) t.fragment f.fragment;
   rules = mapped-rules t.scheme t.authority t.path ∙ f.rules;
 }
 

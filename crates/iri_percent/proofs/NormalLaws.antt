@@ -1,11 +1,13 @@
 -- Triplet normal form, unit by unit.
-use Rattle.iri_percent.proofs.Common.{◌≡◌, ℕ, true, false, cond, ◌&&◌, List, [], ◌∷◌, ◌++◌, Some, None, refl, sym, ◌∙◌, ap, subst, ◌==◌}
-use Rattle.iri_percent.proofs.Common.{map, not, list_all, is_ascii_hexdigit, to_ascii_uppercase, encode_utf8, scalar, Tests, unreserved}
+use Rattle.iri_percent.proofs.Common.{◌≡◌, ℕ, true, false, cond, List, [], ◌∷◌, ◌++◌, Some, None, refl, sym, ◌∙◌, ap, subst, ◌==◌}
+use Rattle.iri_percent.proofs.Common.{map, list_all, is_ascii_hexdigit, to_ascii_uppercase, encode_utf8, scalar, Tests, unreserved}
 use Rattle.iri_percent.proofs.Common.{lacks, both, TextUnit, Plain, Char, Lone, octet, octets, first_char, units, normal, written}
-use Rattle.iri_percent.proofs.Common.{all_written, decoded, unreserved_only}
+use Rattle.iri_percent.proofs.Common.{decoded, unreserved_only}
 use Rattle.iri_percent.proofs.CharLaws.{normal-by_bytes}
 use Rattle.iri_percent.proofs.UnitLaws.{Spells, none, more, spelled, octets_triplet, BeginsChar, first_char_is, is_continuation}
 use Rattle.iri_percent.proofs.UnitLaws.{encode_bytes, continuation_none, units_plain, units_lone, units_char}
+use Rattle.iri_percent.proofs.UnitLaws.{lacks_first}
+use Rattle.iri_percent.proofs.Common.{flat_map}
 
 pub normal_nil : (s : Tests) (f : ℕ → ℕ) → normal s f [] ≡ []
 unfolding normal Rattle.iri_percent.specs.CharUnits.char_units_from
@@ -13,7 +15,7 @@ normal_nil s f = refl
 
 by_units : (s : Tests) (f : ℕ → ℕ) (t : List ℕ) (u : TextUnit) (xs : List ℕ) → units t ≡ u ∷ units xs
     → normal s f t ≡ written s f u ++ normal s f xs
-by_units s f t u xs h = normal-by_bytes s f t ∙ ap (all_written s f) h ∙ ap (λ l. written s f u ++ l) (sym (normal-by_bytes s f xs))
+by_units s f t u xs h = normal-by_bytes s f t ∙ ap (flat_map (written s f)) h ∙ ap (λ l. written s f u ++ l) (sym (normal-by_bytes s f xs))
 
 pub normal_plain : (s : Tests) (f : ℕ → ℕ) (x : ℕ) (xs : List ℕ) → (x == 37) ≡ false → normal s f (x ∷ xs) ≡ f x ∷ normal s f xs
 normal_plain s f x xs h = by_units s f (x ∷ xs) (Plain x) xs (units_plain x xs h)
@@ -21,11 +23,8 @@ normal_plain s f x xs h = by_units s f (x ∷ xs) (Plain x) xs (units_plain x xs
 pub normal_plains : (s : Tests) (f : ℕ → ℕ) (ys xs : List ℕ) → lacks 37 ys ≡ true → normal s f (ys ++ xs) ≡ map f ys ++ normal s f xs
 normal_plains s f [] xs h = refl
 normal_plains s f (y ∷ ys) xs h =
-    elim (y == 37) as (λ b. (y == 37) ≡ b → (not b && lacks 37 ys) ≡ true
-    → normal s f (y ∷ (ys ++ xs)) ≡ f y ∷ (map f ys ++ normal s f xs)) [
-      | true ↦ λ _ k. cc
-      | false ↦ λ e k. normal_plain s f y (ys ++ xs) e ∙ ap (λ l. f y ∷ l) (normal_plains s f ys xs k)
-    ] refl h
+    let k = lacks_first y ys h in
+    normal_plain s f y (ys ++ xs) k.0 ∙ ap (λ l. f y ∷ l) (normal_plains s f ys xs k.1)
 
 pub normal_lone : (s : Tests) (f : ℕ → ℕ) (a b : ℕ) (xs : List ℕ) → is_ascii_hexdigit a ≡ true → is_ascii_hexdigit b ≡ true
     → first_char (octets (37 ∷ a ∷ b ∷ xs)) ≡ None

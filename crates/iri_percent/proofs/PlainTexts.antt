@@ -1,6 +1,6 @@
 -- Texts that are in normal form as they stand, or in lower case.
 use Rattle.iri_percent.proofs.Common.{◌≡◌, ℕ, zero, suc, true, false, not, ◌&&◌, List, [], ◌∷◌, ◌++◌, Option, Some, None, refl, sym, ◌∙◌}
-use Rattle.iri_percent.proofs.Common.{ap, arith, map, append-nil, length, subst, ◌==◌, option_map, list_all, IsAscii, is_ascii_digit}
+use Rattle.iri_percent.proofs.Common.{ap, arith, map, append-nil, length, subst, option_map, list_all, IsAscii, is_ascii_digit}
 use Rattle.iri_percent.proofs.Common.{to_ascii_lowercase, nat_tests, map-id, lt-ltb, Tests, ascii_test, if_there, is_port, AuthorityParts}
 use Rattle.iri_percent.proofs.Common.{authority_parts, recompose_authority, userinfo_text, lacks, delimited, all-lacks, both, is_ascii_host}
 use Rattle.iri_percent.proofs.Common.{normal_authority, normal_host, as_it_is, normal, pct, NoCandidate, case_of}
@@ -14,21 +14,19 @@ use Rattle.iri_grammar.proofs.AuthorityTexts.{all_below, digit-below, port-digit
 use Rattle.iri_grammar.proofs.ClassLaws.{ascii_test_below, no_percent}
 use Rattle.iri_grammar.proofs.CutLaws.{lacks-append, test_apart}
 use Rattle.iri_grammar.proofs.PlainAuthorities.{port_small}
-use Rattle.iri_percent.specs.DelimiterLaws.{IsOutsideTriplets}
+use Rattle.iri_percent.specs.Units.{IsOutsideTriplets}
 use Rattle.iri_percent.specs.NormalHost.{normal_authority_parts, normal_port, normal_userinfo}
 use Rattle.iri_percent.proofs.Changes.{run_all}
 use Rattle.iri_percent.proofs.Hosts.{host_case}
 use Rattle.iri_percent.proofs.DelimiterLaws.{pct_delimiter}
 use Rattle.iri_percent.proofs.NormalLaws.{normal_nil, normal_plains}
+use Rattle.iri_percent.proofs.UnitLaws.{lacks_first}
 
 -- ---- without a triplet
-percent_apart : (x : ℕ) (xs : List ℕ) → lacks 37 (x ∷ xs) ≡ true → (not (x == 37) ≡ true) × (lacks 37 xs ≡ true)
-percent_apart x xs h = both (not (x == 37)) (lacks 37 xs) h
-
 lacks-stays : (t : List ℕ) → lacks 37 t ≡ true → NoCandidate false t (length t)
 lacks-stays [] h k j = absurd (omega arith)
-lacks-stays (x ∷ xs) h zero j = rw (percent_apart x xs h).0 refl
-lacks-stays (x ∷ xs) h (suc k) j = lacks-stays xs (percent_apart x xs h).1 k (omega arith)
+lacks-stays (x ∷ xs) h zero j = rw (lacks_first x xs h).0 refl
+lacks-stays (x ∷ xs) h (suc k) j = lacks-stays xs (lacks_first x xs h).1 k (omega arith)
 
 pub pct-same : (s : Tests) (t : List ℕ) → lacks 37 t ≡ true → pct s t ≡ t
 pct-same s t h = run_all s false t (lacks-stays t h)

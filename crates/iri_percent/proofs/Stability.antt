@@ -1,19 +1,20 @@
 -- Triplet normal form is stable, and makes no new character in triplets.
-use Rattle.iri_percent.proofs.Common.{◌≡◌, ℕ, ◌<◌, ◌≤◌, true, false, cond, ◌&&◌, List, [], ◌∷◌, ◌++◌, None, refl, sym, ◌∙◌, ap, subst}
-use Rattle.iri_percent.proofs.Common.{arith, append_assoc, ◌==◌, map, not, is_ascii_hexdigit, digit_value, to_ascii_uppercase}
+use Rattle.iri_percent.proofs.Common.{◌≡◌, ℕ, ◌<◌, ◌≤◌, true, false, cond, List, [], ◌∷◌, ◌++◌, None, refl, sym, ◌∙◌, ap, subst}
+use Rattle.iri_percent.proofs.Common.{arith, append_assoc, ◌==◌, map, is_ascii_hexdigit, digit_value, to_ascii_uppercase}
 use Rattle.iri_percent.proofs.Common.{to_ascii_lowercase, encode_utf8, nat_tests, append-nil, Tests, IsSpec, unreserved}
 use Rattle.iri_percent.proofs.Common.{is_ascii_unreserved, lacks, TextUnit, Plain, Char, Lone, Stray, IllFormed, octet, octets, first_char}
-use Rattle.iri_percent.proofs.Common.{units, units_from, whole_triplets, plains, normal, as_it_is, pct, written, all_written, normal_units}
+use Rattle.iri_percent.proofs.Common.{units, units_from, whole_triplets, plains, normal, as_it_is, pct, written, normal_unit}
 use Rattle.std.proofs.lemmas.Str.Ascii.{lowercase-lowercase, lowercase_ascii, uppercase-uppercase}
 use Rattle.iri_grammar.proofs.CutLaws.{by_test, lacks-other}
 use Rattle.iri_grammar.proofs.CutBytes.{lacks-encodes}
-use Rattle.iri_percent.specs.ByteForm.{normal_unit}
-use Rattle.iri_percent.proofs.CharLaws.{all_written-append, written_plains, normal-by_bytes}
+use Rattle.std.proofs.lemmas.Grind.{flat_map-append}
+use Rattle.iri_percent.proofs.CharLaws.{written_plains, normal-by_bytes}
 use Rattle.iri_percent.proofs.UnitLaws.{Spells, none, more, octets_other, octets_triplet, octets_spelled, encode_bytes, none_before}
-use Rattle.iri_percent.proofs.UnitLaws.{units_plain, units_lone, units_char}
+use Rattle.iri_percent.proofs.UnitLaws.{lacks_first, units_plain, units_plains, units_lone, units_char}
 use Rattle.iri_percent.proofs.NormalLaws.{normal_nil, normal_plain, normal_lone, normal_char}
 use Rattle.iri_percent.proofs.Reading.{Reading, done, plain, char, lone, whole_plain, whole_triplet, whole_after, read}
 pub use Rattle.std.proofs.lemmas.Str.Ascii.{uppercase-uppercase as upper_twice}
+use Rattle.iri_percent.proofs.Common.{flat_map}
 
 -- what may be done to characters outside triplets: it makes no `%`, and once is enough
 pub record IsCase (f : ℕ → ℕ) : Type 0 where
@@ -67,10 +68,8 @@ encode_percent c h = ap (lacks 37) (sym (append-nil (encode_utf8 c))) ∙ lacks-
 pub map_percent : (f : ℕ → ℕ) (xs : List ℕ) → IsCase f → lacks 37 xs ≡ true → lacks 37 (map f xs) ≡ true
 map_percent f [] k h = refl
 map_percent f (x ∷ xs) k h =
-    elim (x == 37) as (λ b. (x == 37) ≡ b → (not b && lacks 37 xs) ≡ true → (not (f x == 37) && lacks 37 (map f xs)) ≡ true) [
-      | true ↦ λ _ l. cc
-      | false ↦ λ e l. lacks-other 37 (f x) (map f xs) (k.percent x e) (map_percent f xs k l)
-    ] refl h
+    let j = lacks_first x xs h in
+    lacks-other 37 (f x) (map f xs) (k.percent x j.0) (map_percent f xs k j.1)
 
 pub written_percent : (s : Tests) (f : ℕ → ℕ) (c : ℕ) → IsSpec s → IsCase f → unreserved s c ≡ true
     → lacks 37 (map f (encode_utf8 c)) ≡ true
@@ -79,9 +78,7 @@ written_percent s f c k i h = map_percent f (encode_utf8 c) i (encode_percent c 
 -- ---- the octets at the start
 octets_lacks : (ys xs : List ℕ) → lacks 37 ys ≡ true → (y : ℕ) (zs : List ℕ) → ys ≡ y ∷ zs → octets (ys ++ xs) ≡ []
 octets_lacks [] xs h y zs e = cc
-octets_lacks (x ∷ ys) xs h y zs e =
-    elim (x == 37) as (λ b. (x == 37) ≡ b → (not b && lacks 37 ys) ≡ true
-    → octets (x ∷ (ys ++ xs)) ≡ []) [ true ↦ λ _ l. cc | false ↦ λ n _. octets_other x (ys ++ xs) n ] refl h
+octets_lacks (x ∷ ys) xs h y zs e = octets_other x (ys ++ xs) (lacks_first x ys h).0
 
 pub decoded_octets : (s : Tests) (f : ℕ → ℕ) (c : ℕ) (xs : List ℕ) → IsSpec s → IsCase f → unreserved s c ≡ true
     → octets (map f (encode_utf8 c) ++ xs) ≡ []
@@ -138,40 +135,32 @@ lone_stays s f a b xs k i p q n r =
     (octets_triplet a b xs p q ∙ ap (λ l. octet a b ∷ l) rest.1 ∙ ap (λ l. l ++ rest.0) (sym now)) n
 
 -- ---- the units of the normal form
-units_plains : (ys xs : List ℕ) → lacks 37 ys ≡ true → units (ys ++ xs) ≡ plains ys ++ units xs
-units_plains [] xs h = refl
-units_plains (y ∷ ys) xs h =
-    elim (y == 37) as (λ b. (y == 37) ≡ b → (not b && lacks 37 ys) ≡ true → units (y ∷ (ys ++ xs)) ≡ Plain y ∷ (plains ys ++ units xs)) [
-      | true ↦ λ _ l. cc
-      | false ↦ λ e l. units_plain y (ys ++ xs) e ∙ ap (λ us. Plain y ∷ us) (units_plains ys xs l)
-    ] refl h
-
 units_nil : units [] ≡ []
 unfolding units_from
 units_nil = refl
 
-units_read : (s : Tests) (f : ℕ → ℕ) (t : List ℕ) → IsSpec s → IsCase f → Reading t → units (normal s f t) ≡ normal_units s f (units t)
-units_read s f t k i done = ap units (normal_nil s f) ∙ units_nil ∙ ap (normal_units s f) (sym units_nil)
+units_read : (s : Tests) (f : ℕ → ℕ) (t : List ℕ) → IsSpec s → IsCase f → Reading t → units (normal s f t) ≡ flat_map (normal_unit s f) (units t)
+units_read s f t k i done = ap units (normal_nil s f) ∙ units_nil ∙ ap (flat_map (normal_unit s f)) (sym units_nil)
 units_read s f t k i (plain x xs h r) =
     ap units (normal_plain s f x xs h) ∙ units_plain (f x) (normal s f xs) (i.percent x h)
-    ∙ ap (λ us. Plain (f x) ∷ us) (units_read s f xs k i r) ∙ ap (normal_units s f) (sym (units_plain x xs h))
+    ∙ ap (λ us. Plain (f x) ∷ us) (units_read s f xs k i r) ∙ ap (flat_map (normal_unit s f)) (sym (units_plain x xs h))
 units_read s f t k i (lone a b xs p q n r) =
     ap units (normal_lone s f a b xs p q n)
     ∙ units_lone (to_ascii_uppercase a) (to_ascii_uppercase b) (normal s f xs) (upper_hex a p) (upper_hex b q)
     (lone_stays s f a b xs k i p q n r)
     ∙ ap (λ us. Lone (to_ascii_uppercase a) (to_ascii_uppercase b) ∷ us) (units_read s f xs k i r)
-    ∙ ap (normal_units s f) (sym (units_lone a b xs p q n))
+    ∙ ap (flat_map (normal_unit s f)) (sym (units_lone a b xs p q n))
 units_read s f t k i (char c sp xs h sps r) =
     let rest = units_read s f xs k i r in
-    ap units (normal_char s f c sp xs h sps) ∙ at rest ∙ ap (normal_units s f) (sym (units_char c sp xs h sps))
+    ap units (normal_char s f c sp xs h sps) ∙ at rest ∙ ap (flat_map (normal_unit s f)) (sym (units_char c sp xs h sps))
   where
-    at : units (normal s f xs) ≡ normal_units s f (units xs)
+    at : units (normal s f xs) ≡ flat_map (normal_unit s f) (units xs)
         → units (cond (unreserved s c) (map f (encode_utf8 c)) (map to_ascii_uppercase sp) ++ normal s f xs)
-        ≡ normal_unit s f (Char c sp) ++ normal_units s f (units xs)
+        ≡ normal_unit s f (Char c sp) ++ flat_map (normal_unit s f) (units xs)
     at rest =
         elim (unreserved s c) as (λ b. unreserved s c ≡ b
         → units (cond b (map f (encode_utf8 c)) (map to_ascii_uppercase sp) ++ normal s f xs)
-        ≡ cond b (plains (map f (encode_utf8 c))) (Char c (map to_ascii_uppercase sp) ∷ []) ++ normal_units s f (units xs)) [
+        ≡ cond b (plains (map f (encode_utf8 c))) (Char c (map to_ascii_uppercase sp) ∷ []) ++ flat_map (normal_unit s f) (units xs)) [
           | true ↦ λ u. units_plains (map f (encode_utf8 c)) (normal s f xs) (written_percent s f c k i u)
               ∙ ap (λ us. plains (map f (encode_utf8 c)) ++ us) rest
           | false ↦ λ _. units_char c (map to_ascii_uppercase sp) (normal s f xs) h (upper_spells sp (encode_utf8 c) sps)
@@ -179,7 +168,7 @@ units_read s f t k i (char c sp xs h sps r) =
         ] refl
 
 pub units-normal : (s : Tests) (f : ℕ → ℕ) (t : List ℕ) → IsSpec s → IsCase f → whole_triplets t ≡ true
-    → units (normal s f t) ≡ normal_units s f (units t)
+    → units (normal s f t) ≡ flat_map (normal_unit s f) (units t)
 units-normal s f t k i w = units_read s f t k i (read t w)
 
 -- ---- stability
@@ -187,11 +176,11 @@ map_twice : (f : ℕ → ℕ) → ((x : ℕ) → f (f x) ≡ f x) → (xs : List
 map_twice f e [] = refl
 map_twice f e (x ∷ xs) = ap (λ y. y ∷ map f (map f xs)) (e x) ∙ ap (λ l. f x ∷ l) (map_twice f e xs)
 
-unit_twice : (s : Tests) (f : ℕ → ℕ) (u : TextUnit) → IsCase f → all_written s f (normal_unit s f u) ≡ written s f u
+unit_twice : (s : Tests) (f : ℕ → ℕ) (u : TextUnit) → IsCase f → flat_map (written s f) (normal_unit s f u) ≡ written s f u
 unit_twice s f (Plain c) i = ap (λ x. x ∷ []) (i.twice c)
 unit_twice s f (Char c sp) i =
     elim (unreserved s c) as (λ b. unreserved s c ≡ b
-    → all_written s f (cond b (plains (map f (encode_utf8 c))) (Char c (map to_ascii_uppercase sp) ∷ []))
+    → flat_map (written s f) (cond b (plains (map f (encode_utf8 c))) (Char c (map to_ascii_uppercase sp) ∷ []))
     ≡ cond b (map f (encode_utf8 c)) (map to_ascii_uppercase sp)) [
       | true ↦ λ _. written_plains s f (map f (encode_utf8 c)) ∙ map_twice f i.twice (encode_utf8 c)
       | false ↦ λ u. ap (λ b. cond b (map f (encode_utf8 c)) (map to_ascii_uppercase (map to_ascii_uppercase sp)) ++ []) u
@@ -201,15 +190,15 @@ unit_twice s f (Lone a b) i = rw (uppercase-uppercase a, uppercase-uppercase b) 
 unit_twice s f Stray i = refl
 unit_twice s f (IllFormed b) i = ap (λ x. x ∷ []) (i.twice b)
 
-units_twice : (s : Tests) (f : ℕ → ℕ) (us : List TextUnit) → IsCase f → all_written s f (normal_units s f us) ≡ all_written s f us
+units_twice : (s : Tests) (f : ℕ → ℕ) (us : List TextUnit) → IsCase f → flat_map (written s f) (flat_map (normal_unit s f) us) ≡ flat_map (written s f) us
 units_twice s f [] i = refl
 units_twice s f (u ∷ us) i =
-    all_written-append s f (normal_unit s f u) (normal_units s f us)
-    ∙ ap (λ l. l ++ all_written s f (normal_units s f us)) (unit_twice s f u i) ∙ ap (λ l. written s f u ++ l) (units_twice s f us i)
+    flat_map-append (written s f) (normal_unit s f u) (flat_map (normal_unit s f) us)
+    ∙ ap (λ l. l ++ flat_map (written s f) (flat_map (normal_unit s f) us)) (unit_twice s f u i) ∙ ap (λ l. written s f u ++ l) (units_twice s f us i)
 
 pub normal-stable : (s : Tests) (f : ℕ → ℕ) (t : List ℕ) → IsSpec s → IsCase f → whole_triplets t ≡ true
     → normal s f (normal s f t) ≡ normal s f t
-normal-stable s f t k i w = normal-by_bytes s f (normal s f t) ∙ ap (all_written s f) (units-normal s f t k i w)
+normal-stable s f t k i w = normal-by_bytes s f (normal s f t) ∙ ap (flat_map (written s f)) (units-normal s f t k i w)
     ∙ units_twice s f (units t) i ∙ sym (normal-by_bytes s f t)
 
 pub pct-stable : (s : Tests) (t : List ℕ) → IsSpec s → whole_triplets t ≡ true → pct s (pct s t) ≡ pct s t
@@ -218,11 +207,7 @@ pct-stable s t k w = normal-stable s as_it_is t k as_it_is-case w
 -- ---- the normal form has no stray `%` either
 pub whole_plains : (ys xs : List ℕ) → lacks 37 ys ≡ true → whole_triplets (ys ++ xs) ≡ whole_triplets xs
 whole_plains [] xs h = refl
-whole_plains (y ∷ ys) xs h =
-    elim (y == 37) as (λ b. (y == 37) ≡ b → (not b && lacks 37 ys) ≡ true → whole_triplets (y ∷ (ys ++ xs)) ≡ whole_triplets xs) [
-      | true ↦ λ _ l. cc
-      | false ↦ λ e l. whole_plain y (ys ++ xs) e ∙ whole_plains ys xs l
-    ] refl h
+whole_plains (y ∷ ys) xs h = let k = lacks_first y ys h in whole_plain y (ys ++ xs) k.0 ∙ whole_plains ys xs k.1
 
 whole_read : (s : Tests) (f : ℕ → ℕ) (t : List ℕ) → IsSpec s → IsCase f → Reading t → whole_triplets (normal s f t) ≡ true
 unfolding whole_triplets

@@ -9,6 +9,7 @@ use Rattle.std.proofs.lemmas.Str.{chars-append, chars-encodes, IsUtf8-encode}
 use Rattle.std.proofs.lemmas.Bool.{and_from}
 use Rattle.iri_grammar.proofs.Units.{hex_is_ascii}
 use Rattle.iri_percent.specs.Units.{starts_with, well_formed}
+use Rattle.iri_percent.proofs.Common.{lacks, not-true, not, plains}
 
 -- ---- octets
 pub hex_apart : (x : ℕ) → is_ascii_hexdigit x ≡ true → (x == 37) ≡ false
@@ -20,6 +21,10 @@ pub encodes_triplet : (a b : ℕ) (cs : List ℕ) → is_ascii_hexdigit a ≡ tr
 encodes_triplet a b cs p q = ap (λ l. l ++ (encode a ++ (encode b ++ encodes cs))) (encode_ascii 37 (omega arith))
     ∙ ap (λ l. 37 ∷ (l ++ (encode b ++ encodes cs))) (encode_ascii a (hex_is_ascii a p))
     ∙ ap (λ l. 37 ∷ a ∷ (l ++ encodes cs)) (encode_ascii b (hex_is_ascii b q))
+
+-- a text without `%` begins with another byte
+pub lacks_first : (x : ℕ) (xs : List ℕ) → lacks 37 (x ∷ xs) ≡ true → ((x == 37) ≡ false) × (lacks 37 xs ≡ true)
+lacks_first x xs h = let k = both (not (x == 37)) (lacks 37 xs) h in (not-true (x == 37) k.0, k.1)
 
 pub octets_other : (x : ℕ) (xs : List ℕ) → (x == 37) ≡ false → octets (x ∷ xs) ≡ []
 octets_other x [] h = refl
@@ -151,6 +156,16 @@ pub record Bytes (c : ℕ) (os : List ℕ) : Type 0 where
 pub next_continues : (x : ℕ) → is_continuation (next x) ≡ true
 next_continues x = grind (arith, nat_tests)
 
+far_bytes : (c lead : ℕ) (tail : List ℕ) → ltb c 128 ≡ false → 192 ≤ lead → list_all is_continuation tail ≡ true → Bytes c (lead ∷ tail)
+far_bytes c lead tail e h k = record {
+  lead = lead;
+  tail = tail;
+  split = refl;
+  leads = grind (arith, nat_tests);
+  continue = k;
+  percent = grind (arith, nat_tests);
+}
+
 pub encode_bytes : (c : ℕ) → Bytes c (encode c)
 unfolding encode
 encode_bytes c =
@@ -162,45 +177,16 @@ encode_bytes c =
       | false ↦ λ e. elim (ltb c 2048) as (λ b. Bytes c
           (cond b ((192 + c / 64) ∷ next c ∷ []) (cond (ltb c 65536) ((224 + c / 4096) ∷ next (c / 64) ∷ next c ∷ [])
           ((240 + c / 262144) ∷ next (c / 4096) ∷ next (c / 64) ∷ next c ∷ [])))) [
-            | true ↦ record {
-              lead = 192 + c / 64;
-              tail = next c ∷ [];
-              split = refl;
-              leads = high (192 + c / 64) (omega arith);
-              continue = rw (next_continues c) refl;
-              percent = far (192 + c / 64) c (omega arith) e;
-            }
-            | false ↦ elim (ltb c 65536) as (λ b. Bytes c
-                (cond b ((224 + c / 4096) ∷ next (c / 64) ∷ next c ∷ [])
+            | true ↦ far_bytes c (192 + c / 64) (next c ∷ []) e (omega arith) (rw (next_continues c) refl)
+            | false ↦ elim (ltb c 65536) as (λ b. Bytes c (cond b ((224 + c / 4096) ∷ next (c / 64) ∷ next c ∷ [])
                 ((240 + c / 262144) ∷ next (c / 4096) ∷ next (c / 64) ∷ next c ∷ []))) [
-                  | true ↦ record {
-                    lead = 224 + c / 4096;
-                    tail = next (c / 64) ∷ next c ∷ [];
-                    split = refl;
-                    leads = high (224 + c / 4096) (omega arith);
-                    continue = rw (next_continues (c / 64), next_continues c) refl;
-                    percent =
-                        far (224 + c / 4096) c (omega arith) e;
-                  }
-                  | false ↦ record {
-                    lead = 240 + c / 262144;
-                    tail = next (c / 4096) ∷ next (c / 64) ∷ next c ∷ [];
-                    split = refl;
-                    leads = high (240 + c / 262144) (omega arith);
-                    continue =
-                        rw (next_continues (c / 4096), next_continues (c / 64), next_continues c) refl;
-                    percent =
-                        far (240 + c / 262144) c (omega arith) e;
-                  }
+                  | true ↦ far_bytes c (224 + c / 4096) (next (c / 64) ∷ next c ∷ []) e (omega arith)
+                      (rw (next_continues (c / 64), next_continues c) refl)
+                  | false ↦ far_bytes c (240 + c / 262144) (next (c / 4096) ∷ next (c / 64) ∷ next c ∷ []) e (omega arith)
+                      (rw (next_continues (c / 4096), next_continues (c / 64), next_continues c) refl)
                 ]
           ]
     ] refl
-  where
-    high : (x : ℕ) → 192 ≤ x → is_continuation x ≡ false
-    high x h = grind (arith, nat_tests)
-
-    far : (x c : ℕ) → 192 ≤ x → ltb c 128 ≡ false → (x == 37) ≡ (c == 37)
-    far x c h e = grind (arith, nat_tests)
 
 -- no character begins with a byte that continues one
 pub continuation_none : (b : ℕ) (bs : List ℕ) → is_continuation b ≡ true → first_char (b ∷ bs) ≡ None
@@ -232,6 +218,10 @@ byte_other x (a ∷ b ∷ xs) h = rw h refl
 pub units_plain : (x : ℕ) (xs : List ℕ) → (x == 37) ≡ false → units (x ∷ xs) ≡ Plain x ∷ units xs
 unfolding units_from
 units_plain x xs h = ap (λ u. u ∷ units_from (length (unit_text u) - 1) xs) (byte_other x xs h)
+
+pub units_plains : (ys xs : List ℕ) → lacks 37 ys ≡ true → units (ys ++ xs) ≡ plains ys ++ units xs
+units_plains [] xs h = refl
+units_plains (y ∷ ys) xs h = let k = lacks_first y ys h in units_plain y (ys ++ xs) k.0 ∙ ap (λ us. Plain y ∷ us) (units_plains ys xs k.1)
 
 pub unit_lone : (a b : ℕ) (xs : List ℕ) → is_ascii_hexdigit a ≡ true → is_ascii_hexdigit b ≡ true
     → first_char (octets (37 ∷ a ∷ b ∷ xs)) ≡ None → first_unit 37 (a ∷ b ∷ xs) ≡ Lone a b

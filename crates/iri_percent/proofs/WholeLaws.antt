@@ -1,5 +1,5 @@
 -- Each part of a reference has whole triplets.
-use Rattle.iri_percent.proofs.Common.{◌≡◌, ℕ, Bool, true, false, cond, not, ◌&&◌, ◌||◌, List, [], ◌∷◌, ◌++◌, refl, sym, ◌∙◌, ap, arith}
+use Rattle.iri_percent.proofs.Common.{◌≡◌, ℕ, Bool, true, false, cond, ◌||◌, List, [], ◌∷◌, ◌++◌, refl, sym, ◌∙◌, ap, arith}
 use Rattle.iri_percent.proofs.Common.{◌==◌, chars, is_utf8, encode, encodes, encodes-chars, IsUtf8-from_is_utf8, Tests, IsSpec}
 use Rattle.iri_percent.proofs.Common.{reg_name_char, userinfo_char, pchar, path_char, query_char, fragment_char, is_ascii_reg_name}
 use Rattle.iri_percent.proofs.Common.{is_ascii_userinfo, is_ascii_pchar, is_ascii_path, is_ascii_query, is_ascii_unreserved, is_sub_delim}
@@ -12,6 +12,7 @@ use Rattle.iri_grammar.specs.Over.{done, plain, triplet}
 use Rattle.iri_grammar.proofs.OverLaws.{units-from_over}
 use Rattle.iri_percent.proofs.Reading.{whole_plain, whole_triplet}
 use Rattle.iri_percent.proofs.Stability.{encode_percent, whole_plains}
+use Rattle.iri_percent.proofs.UnitLaws.{lacks_first}
 
 whole_nil : whole_triplets [] ≡ true
 unfolding whole_triplets
@@ -19,9 +20,7 @@ whole_nil = refl
 
 pub lacks-whole : (xs : List ℕ) → lacks 37 xs ≡ true → whole_triplets xs ≡ true
 lacks-whole [] h = whole_nil
-lacks-whole (x ∷ xs) h =
-    elim (x == 37) as (λ b. (x == 37) ≡ b → (not b && lacks 37 xs) ≡ true
-    → whole_triplets (x ∷ xs) ≡ true) [ true ↦ λ _ l. cc | false ↦ λ e l. whole_plain x xs e ∙ lacks-whole xs l ] refl h
+lacks-whole (x ∷ xs) h = let k = lacks_first x xs h in whole_plain x xs k.0 ∙ lacks-whole xs k.1
 
 -- texts put together
 digits-append : (xs ys : List ℕ) → two_digits xs ≡ true → two_digits (xs ++ ys) ≡ true

@@ -1,5 +1,5 @@
 -- Triplet normal form, byte by byte. That it gives the same is a law.
-use Rattle.std.specs.Prelude.{ℕ, cond, List, [], ◌∷◌, ◌++◌, map}
+use Rattle.std.specs.Prelude.{ℕ, cond, List, [], ◌∷◌, map}
 use Rattle.std.specs.Char.{to_ascii_uppercase, encode_utf8}
 use Rattle.iri_grammar.specs.Classes.{Tests, unreserved}
 use Rattle.iri_percent.specs.Units.{TextUnit, Plain, Char, Lone, Stray, IllFormed}
@@ -14,10 +14,6 @@ written s f (Lone a b) = percent_sign ∷ to_ascii_uppercase a ∷ to_ascii_uppe
 written s f Stray = percent_sign ∷ []
 written s f (IllFormed b) = f b ∷ []
 
-abbrev pub all_written : Tests → (ℕ → ℕ) → List TextUnit → List ℕ
-all_written s f [] = []
-all_written s f (u ∷ us) = written s f u ++ all_written s f us
-
 -- what a unit of bytes is in the normal form: a decoded character stands outside triplets
 abbrev pub normal_unit : Tests → (ℕ → ℕ) → TextUnit → List TextUnit
 normal_unit s f (Plain x) = Plain (f x) ∷ []
@@ -25,7 +21,3 @@ normal_unit s f (Char c spelling) = cond (unreserved s c) (plains (map f (encode
 normal_unit s f (Lone a b) = Lone (to_ascii_uppercase a) (to_ascii_uppercase b) ∷ []
 normal_unit s f Stray = Stray ∷ []
 normal_unit s f (IllFormed b) = Plain (f b) ∷ []
-
-abbrev pub normal_units : Tests → (ℕ → ℕ) → List TextUnit → List TextUnit
-normal_units s f [] = []
-normal_units s f (u ∷ us) = normal_unit s f u ++ normal_units s f us

@@ -19,44 +19,21 @@ read_characters : char_units (codes "a%CE%b1" ++ (0xC3 ∷ 0xA9 ∷ []) ++ codes
 unfolding char_units_from units_from first_char chars encode
 read_characters = refl
 
--- RFC 3986 section 6.2.2.2: unreserved characters in triplets are decoded
-tilde : pct uri_tests (codes "%7ea") ≡ codes "~a"
+-- RFC 3986 sections 6.2.2.1 and 6.2.2.2: unreserved characters in triplets are decoded, and hex digits of other triplets are capital
+of_uri : (pct uri_tests (codes "%7ea") ≡ codes "~a") × (pct uri_tests (codes "%3c%3e") ≡ codes "%3C%3E")
+    × (pct uri_tests (codes "%ce%ce%b1%b1") ≡ codes "%CE%CE%B1%B1")
 unfolding normal char_units_from first_char chars encode unreserved is_ascii_unreserved
-tilde = refl
+of_uri = (refl, refl, refl)
 
--- section 6.2.2.1: hex digits of triplets are capital
-capitals : pct uri_tests (codes "%3c%3e") ≡ codes "%3C%3E"
-unfolding normal char_units_from first_char chars encode unreserved is_ascii_unreserved
-capitals = refl
-
-lone : pct iri_tests (codes "%80%cc%cc%cc") ≡ codes "%80%CC%CC%CC"
+-- triplets of no character stay, an overlong form too, and so does private use; `α` stands between two lone triplets (RFC 3987 section 5.3.2.3)
+of_iri : (pct iri_tests (codes "%80%cc%cc%cc") ≡ codes "%80%CC%CC%CC") × (pct iri_tests (codes "%e0%80%80") ≡ codes "%E0%80%80")
+    × (pct iri_tests (codes "%ce%ce%b1%b1") ≡ codes "%CE" ++ (0xCE ∷ 0xB1 ∷ []) ++ codes "%B1")
+    × (pct iri_tests (codes "%ee%80%80") ≡ codes "%EE%80%80")
 unfolding normal char_units_from first_char chars encode unreserved is_ascii_unreserved is_ucschar is_ucschar_plane
-lone = refl
-
-overlong : pct iri_tests (codes "%e0%80%80") ≡ codes "%E0%80%80"
-unfolding normal char_units_from first_char chars encode unreserved is_ascii_unreserved is_ucschar is_ucschar_plane
-overlong = refl
-
--- RFC 3987 section 5.3.2.3: `α` stands between two lone triplets
-alpha : pct iri_tests (codes "%ce%ce%b1%b1") ≡ codes "%CE" ++ (0xCE ∷ 0xB1 ∷ []) ++ codes "%B1"
-unfolding normal char_units_from first_char chars encode unreserved is_ascii_unreserved is_ucschar is_ucschar_plane
-alpha = refl
-
-alpha_of_uri : pct uri_tests (codes "%ce%ce%b1%b1") ≡ codes "%CE%CE%B1%B1"
-unfolding normal char_units_from first_char chars encode unreserved is_ascii_unreserved
-alpha_of_uri = refl
-
--- private use stays in triplets
-private_use : pct iri_tests (codes "%ee%80%80") ≡ codes "%EE%80%80"
-unfolding normal char_units_from first_char chars encode unreserved is_ascii_unreserved is_ucschar is_ucschar_plane
-private_use = refl
-
-authority : normal_authority uri_tests (codes "u%3a:P@H%2d:") ≡ codes "u%3A:P@h-"
-unfolding normal_authority authority_parts recompose_authority normal_host is_ascii_host normal char_units_from first_char chars encode
-    unreserved is_ascii_unreserved
-authority = refl
+of_iri = (refl, refl, refl, refl)
 
 -- a host past ASCII keeps its letters
-past_ascii : normal_host uri_tests (codes "%C3%89X.COM") ≡ codes "%C3%89X.COM"
-unfolding normal_host is_ascii_host normal char_units_from first_char chars encode unreserved is_ascii_unreserved
-past_ascii = refl
+hosts : (normal_authority uri_tests (codes "u%3a:P@H%2d:") ≡ codes "u%3A:P@h-") × (normal_host uri_tests (codes "%C3%89X.COM") ≡ codes "%C3%89X.COM")
+unfolding normal_authority authority_parts recompose_authority normal_host is_ascii_host normal char_units_from first_char chars encode
+    unreserved is_ascii_unreserved
+hosts = (refl, refl)

@@ -5,9 +5,6 @@ pub mod ByteForm
 pub mod NormalHost
 pub mod SchemeRules
 pub mod Examples
-pub mod DelimiterLaws
-pub mod NormalLaws
-pub mod UnitTexts
 pub mod Mapping
 pub mod MapExamples
 pub mod Decoding

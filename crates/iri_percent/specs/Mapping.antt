@@ -24,10 +24,6 @@ triplets (x ∷ xs) = triplet x ++ triplets xs
 abbrev pub mapped_char : ℕ → List ℕ
 mapped_char c = cond (nat_lt c 128) (c ∷ []) (triplets (encode_utf8 c))
 
-abbrev pub mapped_chars : List ℕ → List ℕ
-mapped_chars [] = []
-mapped_chars (c ∷ cs) = mapped_char c ++ mapped_chars cs
-
 -- ---- the parts of a mapped text are its parts, mapped. That they are is a law
 abbrev pub mapped_parts : Parts → Parts
 mapped_parts t = record {

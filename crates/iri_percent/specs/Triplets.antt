@@ -1,9 +1,9 @@
 -- Triplet normal form (RFC 3986 sections 6.2.2.1 and 6.2.2.2, RFC 3987 section 5.3.2.3).
-use Rattle.std.specs.Prelude.{ℕ, cond, List, [], ◌∷◌, map}
+use Rattle.std.specs.Prelude.{ℕ, cond, List, [], ◌∷◌, map, Option, Some, None}
 use Rattle.std.specs.List.{flat_map}
 use Rattle.std.specs.Char.{to_ascii_uppercase, encode_utf8}
 use Rattle.iri_grammar.specs.Classes.{Tests, unreserved}
-use Rattle.iri_percent.specs.Units.{TextUnit, Plain, Char, Lone, Stray, IllFormed}
+use Rattle.iri_percent.specs.Units.{TextUnit, Plain, Char, Lone, Stray, IllFormed, first_char}
 use Rattle.iri_percent.specs.CharUnits.{char_units}
 use Rattle.iri_grammar.specs.Characters.{percent_sign}
 
@@ -32,3 +32,11 @@ abbrev pub unit_in_form : Tests → TextUnit → TextUnit
 unit_in_form s (Char c spelling) = cond (unreserved s c) (Plain c) (Char c (map to_ascii_uppercase spelling))
 unit_in_form s (Lone a b) = Lone (to_ascii_uppercase a) (to_ascii_uppercase b)
 unit_in_form s u = u
+
+-- the unreserved character with which the octets begin
+abbrev pub unreserved_only : Tests → Option ℕ → Option ℕ
+unreserved_only s None = None
+unreserved_only s (Some c) = cond (unreserved s c) (Some c) None
+
+abbrev pub decoded : Tests → List ℕ → Option ℕ
+decoded s os = unreserved_only s (first_char os)

@@ -1,5 +1,5 @@
 -- The units of a text (RFC 3986 sections 2.1 and 6.2.2.2, RFC 3987 section 5.3.2.3). A text is the list of its bytes.
-use Rattle.std.specs.Prelude.{ℕ, zero, suc, ◌+◌, ◌*◌, ◌-◌, Bool, true, false, cond, ◌&&◌, ◌==◌, List, [], ◌∷◌, Option, Some, None, length}
+use Rattle.std.specs.Prelude.{◌≡◌, ℕ, zero, suc, ◌+◌, ◌*◌, ◌-◌, Bool, true, false, cond, ◌&&◌, ◌==◌, List, [], ◌∷◌, Option, Some, None, length}
 use Rattle.std.specs.Prelude.{take}
 use Rattle.std.specs.Char.{is_ascii_hexdigit, digit_value, len_utf8, encode_utf8}
 use Rattle.std.specs.Str.{chars}
@@ -80,3 +80,8 @@ two_digits xs = false
 unfoldable pub whole_triplets : List ℕ → Bool
 whole_triplets [] = true
 whole_triplets (x ∷ xs) = cond (x == percent_sign) (two_digits xs) true && whole_triplets xs
+
+-- a byte that is no part of a triplet
+pub record IsOutsideTriplets (m : ℕ) : Type 0 where
+  pub percent : (m == percent_sign) ≡ false
+  pub digit : is_ascii_hexdigit m ≡ false

@@ -1,7 +1,7 @@
 //! Percent-encoded characters.
 ghost use Rattle.std.specs.Prelude.{◌≡◌, ◌≤◌, ◌<◌, ◌∷◌};
 ghost use Rattle.iri_percent.specs.Units.{octets, first_char};
-ghost use Rattle.iri_percent.specs.NormalLaws.{decoded};
+ghost use Rattle.iri_percent.specs.Triplets.{decoded};
 ghost use Rattle.iri_percent.specs.inside.Octets.{char_from};
 
 use crate::octets::{split_bits, split_octet};

@@ -5,15 +5,13 @@ ghost use Rattle.std.specs.Char.{IsScalar, encode_utf8};
 ghost use Rattle.iri_grammar.specs.Classes.{uri_tests};
 ghost use Rattle.iri_grammar.specs.Components.{is_userinfo, is_path, is_path_segment, is_query, is_fragment};
 ghost use Rattle.iri_grammar.specs.Host.{is_host, is_reg_name};
-ghost use Rattle.iri_percent.specs.Units.{TextUnit, units, whole_triplets, first_char};
-ghost use Rattle.iri_percent.specs.UnitTexts.{units_text};
+ghost use Rattle.iri_percent.specs.Units.{TextUnit, units, unit_text, whole_triplets, first_char, IsOutsideTriplets};
 ghost use Rattle.iri_percent.specs.CharUnits.{char_units, char_unit_text, byte_units};
 ghost use Rattle.iri_percent.specs.Triplets.{pct, as_it_is, unit_in_form};
-ghost use Rattle.iri_percent.specs.ByteForm.{all_written, normal_units};
-ghost use Rattle.iri_percent.specs.DelimiterLaws.{IsOutsideTriplets};
+ghost use Rattle.iri_percent.specs.ByteForm.{written, normal_unit};
 ghost use Rattle.iri_grammar.specs.Parts.{IsReference, IsIri, IsAbsolute, IsRelative};
 ghost use Rattle.iri_grammar.specs.Split.{split_of};
-ghost use Rattle.iri_percent.specs.Mapping.{mapped, mapped_chars, mapped_parts};
+ghost use Rattle.iri_percent.specs.Mapping.{mapped, mapped_char, mapped_parts};
 ghost use Rattle.iri_percent.specs.Decoding.{decoding, has_triplet, fragments, fragment_bytes};
 ghost use Rattle.iri_percent.specs.Encoding.{keeps, encoded};
 ghost use Rattle.iri_percent.specs.declared.context.Context.{Context};
@@ -24,7 +22,7 @@ use iri_grammar::spec::Spec;
 /// The units of a text, put together, are the text; and octets begin with a character exactly where they begin with
 /// its UTF-8.
 pub fn units_of_texts()
-    ensures whole { (t : List ℕ) → units_text (units t) ≡ t }
+    ensures whole { (t : List ℕ) → flat_map unit_text (units t) ≡ t }
     ensures character { (os : List ℕ) (c : ℕ)
         → (first_char os ≡ Some c) ↔ (IsScalar c × ((rest : List ℕ) × (os ≡ encode_utf8 c ++ rest))) }
 {}
@@ -43,7 +41,7 @@ pub fn units_of_characters<S: Spec>()
     ensures whole { (t : List ℕ) → flat_map char_unit_text (char_units t) ≡ t }
     ensures characters { (t : List ℕ) → IsUtf8 t → char_units t ≡ units (chars t) }
     ensures bytes { (t : List ℕ) → units t ≡ flat_map byte_units (char_units t) }
-    ensures normal { (t : List ℕ) → pct S.tests t ≡ all_written S.tests as_it_is (units t) }
+    ensures normal { (t : List ℕ) → pct S.tests t ≡ flat_map (written S.tests as_it_is) (units t) }
 {}
 
 /// The triplet normal form of a text without stray `%` has no stray `%`, and is its own.
@@ -58,7 +56,7 @@ pub fn decoding_makes_no_new_character<S: Spec>()
     ensures characters { (t : List ℕ) → IsUtf8 t → whole_triplets t ≡ true
         → char_units (pct S.tests t) ≡ map (unit_in_form S.tests) (char_units t) }
     ensures bytes { (t : List ℕ) → whole_triplets t ≡ true
-        → units (pct S.tests t) ≡ normal_units S.tests as_it_is (units t) }
+        → units (pct S.tests t) ≡ flat_map (normal_unit S.tests as_it_is) (units t) }
 {}
 
 /// A byte that is no `%` and no hex digit parts the triplet normal forms on both sides of it.
@@ -92,7 +90,7 @@ pub fn mapping_of_texts()
     ensures pieces { (t u : List ℕ) → mapped (t ++ u) ≡ mapped t ++ mapped u }
     ensures ascii { (t : List ℕ) → IsAscii t → mapped t ≡ t }
     ensures in_ascii { (t : List ℕ) → IsUtf8 t → IsAscii (mapped t) }
-    ensures characters { (t : List ℕ) → IsUtf8 t → mapped t ≡ mapped_chars (chars t) }
+    ensures characters { (t : List ℕ) → IsUtf8 t → mapped t ≡ flat_map mapped_char (chars t) }
 {}
 
 /// What is in a production is, mapped, in the same production of URIs, and its parts are mapped with it.

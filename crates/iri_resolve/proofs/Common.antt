@@ -38,7 +38,7 @@ pub use Rattle.iri_percent.proofs.WholeLaws.{userinfo-whole, host-whole, userinf
 pub use Rattle.iri_percent.proofs.WholeLaws.{fragment-whole, path_percent, query_percent, fragment_percent}
 pub use Rattle.iri_percent.specs.NormalHost.{is_ascii_host, normal_authority_parts, is_dropped, normal_port, normal_userinfo}
 unfoldable pub use Rattle.iri_percent.specs.NormalHost.{normal_host, normal_authority}
-pub use Rattle.iri_percent.specs.NormalLaws.{decoded}
+pub use Rattle.iri_percent.specs.Triplets.{decoded}
 pub use Rattle.iri_percent.specs.SchemeRules.{dropped_port}
 pub use Rattle.iri_percent.specs.Triplets.{normal, as_it_is, pct}
 pub use Rattle.iri_percent.specs.Units.{octets}

@@ -4,7 +4,7 @@ use Rattle.std.specs.Char.{is_ascii_hexdigit, is_ascii_lowercase, is_ascii_upper
 use Rattle.std.specs.Char.{encode_utf8}
 use Rattle.iri_grammar.specs.Classes.{Tests}
 use Rattle.iri_percent.specs.Units.{octets, whole_triplets}
-use Rattle.iri_percent.specs.NormalLaws.{decoded}
+use Rattle.iri_percent.specs.Triplets.{decoded}
 
 -- the byte at i stands inside a triplet: the `%` of a triplet stands before it, and its two digits don't
 abbrev pub is_in_triplet : ℕ → List ℕ → Bool

@@ -8,7 +8,7 @@ use Rattle.iri_grammar.specs.Characters.{percent_sign}
 use Rattle.iri_grammar.specs.Classes.{Tests}
 use Rattle.iri_grammar.specs.Parts.{Parts}
 use Rattle.iri_percent.specs.NormalHost.{is_ascii_host, is_dropped, normal_userinfo}
-use Rattle.iri_percent.specs.NormalLaws.{decoded}
+use Rattle.iri_percent.specs.Triplets.{decoded}
 use Rattle.iri_percent.specs.SchemeRules.{dropped_port}
 use Rattle.iri_percent.specs.Triplets.{pct}
 use Rattle.iri_percent.specs.Units.{octets}

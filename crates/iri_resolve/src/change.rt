@@ -3,7 +3,7 @@ ghost use Rattle.std.specs.Prelude.{◌≡◌, ◌<◌, ◌≤◌, ◌+◌, ◌-
 ghost use Rattle.std.specs.Prelude.{string_bytes, true};
 ghost use Rattle.std.specs.Char.{is_ascii_uppercase};
 ghost use Rattle.iri_grammar.specs.Components.{if_there};
-ghost use Rattle.iri_percent.specs.NormalLaws.{decoded};
+ghost use Rattle.iri_percent.specs.Triplets.{decoded};
 ghost use Rattle.iri_percent.specs.Units.{octets, whole_triplets};
 ghost use Rattle.iri_normal.specs.Resolver.{bytes_of};
 ghost use Rattle.iri_resolve.specs.Changes.{is_in_triplet, is_small_digit, with_capital_digit, with_decoded};

@@ -4,6 +4,7 @@ use Rattle.iri_robots.proofs.Common.{cond, refl, sym, ◌∙◌, ap, subst, arit
 use Rattle.iri_robots.proofs.Common.{nat_tests, run_of, compared, query_text, IsPrefix, stays}
 use Rattle.std.proofs.Common.{get_or, map, Bor}
 use Rattle.std.specs.Prelude.{◌/◌, ◌%◌}
+use Rattle.std.specs.List.{flat_map}
 use Rattle.std.specs.Char.{is_ascii_hexdigit, encode_utf8}
 use Rattle.std.proofs.Math.Bool.{and-false, or-false}
 use Rattle.std.proofs.Math.Utf8.{low_scalar}
@@ -12,9 +13,9 @@ use Rattle.iri_grammar.specs.Classes.{uri_tests, unreserved, is_ascii_unreserved
 use Rattle.iri_grammar.proofs.Units.{run_of_le}
 use Rattle.iri_percent.specs.Units.{octet, octets, two_digits}
 use Rattle.iri_percent.specs.Triplets.{normal, as_it_is}
-use Rattle.iri_percent.specs.ByteForm.{all_written}
+use Rattle.iri_percent.specs.ByteForm.{written}
 use Rattle.iri_percent.specs.Mapping.{capital_hex, triplet, mapped}
-use Rattle.iri_percent.specs.NormalLaws.{decoded}
+use Rattle.iri_percent.specs.Triplets.{decoded}
 use Rattle.iri_percent.proofs.Changes.{upper_digit}
 use Rattle.iri_percent.proofs.CharLaws.{normal-by_bytes}
 use Rattle.iri_percent.proofs.Characters.{unreserved_low}
@@ -125,7 +126,7 @@ compared_stray xs h =
     let t = mapped xs in
     ap (normal uri_tests as_it_is) (mapped-low 37 xs refl)
     ∙ normal-by_bytes uri_tests as_it_is (37 ∷ t)
-    ∙ ap (all_written uri_tests as_it_is) (units_stray t (no_digits xs h))
+    ∙ ap (flat_map (written uri_tests as_it_is)) (units_stray t (no_digits xs h))
     ∙ ap (λ z. 37 ∷ z) (sym (normal-by_bytes uri_tests as_it_is t))
 
 -- ---- prefixes

@@ -1,13 +1,13 @@
--- How a loop writes the units that are told of what is held back, and what a sink that keeps triplets has written of a whole text.
+-- How a loop writes the units that are ready of what is held back, and what a sink that keeps triplets has written of a whole text.
 use Rattle.iri_template.proofs.Common.{◌≡◌, ◌≤◌, ℕ, zero, suc, ◌+◌, ◌-◌, Bool, true, false, cond, List, [], ◌∷◌, ◌++◌, Option, Some, None}
 use Rattle.iri_template.proofs.Common.{length, take, drop, refl, sym, ◌∙◌, ap, subst, arith, append_assoc, append-nil, length-append}
 use Rattle.iri_template.proofs.Common.{Result, Ok, Err, OnOk, encode_utf8, IsUtf8, chars, chars-nil, first_char, encoded_char, encoded}
 use Rattle.iri_template.proofs.Common.{flat_map, AreSinkLaws, Shows, HasShown, shown_none, shown_more, shown_exit, shows_all, shows_then}
 use Rattle.iri_template.proofs.Common.{shows_exit, Stop, Tests, any_char, TextUnit, Plain, first_unit, units, kept_unit, is_part}
-use Rattle.iri_template.proofs.Common.{after_unit, told_units, left_over, fewer, step_units, step_pending, written_units, is_used_up}
+use Rattle.iri_template.proofs.Common.{after_unit, ready_units, left_over, fewer, step_units, step_pending, written_units, is_used_up}
 use Rattle.iri_template.proofs.Common.{unit_step_text, unit_step, Units, unit_at, unit_as, TellsNone, IsUnit, texts}
 use Rattle.std.specs.Prelude.{OnErr}
-use Rattle.iri_template.proofs.UnitLaws.{after_shorter, all_told, left_short, written-append, units_all}
+use Rattle.iri_template.proofs.UnitLaws.{after_shorter, all_ready, left_short, written-append, units_all}
 use Rattle.iri_text.specs.inside.Through.{after}
 use Rattle.iri_text.proofs.ThroughLaws.{through_laws}
 use Rattle.iri_text.proofs.ByCharsLaws.{chars_halt}
@@ -25,26 +25,26 @@ one_unit s None u t h = append-nil (kept_unit s u) ∙ h
 one_unit s (Some zero) u t h = refl
 one_unit s (Some (suc n)) u t h = ap (λ l. kept_unit s u ++ flat_map (kept_unit s) l) (take_nil n) ∙ append-nil (kept_unit s u) ∙ h
 
--- the first of what is told, and the rest
+-- the first that is ready, and the rest
 pub record Tells (end : Bool) (k : ℕ) (h : List ℕ) (len : ℕ) : Type 0 where
-  pub units : told_units end (suc k) h ≡ unit_at h ∷ told_units end k (drop len h)
+  pub units : ready_units end (suc k) h ≡ unit_at h ∷ ready_units end k (drop len h)
   pub over : left_over end (suc k) h ≡ left_over end k (drop len h)
 
 pub tells_one : (s : Tests) (end : Bool) (k : ℕ) (h : List ℕ) (len : ℕ) (stands : Bool) → IsUnit s end h len stands → Tells end k h len
 tells_one s end k [] len stands i = absurd (omega (arith, i.some, i.within))
 tells_one s end k (x ∷ xs) len stands i = record {
-  units = ap (λ b. cond b (first_unit x xs ∷ told_units end k (after_unit x xs)) []) i.told
-      ∙ ap (λ n. first_unit x xs ∷ told_units end k (drop n (x ∷ xs))) i.all;
-  over = ap (λ b. cond b (left_over end k (after_unit x xs)) (x ∷ xs)) i.told ∙ ap (λ n. left_over end k (drop n (x ∷ xs))) i.all;
+  units = ap (λ b. cond b (first_unit x xs ∷ ready_units end k (after_unit x xs)) []) i.ready
+      ∙ ap (λ n. first_unit x xs ∷ ready_units end k (drop n (x ∷ xs))) i.all;
+  over = ap (λ b. cond b (left_over end k (after_unit x xs)) (x ∷ xs)) i.ready ∙ ap (λ n. left_over end k (drop n (x ∷ xs))) i.all;
 }
 
--- so many more units may be told of what is pending now, after some were written
+-- so many more units may be ready of what is pending now, after some were written
 pub record Drained {W : Type 0} (s : Tests) (puts : W → List ℕ → W → Type 0) (stops : W → ℕ) (end : Bool) (first : List ℕ) (most : Option ℕ)
     (old : W) (k : ℕ) (pending : List ℕ) (left : Option ℕ) (new : W) : Type 0 where
   pub before : List ℕ
   pub put : HasShown puts stops old before new
-  pub split : written_units s most (told_units end 12 first) ≡ before ++ written_units s left (told_units end k pending)
-  pub lefts : fewer most (length (told_units end 12 first)) ≡ fewer left (length (told_units end k pending))
+  pub split : written_units s most (ready_units end 12 first) ≡ before ++ written_units s left (ready_units end k pending)
+  pub lefts : fewer most (length (ready_units end 12 first)) ≡ fewer left (length (ready_units end k pending))
   pub over : left_over end 12 first ≡ left_over end k pending
 
 fewer_more : (left : Option ℕ) (n : ℕ) → fewer left (suc n) ≡ fewer (fewer left 1) n
@@ -58,18 +58,18 @@ fewer_none (Some m) = let e : m - 0 ≡ m = omega arith in ap Some e
 -- what is written of the unit at the start and those after it
 split_one : (s : Tests) (end : Bool) (k : ℕ) (pending : List ℕ) (left : Option ℕ) (len : ℕ) (t : List ℕ) → Tells end k pending len
     → kept_unit s (unit_at pending) ≡ t
-    → written_units s left (told_units end (suc k) pending)
-    ≡ cond (is_used_up left) [] t ++ written_units s (fewer left 1) (told_units end k (drop len pending))
+    → written_units s left (ready_units end (suc k) pending)
+    ≡ cond (is_used_up left) [] t ++ written_units s (fewer left 1) (ready_units end k (drop len pending))
 split_one s end k pending left len t i e =
-    ap (written_units s left) i.units ∙ written-append s left (unit_at pending ∷ []) (told_units end k (drop len pending))
-    ∙ ap (λ l. l ++ written_units s (fewer left 1) (told_units end k (drop len pending))) (one_unit s left (unit_at pending) t e)
+    ap (written_units s left) i.units ∙ written-append s left (unit_at pending ∷ []) (ready_units end k (drop len pending))
+    ∙ ap (λ l. l ++ written_units s (fewer left 1) (ready_units end k (drop len pending))) (one_unit s left (unit_at pending) t e)
 
--- no more is told
+-- no more is ready
 pub record Ended {W : Type 0} (s : Tests) (puts halts : W → List ℕ → W → Type 0) (stops : W → ℕ) (end : Bool) (first : List ℕ)
     (most : Option ℕ) (a : W) (pending : List ℕ) (left : Option ℕ) (b : W) : Type 0 where
-  pub shows : Shows puts halts stops a (written_units s most (told_units end 12 first)) b (Ok tt)
+  pub shows : Shows puts halts stops a (written_units s most (ready_units end 12 first)) b (Ok tt)
   pub holds : pending ≡ left_over end 12 first
-  pub lefts : left ≡ fewer most (length (told_units end 12 first))
+  pub lefts : left ≡ fewer most (length (ready_units end 12 first))
 
 module _ {W : Type 0} {puts halts : W → List ℕ → W → Type 0} {stops : W → ℕ} (laws : AreSinkLaws puts halts) {s : Tests} {end : Bool}
     {first : List ℕ} {most : Option ℕ} where
@@ -91,8 +91,8 @@ module _ {W : Type 0} {puts halts : W → List ℕ → W → Type 0} {stops : W 
         before = at.before ++ t;
         put = shown_more laws at.put q;
         split = at.split ∙ ap (λ l. at.before ++ l) (split_one s end k pending left len (unit_as s stands (take len pending)) one i.text)
-            ∙ sym (append_assoc at.before t (written_units s (fewer left 1) (told_units end k (drop len pending))));
-        lefts = at.lefts ∙ ap (λ us. fewer left (length us)) one.units ∙ fewer_more left (length (told_units end k (drop len pending)));
+            ∙ sym (append_assoc at.before t (written_units s (fewer left 1) (ready_units end k (drop len pending))));
+        lefts = at.lefts ∙ ap (λ us. fewer left (length us)) one.units ∙ fewer_more left (length (ready_units end k (drop len pending)));
         over = at.over ∙ one.over;
       }))
 
@@ -100,11 +100,11 @@ module _ {W : Type 0} {puts halts : W → List ℕ → W → Type 0} {stops : W 
       → IsUnit s end pending len stands
       → Drained s puts stops end first most a j pending left b
       → Shows puts halts stops b (cond (is_used_up left) [] (unit_as s stands (take len pending))) c (Err e)
-      → Shows puts halts stops a (written_units s most (told_units end 12 first)) c (Err e)
+      → Shows puts halts stops a (written_units s most (ready_units end 12 first)) c (Err e)
   drained_exit {a = a} {b = b} {c = c} {e = stop} j k pending left len stands e i d q =
       let one = tells_one s end k pending len stands i in
       let t = cond (is_used_up left) [] (unit_as s stands (take len pending)) in
-      let rest = written_units s (fewer left 1) (told_units end k (drop len pending)) in
+      let rest = written_units s (fewer left 1) (ready_units end k (drop len pending)) in
       let at : Drained s puts stops end first most a (suc k) pending left b =
       subst (λ n. Drained s puts stops end first most a n pending left b) e d in
       subst (λ l. Shows puts halts stops a l c (Err stop))
@@ -112,7 +112,7 @@ module _ {W : Type 0} {puts halts : W → List ℕ → W → Type 0} {stops : W 
       ∙ ap (λ l. at.before ++ l) (split_one s end k pending left len (unit_as s stands (take len pending)) one i.text)))
       (shown_exit laws {r = Err stop} rest refl at.put q)
 
-  ended : {a b : W} (k : ℕ) (pending : List ℕ) (left : Option ℕ) → told_units end k pending ≡ [] → left_over end k pending ≡ pending
+  ended : {a b : W} (k : ℕ) (pending : List ℕ) (left : Option ℕ) → ready_units end k pending ≡ [] → left_over end k pending ≡ pending
       → Drained s puts stops end first most a k pending left b → Ended s puts halts stops end first most a pending left b
   ended {a = a} {b = b} k pending left none same d = record {
     shows = subst (λ l. Shows puts halts stops a l b (Ok tt))
@@ -148,22 +148,22 @@ all_left (suc k) (x ∷ xs) h = all_left k (after_unit x xs) (omega (arith, afte
 
 -- a character that is no part of a triplet: what is pending ends, and the character follows
 pub record EndsHeld (s : Tests) (h : List ℕ) (left : Option ℕ) (c : ℕ) : Type 0 where
-  pub text : written_units s left (told_units true 12 h) ++ written_units s (fewer left (length (told_units true 12 h))) (Plain c ∷ [])
+  pub text : written_units s left (ready_units true 12 h) ++ written_units s (fewer left (length (ready_units true 12 h))) (Plain c ∷ [])
       ≡ unit_step_text s (record { pending = h; left = left }) c
-  pub lefts : fewer (fewer left (length (told_units true 12 h))) 1 ≡ fewer left (length (step_units h c))
+  pub lefts : fewer (fewer left (length (ready_units true 12 h))) 1 ≡ fewer left (length (step_units h c))
   pub none : left_over true 12 h ≡ []
   pub pending : step_pending h c ≡ []
 
 pub ends_pending : (s : Tests) (h : List ℕ) (left : Option ℕ) (c : ℕ) → length h ≤ 11 → is_part c ≡ false → EndsHeld s h left c
 ends_pending s h left c short n =
-    let us : step_units h c ≡ told_units true 12 h ++ Plain c ∷ [] =
-    ap (λ b. cond b (told_units false 12 (h ++ c ∷ [])) (units h ++ Plain c ∷ [])) n
-    ∙ ap (λ l. l ++ Plain c ∷ []) (sym (all_told 12 h (omega arith))) in
-    let count : length (step_units h c) ≡ length (told_units true 12 h) + 1 =
-    ap length us ∙ length-append (told_units true 12 h) (Plain c ∷ []) in
+    let us : step_units h c ≡ ready_units true 12 h ++ Plain c ∷ [] =
+    ap (λ b. cond b (ready_units false 12 (h ++ c ∷ [])) (units h ++ Plain c ∷ [])) n
+    ∙ ap (λ l. l ++ Plain c ∷ []) (sym (all_ready 12 h (omega arith))) in
+    let count : length (step_units h c) ≡ length (ready_units true 12 h) + 1 =
+    ap length us ∙ length-append (ready_units true 12 h) (Plain c ∷ []) in
     record {
-      text = sym (written-append s left (told_units true 12 h) (Plain c ∷ [])) ∙ ap (written_units s left) (sym us);
-      lefts = fewer_both left (length (told_units true 12 h)) 1 (length (step_units h c)) count;
+      text = sym (written-append s left (ready_units true 12 h) (Plain c ∷ [])) ∙ ap (written_units s left) (sym us);
+      lefts = fewer_both left (length (ready_units true 12 h)) 1 (length (step_units h c)) count;
       none = all_left 12 h (omega arith);
       pending = ap (λ b. cond b (left_over false 12 (h ++ c ∷ [])) []) n;
     }
@@ -193,14 +193,14 @@ whole_text s a t none = units_all s (state_of s a) (chars t) ∙ ap (λ h. writt
 module _ {S W : Type 0} (s : Tests) {puts halts : W → List ℕ → W → Type 0} {stops : W → ℕ} (laws : AreSinkLaws puts halts) where
   pub units_then : (a b : UnitSink S W) (c : W) (t : List ℕ) (x : Unit {0}) (r : Result (Unit {0}) Stop) → a.state.pending ≡ [] → length b.state.pending ≤ 12
       → Shows (UnitPuts s puts) (UnitHalts s halts) (λ (u : UnitSink S W). stops u.to.now) a t b (Ok x)
-      → Shows puts halts stops b.to.now (written_units s b.state.left (told_units true 12 b.state.pending)) c r
+      → Shows puts halts stops b.to.now (written_units s b.state.left (ready_units true 12 b.state.pending)) c r
       → Shows puts halts stops a.to.now (written_units s a.state.left (units (chars t))) c r
   units_then a b c t x r none short p q =
       let first : Shows puts halts stops a.to.now (texts unit_step (unit_step_text s) (state_of s a) (chars t)) b.to.now (Ok x) =
       record { appends = p.appends.put.put; stops_within = tt; rose = tt; later = p.later } in
       let now : Units = after unit_step (unit_step_text s) (state_of s a) (chars t) in
-      let ends : written_units s b.state.left (told_units true 12 b.state.pending) ≡ written_units s now.left (units now.pending) =
-      ap (written_units s b.state.left) (all_told 12 b.state.pending short)
+      let ends : written_units s b.state.left (ready_units true 12 b.state.pending) ≡ written_units s now.left (units now.pending) =
+      ap (written_units s b.state.left) (all_ready 12 b.state.pending short)
       ∙ ap (λ (u : Units). written_units s u.left (units u.pending)) p.appends.put.goes_on in
       subst (λ l. Shows puts halts stops a.to.now l c r)
       (ap (λ l. texts unit_step (unit_step_text s) (state_of s a) (chars t) ++ l) ends ∙ whole_text s a t none)

@@ -1,22 +1,26 @@
 -- What is written where every call tells the same values; and which calls decide what is written.
 use Rattle.iri_template.proofs.Common.{encode_utf8, flat_map, Tests, any_char, encoded_char, AreSinkLaws, Shows, Stop, row_of, value_texts}
-use Rattle.iri_template.proofs.Common.{fault, first, led, has_texts, Portion, outside, varspec_portions, portions_from, portions}
-use Rattle.iri_template.proofs.Common.{portions_fault, portions_text, ShownValue, Telling, later, always, Modifier, whole, explode, prefix}
+use Rattle.iri_template.proofs.Common.{fault, first, led, has_some, Portion, outside, varspec_portions, portions_from, portions}
+use Rattle.iri_template.proofs.Common.{portions_fault, portions_text, ShownValue, Telling, later, always}
 use Rattle.iri_template.proofs.Common.{VarSpec, Piece, literal, triplet, expression, operator_text, varspec_text, piece_text, is_mistyped}
 use Rattle.iri_template.proofs.Common.{varspecs_type_fault, type_fault_from, type_fault, StopsAt, IsRefused, EndsAs, by_purpose, untold}
 use Rattle.iri_template.proofs.Common.{Error, WriteFailed, ExpressionNotClosed, InvalidCharacter, InvalidExpression, InvalidPercentEncoding}
 use Rattle.iri_template.proofs.Common.{InvalidUtf8, UnexpectedValueType, UnsupportedOperator, Memory, Operator, Typecheck, Expand}
 use Rattle.std.proofs.Common.{◌≡◌, ◌≤◌, ℕ, ◌+◌, ◌*◌, Bool, true, false, cond, ◌||◌, List, [], ◌∷◌, ◌++◌, None, Some, length, refl, sym, ◌∙◌}
 use Rattle.std.proofs.Common.{ap, subst, arith, append_assoc, append-nil, Result, Ok, Err, MatchResult}
+use Rattle.std.proofs.Math.Bool.{or_self}
 use Rattle.iri_grammar.specs.Characters.{percent_sign}
-use Rattle.iri_template.specs.Expansion.{varspec_texts, expression_text, expansion}
+use Rattle.iri_template.specs.Expansion.{varspec_texts, expansion}
+use Rattle.iri_template.specs.VarSpecs.{held}
+use Rattle.iri_template.specs.declared.varspec.Modifier.{Modifier}
+use Rattle.iri_template.specs.declared.varspec.Modifier.TheVariants.{Whole, Explode, Prefix}
 use Rattle.iri_template.specs.Portions.{varspec_portion}
 use Rattle.iri_template.specs.Writings.{IsCaused, HasCause}
 use Rattle.iri_template.specs.declared.error.ErrorKind.{ErrorKind}
 use Rattle.iri_template.proofs.FaultLemmas.{neither}
 use Rattle.iri_template.proofs.PartWalk.{outside_fault, outside_text}
-use Rattle.iri_template.proofs.PortionWalk.{fault_after, text_after}
-use Rattle.iri_template.proofs.Telling.{led-append, led_expression}
+use Rattle.iri_template.proofs.PortionWalk.{faults_append, fault_after, text_after}
+use Rattle.iri_template.proofs.Telling.{led-append}
 
 -- ---- which calls decide
 -- the same at the calls for types, which are even, and at those that write, which are odd
@@ -38,15 +42,16 @@ module _ (s : Tests) where
   same_specs operator f g at written [] h = refl
   same_specs operator f g at written (v ∷ vs) h =
       let there = at + length (varspec_text v) + 1 in
-      ap (λ u. varspec_portion s operator at written v u (f 1 v.name Expand)
-      ∷ varspec_portions s operator (later 2 f) there (written || has_texts (value_texts s (row_of operator) v.name v.modifier (f 1 v.name Expand))) vs)
+      let m = held v.modifier in
+      ap (λ u. varspec_portion s operator at written v.name m (is_mistyped m u) (f 1 v.name Expand)
+      ∷ varspec_portions s operator (later 2 f) there (written || has_some (value_texts s (row_of operator) v.name m (f 1 v.name Expand))) vs)
       (h.looks 0 v.name)
-      ∙ ap (λ u. varspec_portion s operator at written v (g 0 v.name Typecheck) u
-      ∷ varspec_portions s operator (later 2 f) there (written || has_texts (value_texts s (row_of operator) v.name v.modifier u)) vs)
+      ∙ ap (λ u. varspec_portion s operator at written v.name m (is_mistyped m (g 0 v.name Typecheck)) u
+      ∷ varspec_portions s operator (later 2 f) there (written || has_some (value_texts s (row_of operator) v.name m u)) vs)
       (h.writes 0 v.name)
-      ∙ ap (λ l. varspec_portion s operator at written v (g 0 v.name Typecheck) (g 1 v.name Expand) ∷ l)
-      (same_specs operator (later 2 f) (later 2 g) there
-      (written || has_texts (value_texts s (row_of operator) v.name v.modifier (g 1 v.name Expand))) vs (same_later 1 f g h))
+      ∙ ap (λ l. varspec_portion s operator at written v.name m (is_mistyped m (g 0 v.name Typecheck)) (g 1 v.name Expand) ∷ l)
+      (same_specs operator (later 2 f) (later 2 g) there (written || has_some (value_texts s (row_of operator) v.name m (g 1 v.name Expand))) vs
+      (same_later 1 f g h))
 
   same_from : (f g : Telling) (at here : ℕ) (start : List ℕ) (ps : List Piece) → AreSame f g
       → portions_from s f at here start ps ≡ portions_from s g at here start ps
@@ -64,20 +69,6 @@ module _ (s : Tests) where
 pub same_portions : (s : Tests) (f g : Telling) (ps : List Piece) → ((i : ℕ) (name : List ℕ) → f (2 * i) name Typecheck ≡ g (2 * i) name Typecheck)
     → ((i : ℕ) (name : List ℕ) → f (2 * i + 1) name Expand ≡ g (2 * i + 1) name Expand) → portions s f ps ≡ portions s g ps
 same_portions s f g ps looks writes = same_from s f g 0 0 [] ps (record { looks = looks; writes = writes })
-
--- ---- faults
-or_same : (b : Bool) → (b || b) ≡ b
-or_same true = refl
-or_same false = refl
-
-faults_append : (ps qs : List Portion) → portions_fault (ps ++ qs) ≡ first (portions_fault ps) (portions_fault qs)
-faults_append [] qs = refl
-faults_append (p ∷ ps) qs =
-    elim p.mistyped as (λ b. cond b (fault UnexpectedValueType p.location) (portions_fault (ps ++ qs))
-    ≡ first (cond b (fault UnexpectedValueType p.location) (portions_fault ps)) (portions_fault qs)) [
-      | true ↦ refl
-      | false ↦ faults_append ps qs
-    ]
 
 -- ---- a stop
 -- where none is mistyped, a stop within one of the texts is one within all
@@ -103,9 +94,9 @@ abbrev pub AddsNone : (List ℕ → ShownValue) → (List ℕ → ShownValue) �
 AddsNone looked value = (m : Modifier) (name : List ℕ) → (is_mistyped m (looked name) || is_mistyped m (value name)) ≡ is_mistyped m (value name)
 
 pub untold_adds : (value : List ℕ → ShownValue) → AddsNone untold value
-untold_adds value whole name = refl
-untold_adds value explode name = refl
-untold_adds value (prefix ds) name = refl
+untold_adds value Whole name = refl
+untold_adds value Explode name = refl
+untold_adds value (Prefix n) name = refl
 
 module _ (s : Tests) (looked value : List ℕ → ShownValue) (adds : AddsNone looked value) where
   abbrev telling : Telling
@@ -115,10 +106,10 @@ module _ (s : Tests) (looked value : List ℕ → ShownValue) (adds : AddsNone l
       → portions_fault (varspec_portions s operator telling at written vs) ≡ varspecs_type_fault value at vs
   specs_fault operator at written [] = refl
   specs_fault operator at written (v ∷ vs) =
-      let b = is_mistyped v.modifier (value v.name) in
-      let now = written || has_texts (value_texts s (row_of operator) v.name v.modifier (value v.name)) in
+      let b = is_mistyped (held v.modifier) (value v.name) in
+      let now = written || has_some (value_texts s (row_of operator) v.name (held v.modifier) (value v.name)) in
       let there = at + length (varspec_text v) + 1 in
-      ap (λ m. cond m (fault UnexpectedValueType at) (portions_fault (varspec_portions s operator telling there now vs))) (adds v.modifier v.name)
+      ap (λ m. cond m (fault UnexpectedValueType at) (portions_fault (varspec_portions s operator telling there now vs))) (adds (held v.modifier) v.name)
       ∙ ap (λ f. cond b (fault UnexpectedValueType at) f) (specs_fault operator there now vs)
 
   fault_from : (at here : ℕ) (start : List ℕ) (ps : List Piece)
@@ -144,11 +135,11 @@ module _ (s : Tests) (looked value : List ℕ → ShownValue) (adds : AddsNone l
   specs_text operator at written [] h = refl
   specs_text operator at written (v ∷ vs) h =
       let ts = varspec_texts s operator value v in
-      let now = written || has_texts ts in
+      let now = written || has_some ts in
       let there = at + length (varspec_text v) + 1 in
       let rest = portions_text (varspec_portions s operator telling there now vs) in
-      ap (λ b. cond b [] (led (row_of operator) written ts ++ rest)) (adds v.modifier v.name)
-      ∙ elim (is_mistyped v.modifier (value v.name)) as (λ b. cond b (fault UnexpectedValueType at) (varspecs_type_fault value there vs) ≡ None
+      ap (λ b. cond b [] (led (row_of operator) written ts ++ rest)) (adds (held v.modifier) v.name)
+      ∙ elim (is_mistyped (held v.modifier) (value v.name)) as (λ b. cond b (fault UnexpectedValueType at) (varspecs_type_fault value there vs) ≡ None
       → cond b [] (led (row_of operator) written ts ++ rest)
       ≡ led (row_of operator) written (ts ++ flat_map (varspec_texts s operator value) vs)) [
         | true ↦ λ k. cc
@@ -174,9 +165,8 @@ module _ (s : Tests) (looked value : List ℕ → ShownValue) (adds : AddsNone l
       text_after (outside at start) (inner ++ others) (outside_fault at start)
       ∙ ap (λ l. l ++ portions_text (inner ++ others)) (outside_text at start)
       ∙ ap (λ l. start ++ l) (text_after inner others (specs_fault operator place false vs ∙ both.0)
-      ∙ ap (λ l. l ++ portions_text others) (specs_text operator place false vs both.0
-      ∙ led_expression (row_of operator) (flat_map (varspec_texts s operator value) vs))
-      ∙ ap (λ l. expression_text (row_of operator) (flat_map (varspec_texts s operator value) vs) ++ l) (text_from there there [] ps both.1))
+      ∙ ap (λ l. l ++ portions_text others) (specs_text operator place false vs both.0)
+      ∙ ap (λ l. led (row_of operator) false (flat_map (varspec_texts s operator value) vs) ++ l) (text_from there there [] ps both.1))
 
   whole_text : (ps : List Piece) → type_fault value ps ≡ None → portions_text (portions s telling ps) ≡ expansion s value ps
   whole_text ps h = text_from 0 0 [] ps h
@@ -219,7 +209,7 @@ module _ (s : Tests) (looked value : List ℕ → ShownValue) (adds : AddsNone l
 -- ---- the same values at every call
 module _ (s : Tests) (value : List ℕ → ShownValue) where
   none_added : AddsNone value value
-  none_added m name = or_same (is_mistyped m (value name))
+  none_added m name = or_self (is_mistyped m (value name))
 
   by_value : (ps : List Piece) → portions s (always value) ps ≡ portions s (by_purpose value value) ps
   by_value ps = same_portions s (always value) (by_purpose value value) ps (λ i name. refl) (λ i name. refl)

@@ -22,7 +22,7 @@ use Rattle.iri_grammar.proofs.PiecesLaws.{pieces_cut}
 use Rattle.iri_grammar.proofs.AuthorityTexts.{delimited-utf8}
 use Rattle.iri_grammar.proofs.LiteralChars.{all-join, all-weaken}
 use Rattle.iri_grammar.proofs.Units.{text_after_ascii, hex_is_ascii}
-use Rattle.iri_template.specs.Template.{has_varspecs, is_piece, body_text, Spells, IsTemplate}
+use Rattle.iri_template.specs.Template.{has_some, is_piece, body_text, Spells, IsTemplate}
 use Rattle.iri_template.specs.Fault.{is_reserved_operator, body_fault, expression_fault}
 use Rattle.iri_template.proofs.FaultLemmas.{neither, unmoved, passed, of_text}
 use Rattle.iri_template.proofs.VarSpecLemmas.{inner, varspec_bytes, varspecs_fine, varspecs_are}
@@ -179,7 +179,7 @@ free : (c : ℕ) → (c == 61 || c == 44 || c == 33 || c == 64 || c == 124) ≡ 
 unfolding is_reserved_operator
 free c h = h
 
-pub body_fine : (o : Operator) (vs : List VarSpec) → has_varspecs vs ≡ true → list_all is_varspec vs ≡ true → IsBodyOf o vs (body_text o vs)
+pub body_fine : (o : Operator) (vs : List VarSpec) → has_some vs ≡ true → list_all is_varspec vs ≡ true → IsBodyOf o vs (body_text o vs)
 body_fine o [] h k = cc
 body_fine o (v ∷ vs) h k = go o
   where
@@ -217,8 +217,8 @@ pub body_is : (b : List ℕ) → body_fault b ≡ None → (is_piece (expression
 body_is b h =
     let k = neither (operator_fault b) (varspecs_fault (length (operator_text (operator_of b))) (pieces 44 (after_operator b))) h in
     let vs = varspecs_are (length (operator_text (operator_of b))) (pieces 44 (after_operator b)) k.1 in
-    let some : has_varspecs (map varspec_of (pieces 44 (after_operator b))) ≡ true =
-    ap (λ l. has_varspecs (map varspec_of l)) (pieces_cut 44 (after_operator b)) in (
+    let some : has_some (map varspec_of (pieces 44 (after_operator b))) ≡ true =
+    ap (λ l. has_some (map varspec_of l)) (pieces_cut 44 (after_operator b)) in (
       rw (some, vs.0) refl,
       ap (λ l. 123 ∷ (l ++ 125 ∷ []))
           (ap (λ l. operator_text (operator_of b) ++ split.joined 44 l) vs.1
@@ -297,8 +297,8 @@ spelled_is_read (triplet a b ∷ ps) h =
     let u = delimited-utf8 37 (a ∷ b ∷ r) (omega arith) (delimited-utf8 a (b ∷ r) (hex_is_ascii a hex.0) (delimited-utf8 b r (hex_is_ascii b hex.1) more.text)) in
     one_more (triplet a b) ps (37 ∷ a ∷ b ∷ r) r u (triplet_begins (37 ∷ a ∷ b ∷ r) refl (rw (hex.0, hex.1) refl)) more
 spelled_is_read (expression o vs ∷ ps) h =
-    let k = both (has_varspecs vs && list_all is_varspec vs) (list_all is_piece ps) h in
-    let specs = both (has_varspecs vs) (list_all is_varspec vs) k.0 in
+    let k = both (has_some vs && list_all is_varspec vs) (list_all is_piece ps) h in
+    let specs = both (has_some vs) (list_all is_varspec vs) k.0 in
     let more = spelled_is_read ps k.1 in
     let r = template_text ps in
     let b = body_text o vs in

@@ -74,9 +74,8 @@ found : (e : Expression) (len : ℕ) (t r : List ℕ) → IsPrefix (part.Express
     → length t ≤ len → len < 2 ^ 64 → Found (Some e) len t r
 found e len t r k cut h fits =
     let vs = map varspec_of (pieces 44 e.varspecs.now) in
-    let shorter = k.shorter in
     record {
-      fine = record { expression = cut.fault; others = cut.fine; ends = omega (arith, k.ends, h, fits); within = omega (arith, shorter, h) };
+      fine = record { expression = cut.fault; others = cut.fine; ends = omega (arith, k.ends, h, fits); within = omega (arith, k.shorter, h) };
       names =
           ap (λ l. l ++ placed_names (len - length r) (pieces_of r))
           (ap (λ n. varspec_names n vs) k.placed ∙ sym (append-nil (varspec_names _ vs)))

@@ -6,6 +6,7 @@ use Rattle.iri_template.proofs.Common.{Error, WriteFailed, ExpressionNotClosed, 
 use Rattle.iri_template.proofs.Common.{InvalidUtf8, UnexpectedValueType, UnsupportedOperator, Memory}
 use Rattle.std.specs.Prelude.{⊤}
 use Rattle.std.proofs.Common.{IfErr}
+use Rattle.iri_template.proofs.Common.{first}
 use Rattle.std.proofs.Math.Path.{fun_ext}
 use Rattle.iri_template.specs.declared.error.ErrorKind.{ErrorKind}
 
@@ -58,15 +59,18 @@ told_later n None u P m p = tt
 told_later n (Some f) None P m p = absurd m
 told_later n (Some f) (Some g) P m p = subst P (moved_on n f g m) p
 
--- ---- after portions that aren't mistyped
+-- ---- the fault of portions one after the other
+pub faults_append : (ps qs : List Portion) → portions_fault (ps ++ qs) ≡ first (portions_fault ps) (portions_fault qs)
+faults_append [] qs = refl
+faults_append (p ∷ ps) qs =
+    elim p.mistyped as (λ b. cond b (fault UnexpectedValueType p.location) (portions_fault (ps ++ qs))
+    ≡ first (cond b (fault UnexpectedValueType p.location) (portions_fault ps)) (portions_fault qs)) [
+      | true ↦ refl
+      | false ↦ faults_append ps qs
+    ]
+
 pub fault_after : (ps qs : List Portion) → portions_fault ps ≡ None → portions_fault (ps ++ qs) ≡ portions_fault qs
-fault_after [] qs h = refl
-fault_after (p ∷ ps) qs h =
-    elim p.mistyped as (λ b. cond b (fault UnexpectedValueType p.location) (portions_fault ps) ≡ None
-    → cond b (fault UnexpectedValueType p.location) (portions_fault (ps ++ qs)) ≡ portions_fault qs) [
-      | true ↦ λ k. cc
-      | false ↦ λ k. fault_after ps qs k
-    ] h
+fault_after ps qs h = faults_append ps qs ∙ ap (λ f. first f (portions_fault qs)) h
 
 pub text_after : (ps qs : List Portion) → portions_fault ps ≡ None → portions_text (ps ++ qs) ≡ portions_text ps ++ portions_text qs
 text_after [] qs h = refl
@@ -79,13 +83,7 @@ text_after (p ∷ ps) qs h =
 
 -- ---- before others
 pub fault_before : (ps qs : List Portion) (e : Error) → portions_fault ps ≡ Some e → portions_fault (ps ++ qs) ≡ Some e
-fault_before [] qs e h = cc
-fault_before (p ∷ ps) qs e h =
-    elim p.mistyped as (λ b. cond b (fault UnexpectedValueType p.location) (portions_fault ps) ≡ Some e
-    → cond b (fault UnexpectedValueType p.location) (portions_fault (ps ++ qs)) ≡ Some e) [
-      | true ↦ λ k. k
-      | false ↦ λ k. fault_before ps qs e k
-    ] h
+fault_before ps qs e h = faults_append ps qs ∙ ap (λ f. first f (portions_fault qs)) h
 
 pub text_before : (ps qs : List Portion) (e : Error) → portions_fault ps ≡ Some e → portions_text (ps ++ qs) ≡ portions_text ps
 text_before [] qs e h = cc

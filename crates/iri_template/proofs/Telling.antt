@@ -1,45 +1,20 @@
 -- What is written for the events of a value is what is written for the value.
 use Rattle.iri_template.proofs.Common.{◌≡◌, ℕ, Bool, true, false, cond, not, ◌&&◌, ◌||◌, List, [], ◌∷◌, ◌++◌, None, map, refl, sym, ◌∙◌, ap}
 use Rattle.iri_template.proofs.Common.{append_assoc, append-nil, Tests, texts, row_of, shown_text, value_texts, ShownValue, undefined}
-use Rattle.iri_template.proofs.Common.{string, list, pairs, led, has_texts, WriteState, event_step, event_text, told_texts, Operator}
+use Rattle.iri_template.proofs.Common.{string, list, pairs, led, has_some, WriteState, event_step, event_text, Operator}
 use Rattle.std.proofs.Math.Bool.{or-false, or-true}
 use Rattle.std.proofs.lemmas.Bool.{and_right}
 use Rattle.std.proofs.lemmas.Simd.{map-map}
 use Rattle.iri_grammar.specs.Pieces.{joined}
 use Rattle.iri_text.specs.inside.Through.{after}
 use Rattle.iri_template.specs.Events.{Event, Item, Finished, telling, entry_of}
-use Rattle.iri_template.specs.Expansion.{Row, shown_pair, named_text, pair_with, in_one, expression_text}
-use Rattle.iri_template.specs.VarSpecs.{held}
-use Rattle.iri_template.specs.Led.{lead}
-use Rattle.iri_template.specs.inside.Written.{explodes, name_part, item_lead, entry_lead, entry_delimiter}
+use Rattle.iri_template.specs.Expansion.{Row, lead, explodes, shown_pair, named_text, pair_with, in_one}
+use Rattle.iri_template.specs.inside.Written.{name_part, item_lead, entry_lead, entry_delimiter}
 use Rattle.iri_template.specs.declared.varspec.Modifier.{Modifier}
-use Rattle.iri_template.specs.Template as template
-
--- the texts of a varspec, as it is held
-pub held_texts : (s : Tests) (row : Row) (name : List ℕ) (m : template.Modifier) (v : ShownValue)
-    → told_texts s row name (held m) v ≡ value_texts s row name m v
-held_texts s row name m undefined = refl
-held_texts s row name template.whole (string t) = refl
-held_texts s row name template.explode (string t) = refl
-held_texts s row name (template.prefix ds) (string t) = refl
-held_texts s row name template.whole (list items) = refl
-held_texts s row name template.explode (list items) = refl
-held_texts s row name (template.prefix ds) (list items) = refl
-held_texts s row name template.whole (pairs entries) = refl
-held_texts s row name template.explode (pairs entries) = refl
-held_texts s row name (template.prefix ds) (pairs entries) = refl
 
 -- ---- texts with a separator before each
-lead_joined : (row : Row) (t : List ℕ) (ts : List (List ℕ)) → t ++ led row true ts ≡ joined row.sep (t ∷ ts)
-lead_joined row t [] = append-nil t
-lead_joined row t (u ∷ ts) = ap (λ l. t ++ row.sep ∷ l) (lead_joined row u ts)
-
-pub led_expression : (row : Row) (ts : List (List ℕ)) → led row false ts ≡ expression_text row ts
-led_expression row [] = refl
-led_expression row (t ∷ ts) = append_assoc row.first t (led row true ts) ∙ ap (λ l. row.first ++ l) (lead_joined row t ts)
-
 pub led-append : (row : Row) (written : Bool) (ts us : List (List ℕ))
-    → led row written (ts ++ us) ≡ led row written ts ++ led row (written || has_texts ts) us
+    → led row written (ts ++ us) ≡ led row written ts ++ led row (written || has_some ts) us
 led-append row written [] us = ap (λ b. led row b us) (sym (or-false written))
 led-append row written (t ∷ ts) us =
     ap (λ l. (lead row written ++ t) ++ l) (led-append row true ts us)
@@ -50,7 +25,7 @@ named_delimiter : (row : Row) (name t : List ℕ) → name_part row name ++ t �
 named_delimiter row name t = elim row.named as (λ b. cond b (name ++ 61 ∷ []) [] ++ t
     ≡ cond b (name ++ 61 ∷ t) t) [ true ↦ append_assoc name (61 ∷ []) t | false ↦ refl ]
 
-none : (b : Bool) → has_texts (cond b [] []) ≡ false
+none : (b : Bool) → has_some {A = List ℕ} (cond b [] []) ≡ false
 none true = refl
 none false = refl
 
@@ -138,7 +113,7 @@ module _ (s : Tests) (operator : Operator) (name : List ℕ) (m : Modifier) wher
   entry_first e w = ap (λ v. cond v (lead row w) (item_lead (state w false))) e
 
   list_text : (w : Bool) (xs : List (List ℕ)) → told w false (map Item xs ++ (Finished ∷ []))
-      ≡ led row w (told_texts s row name m (list xs))
+      ≡ led row w (value_texts s row name m (list xs))
   list_text w xs =
       elim (explodes m) as (λ v. explodes m ≡ v → told w false (map Item xs ++ (Finished ∷ []))
       ≡ led row w (cond v (map (named_text row name) (map sh xs)) (in_one row name (map sh xs)))) [
@@ -148,7 +123,7 @@ module _ (s : Tests) (operator : Operator) (name : List ℕ) (m : Modifier) wher
       ] refl
 
   pairs_text : (w : Bool) (ps : List (List ℕ × List ℕ))
-      → told w false (map entry_of ps ++ (Finished ∷ [])) ≡ led row w (told_texts s row name m (pairs ps))
+      → told w false (map entry_of ps ++ (Finished ∷ [])) ≡ led row w (value_texts s row name m (pairs ps))
   pairs_text w ps =
       elim (explodes m) as (λ v. explodes m ≡ v → told w false (map entry_of ps ++ (Finished ∷ []))
       ≡ led row w (cond v (map (pair_with 61) (map (shown_pair s row.allow) ps))
@@ -166,7 +141,7 @@ module _ (s : Tests) (operator : Operator) (name : List ℕ) (m : Modifier) wher
           → entry_lead (state w b) ++ pair_text (entry_delimiter m) p ≡ lead row w ++ pair_text 61 p
       exploded e w b p = ap (λ v. cond v (lead row w) (item_lead (state w b)) ++ pair_text (cond v 61 44) p) e
 
-  pub told_text : (w : Bool) (v : ShownValue) → told w false (telling v) ≡ led row w (told_texts s row name m v)
+  pub told_text : (w : Bool) (v : ShownValue) → told w false (telling v) ≡ led row w (value_texts s row name m v)
   told_text w undefined = refl
   told_text w (string t) = refl
   told_text w (list xs) = list_text w xs
@@ -180,28 +155,28 @@ module _ (s : Tests) (operator : Operator) (name : List ℕ) (m : Modifier) wher
       (i.step true true x) ∙ after_each ev start body i xs
 
   after_members : {X : Type 0} (ev : X → Event) (start : Bool → Bool → List ℕ) (body : X → List ℕ) (ts : List X → List (List ℕ))
-      → IsMember ev start body → has_texts (ts []) ≡ false → ((x : X) (xs : List X) → has_texts (ts (x ∷ xs)) ≡ true)
+      → IsMember ev start body → has_some (ts []) ≡ false → ((x : X) (xs : List X) → has_some (ts (x ∷ xs)) ≡ true)
       → (w : Bool) (xs : List X) → (after event_step (event_text s) (state w false) (map ev xs ++ (Finished ∷ []))).written
-      ≡ w || has_texts (ts xs)
+      ≡ w || has_some (ts xs)
   after_members ev start body ts i h k w [] = sym (ap (λ b. w || b) h ∙ or-false w)
   after_members ev start body ts i h k w (x ∷ xs) =
       ap (λ (u : WriteState). u.written) (ap (λ (u : WriteState). after event_step (event_text s) u (map ev xs ++ (Finished ∷ [])))
       (i.step w false x) ∙ after_each ev start body i xs) ∙ sym (ap (λ b. w || b) (k x xs) ∙ or-true w)
 
   pub told_written : (w : Bool) (v : ShownValue) → (after event_step (event_text s) (state w false) (telling v)).written
-      ≡ w || has_texts (told_texts s row name m v)
+      ≡ w || has_some (value_texts s row name m v)
   told_written w undefined = sym (or-false w)
   told_written w (string t) = sym (or-true w)
-  told_written w (list xs) = after_members Item (λ w b. item_lead (state w b)) sh (λ ys. told_texts s row name m (list ys)) items
+  told_written w (list xs) = after_members Item (λ w b. item_lead (state w b)) sh (λ ys. value_texts s row name m (list ys)) items
       (none (explodes m)) some w xs
     where
-      some : (y : List ℕ) (ys : List (List ℕ)) → has_texts (told_texts s row name m (list (y ∷ ys))) ≡ true
-      some y ys = elim (explodes m) as (λ b. has_texts
+      some : (y : List ℕ) (ys : List (List ℕ)) → has_some (value_texts s row name m (list (y ∷ ys))) ≡ true
+      some y ys = elim (explodes m) as (λ b. has_some
           (cond b (map (named_text row name) (map sh (y ∷ ys))) (in_one row name (map sh (y ∷ ys)))) ≡ true) [ true ↦ refl | false ↦ refl ]
   told_written w (pairs ps) = after_members entry_of (λ w b. entry_lead (state w b)) (pair_text (entry_delimiter m))
-      (λ ys. told_texts s row name m (pairs ys)) entries (none (explodes m)) some w ps
+      (λ ys. value_texts s row name m (pairs ys)) entries (none (explodes m)) some w ps
     where
-      some : (y : List ℕ × List ℕ) (ys : List (List ℕ × List ℕ)) → has_texts (told_texts s row name m (pairs (y ∷ ys))) ≡ true
-      some y ys = elim (explodes m) as (λ b. has_texts
+      some : (y : List ℕ × List ℕ) (ys : List (List ℕ × List ℕ)) → has_some (value_texts s row name m (pairs (y ∷ ys))) ≡ true
+      some y ys = elim (explodes m) as (λ b. has_some
           (cond b (map (pair_with 61) (map (shown_pair s row.allow) (y ∷ ys)))
           (in_one row name (map (pair_with 44) (map (shown_pair s row.allow) (y ∷ ys))))) ≡ true) [ true ↦ refl | false ↦ refl ]

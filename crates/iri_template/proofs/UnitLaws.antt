@@ -4,7 +4,7 @@ use Rattle.iri_template.proofs.Common.{Option, Some, None, length, take, drop, r
 use Rattle.iri_template.proofs.Common.{length-drop, subst, ◌==◌, is_some, nat_le, flat_map, is_ascii_hexdigit, len_utf8, encode_utf8, both}
 use Rattle.iri_template.proofs.Common.{not-true, nat_tests, len_utf8_bounds, chars-nil, Tests, any_char, is_ascii_any, is_ascii_reg_name}
 use Rattle.iri_template.proofs.Common.{is_ascii_unreserved, is_sub_delim, is_gen_delim, TextUnit, Plain, first_unit, units, texts, limited}
-use Rattle.iri_template.proofs.Common.{kept_unit, is_part, is_closed, after_unit, told_units, left_over, fewer, step_units, step_pending}
+use Rattle.iri_template.proofs.Common.{kept_unit, is_part, is_closed, after_unit, ready_units, left_over, fewer, step_units, step_pending}
 use Rattle.iri_template.proofs.Common.{is_used_up, next_state, unit_step, written_units, unit_step_text, begins_triplet, Units, IsUtf8}
 use Rattle.iri_template.proofs.Common.{chars, lacks, by_test, keeps, encoded_char, encoded, unit_at, TellsNone, IsUnit}
 use Rattle.std.proofs.Common.{eqb-true}
@@ -16,9 +16,9 @@ use Rattle.std.proofs.lemmas.Str.{encodes-chars, encode_ascii, chars-IsAscii}
 use Rattle.iri_grammar.specs.Classes.{IsSpec}
 use Rattle.iri_percent.specs.Units.{Char, Stray, is_triplet, octet, octets, well_formed, first_char, triplet_unit, byte_unit, unit_text}
 use Rattle.iri_percent.specs.Units.{units_from, Lone}
-use Rattle.iri_percent.proofs.UnitTexts.{some_taken}
+use Rattle.iri_percent.proofs.UnitTexts.{unit_prefix}
 use Rattle.iri_percent.proofs.UnitLaws.{first_char_is, char_first, octets_other, byte_other, units_from_drop}
-use Rattle.iri_percent.specs.DelimiterLaws.{IsOutsideTriplets}
+use Rattle.iri_percent.specs.Units.{IsOutsideTriplets}
 use Rattle.iri_percent.proofs.DelimiterLaws.{char_within, unit_within, units_delimiter, triplet_more}
 use Rattle.iri_percent.proofs.Characters.{first_of_four}
 use Rattle.iri_text.specs.inside.Through.{after}
@@ -117,22 +117,8 @@ first_settled x (a ∷ b ∷ xs) r h =
     ∙ triplet_more a b (x ∷ a ∷ b ∷ xs) r (first_char (octets (x ∷ a ∷ b ∷ xs))) refl)
 
 -- a unit has bytes
-some_byte : (x : ℕ) → 0 < length (unit_text (byte_unit x))
-some_byte x = elim (x == 37) as (λ v. 0 < length (unit_text (cond v Stray (Plain x)))) [ true ↦ omega arith | false ↦ omega arith ]
-
-some_triplet : (x a b : ℕ) (xs : List ℕ) (o : Option ℕ) → 0 < length (unit_text (triplet_unit a b (x ∷ a ∷ b ∷ xs) o))
-some_triplet x a b xs None = omega arith
-some_triplet x a b xs (Some c) = some_taken (3 * len_utf8 c) x (a ∷ b ∷ xs) (omega (arith, len_utf8_bounds c))
-
 pub unit_some : (x : ℕ) (xs : List ℕ) → 0 < length (unit_text (first_unit x xs))
-unit_some x [] = some_byte x
-unit_some x (a ∷ []) = some_byte x
-unit_some x (a ∷ b ∷ xs) =
-    elim (is_triplet x a b) as (λ v. 0 < length (unit_text
-    (cond v (triplet_unit a b (x ∷ a ∷ b ∷ xs) (first_char (octets (x ∷ a ∷ b ∷ xs)))) (byte_unit x)))) [
-      | true ↦ some_triplet x a b xs (first_char (octets (x ∷ a ∷ b ∷ xs)))
-      | false ↦ some_byte x
-    ]
+unit_some x xs = (unit_prefix x xs).some
 
 drop_within : (n x : ℕ) (xs r : List ℕ) → 0 < n → n ≤ length (x ∷ xs) → drop (n - 1) (xs ++ r) ≡ drop n (x ∷ xs) ++ r
 drop_within zero x xs r h k = absurd (omega arith)
@@ -155,24 +141,24 @@ units_one x xs = ap (λ l. units (x ∷ l)) (sym (append-nil xs)) ∙ units_firs
 pub after_shorter : (x : ℕ) (xs : List ℕ) → length (after_unit x xs) < length (x ∷ xs)
 after_shorter x xs = omega (arith, length-drop (length (unit_text (first_unit x xs))) (x ∷ xs), unit_some x xs, unit_within x xs)
 
--- ---- units that are told as long as they are settled, and all of them
-drained : (k : ℕ) (t r : List ℕ) → units (t ++ r) ≡ told_units false k t ++ units (left_over false k t ++ r)
+-- ---- units that are ready as long as they are settled, and all of them
+drained : (k : ℕ) (t r : List ℕ) → units (t ++ r) ≡ ready_units false k t ++ units (left_over false k t ++ r)
 drained zero t r = refl
 drained (suc k) [] r = refl
 drained (suc k) (x ∷ xs) r =
     elim (is_settled (x ∷ xs)) as (λ b. is_settled (x ∷ xs) ≡ b
-    → units (x ∷ (xs ++ r)) ≡ cond b (first_unit x xs ∷ told_units false k (after_unit x xs)) []
+    → units (x ∷ (xs ++ r)) ≡ cond b (first_unit x xs ∷ ready_units false k (after_unit x xs)) []
     ++ units (cond b (left_over false k (after_unit x xs)) (x ∷ xs) ++ r)) [
       | true ↦ λ e. units_first x xs r (first_settled x xs r e) ∙ ap (λ us. first_unit x xs ∷ us) (drained k (after_unit x xs) r)
       | false ↦ λ _. refl
     ] refl
 
-pub all_told : (k : ℕ) (t : List ℕ) → length t ≤ k → told_units true k t ≡ units t
+pub all_ready : (k : ℕ) (t : List ℕ) → length t ≤ k → ready_units true k t ≡ units t
 unfolding units_from
-all_told zero [] h = refl
-all_told zero (x ∷ xs) h = absurd (omega arith)
-all_told (suc k) [] h = refl
-all_told (suc k) (x ∷ xs) h = ap (λ us. first_unit x xs ∷ us) (all_told k (after_unit x xs) (omega (arith, after_shorter x xs)))
+all_ready zero [] h = refl
+all_ready zero (x ∷ xs) h = absurd (omega arith)
+all_ready (suc k) [] h = refl
+all_ready (suc k) (x ∷ xs) h = ap (λ us. first_unit x xs ∷ us) (all_ready k (after_unit x xs) (omega (arith, after_shorter x xs)))
     ∙ sym (units_one x xs)
 
 unsettled_short : (t : List ℕ) → is_settled t ≡ false → length t ≤ 11
@@ -203,7 +189,7 @@ no_part c h = elim (c == 37) as (λ b. (c == 37) ≡ b → b || is_ascii_hexdigi
 step_law : (h : List ℕ) (c : ℕ) (r : List ℕ) → units (h ++ c ∷ r) ≡ step_units h c ++ units (step_pending h c ++ r)
 step_law h c r =
     elim (is_part c) as (λ b. is_part c ≡ b → units (h ++ c ∷ r)
-    ≡ cond b (told_units false 12 (h ++ c ∷ [])) (units h ++ Plain c ∷ [])
+    ≡ cond b (ready_units false 12 (h ++ c ∷ [])) (units h ++ Plain c ∷ [])
     ++ units (cond b (left_over false 12 (h ++ c ∷ [])) [] ++ r)) [
       | true ↦ λ _. ap units (sym (append_assoc h (c ∷ []) r)) ∙ drained 12 (h ++ c ∷ []) r
       | false ↦ λ e. units_delimiter c h r (no_part c e) ∙ sym (append_assoc (units h) (Plain c ∷ []) (units r))
@@ -270,18 +256,18 @@ units_all s u t = all_after s u.pending u.left t
 abbrev plain : Units
 plain = record { pending = []; left = None }
 
--- a character but `%` is told at once
-one_told : (c : ℕ) → (c == 37) ≡ false → (step_units [] c ≡ Plain c ∷ []) × (step_pending [] c ≡ [])
+-- a character but `%` is ready at once
+one_ready : (c : ℕ) → (c == 37) ≡ false → (step_units [] c ≡ Plain c ∷ []) × (step_pending [] c ≡ [])
 unfolding units_from
-one_told c n =
+one_ready c n =
     let settled : is_settled (c ∷ []) ≡ true =
     ap (λ b. is_some (first_char []) || not b) n ∙ or_right (is_some (first_char [])) true refl in
     let unit : first_unit c [] ≡ Plain c = ap (λ b. cond b Stray (Plain c)) n in
-    elim (is_part c) as (λ b. (cond b (told_units false 12 (c ∷ [])) (units [] ++ Plain c ∷ []) ≡ Plain c ∷ [])
+    elim (is_part c) as (λ b. (cond b (ready_units false 12 (c ∷ [])) (units [] ++ Plain c ∷ []) ≡ Plain c ∷ [])
     × (cond b (left_over false 12 (c ∷ [])) [] ≡ [])) [
       | true ↦ (
-        ap (λ b. cond b (first_unit c [] ∷ told_units false 11 (after_unit c [])) []) settled
-            ∙ ap (λ u. u ∷ told_units false 11 (drop (length (unit_text u)) (c ∷ []))) unit,
+        ap (λ b. cond b (first_unit c [] ∷ ready_units false 11 (after_unit c [])) []) settled
+            ∙ ap (λ u. u ∷ ready_units false 11 (drop (length (unit_text u)) (c ∷ []))) unit,
         ap (λ b. cond b (left_over false 11 (after_unit c [])) (c ∷ [])) settled
             ∙ ap (λ u. left_over false 11 (drop (length (unit_text u)) (c ∷ []))) unit,
       )
@@ -294,7 +280,7 @@ plain_texts : (s : Tests) (cs : List ℕ) → lacks 37 cs ≡ true
 plain_texts s [] h = (refl, refl)
 plain_texts s (c ∷ cs) h =
     let k = both (not (c == 37)) (lacks 37 cs) h in
-    let one = one_told c (not-true (c == 37) k.0) in
+    let one = one_ready c (not-true (c == 37) k.0) in
     let more = plain_texts s cs k.1 in
     let step : unit_step plain c ≡ plain = ap (λ (l : List ℕ). record plain { pending = l }) one.1 in
     let kept = encoded_char (any_char s) c in (
@@ -336,7 +322,7 @@ long_enough (x ∷ []) h = cc
 long_enough (x ∷ a ∷ []) h = cc
 long_enough (x ∷ a ∷ b ∷ t) h = omega arith
 
--- ---- whether it is told
+-- ---- whether it is ready
 or_last : (e a b : Bool) → e || b ≡ true → e || (a || b) ≡ true
 or_last true a b h = refl
 or_last false true b h = refl
@@ -347,7 +333,7 @@ tells_none end [] h zero = (refl, refl)
 tells_none end [] h (suc k) = (refl, refl)
 tells_none end (x ∷ xs) h zero = (refl, refl)
 tells_none end (x ∷ xs) h (suc k) = (
-  ap (λ b. cond b (first_unit x xs ∷ told_units end k (after_unit x xs)) []) h,
+  ap (λ b. cond b (first_unit x xs ∷ ready_units end k (after_unit x xs)) []) h,
   ap (λ b. cond b (left_over end k (after_unit x xs)) (x ∷ xs)) h,
 )
 
@@ -373,7 +359,7 @@ unit_of_char s end t c h k =
     record {
       some = omega (arith, len_utf8_bounds c);
       within = inside;
-      told = ap (λ b. end || b) (ap (λ p. is_some p || (nat_le 12 (length t) || is_closed t)) k) ∙ or_right end true refl;
+      ready = ap (λ b. end || b) (ap (λ p. is_some p || (nat_le 12 (length t) || is_closed t)) k) ∙ or_right end true refl;
       all = ap (λ u. length (unit_text u)) is ∙ length-take-le (3 * len_utf8 c) t inside;
       text = ap (kept_unit s) is;
     }
@@ -400,7 +386,7 @@ unit_of_lone s end t h k e =
     record {
       some = omega arith;
       within = long_enough t h;
-      told = or_last end (is_some (first_char (octets t))) (nat_le 12 (length t) || is_closed t) e;
+      ready = or_last end (is_some (first_char (octets t))) (nat_le 12 (length t) || is_closed t) e;
       all = is.0;
       text = is.1;
     }
@@ -449,12 +435,12 @@ unit_of_byte s end (x ∷ t) k a h l e =
     record {
       some = omega arith;
       within = omega arith;
-      told = or_last end (is_some (first_char (octets (x ∷ t)))) (nat_le 12 (length (x ∷ t)) || is_closed (x ∷ t)) e;
+      ready = or_last end (is_some (first_char (octets (x ∷ t)))) (nat_le 12 (length (x ∷ t)) || is_closed (x ∷ t)) e;
       all = ap (λ u. length (unit_text u)) is ∙ byte_length x;
       text = ap (kept_unit s) is ∙ one_byte s x k (a 0);
     }
 
--- where it isn't told, no character begins there
+-- where it isn't ready, no character begins there
 no_octets : (t : List ℕ) → begins_triplet t ≡ false → octets t ≡ []
 no_octets [] h = refl
 no_octets (x ∷ []) h = refl

@@ -1,16 +1,17 @@
 -- A walk over varspecs without a fault, where values may change: the portions of those that are left.
 use Rattle.iri_template.proofs.Common.{◌≡◌, ℕ, ◌+◌, ◌-◌, ◌*◌, Bool, true, false, cond, ◌||◌, List, [], ◌∷◌, Option, None, Some, length, map}
 use Rattle.iri_template.proofs.Common.{refl, sym, ◌∙◌, ap, subst, arith, Ok, Err, Bor, Tests, before, after, pieces, now_of, AreSinkLaws}
-use Rattle.iri_template.proofs.Common.{row_of, value_texts, fault, moved, varspec_fault, led, has_texts, varspecs_left, Portion}
+use Rattle.iri_template.proofs.Common.{row_of, value_texts, fault, moved, varspec_fault, has_some, varspecs_left, Portion}
 use Rattle.iri_template.proofs.Common.{varspec_portions, portions_fault, calls_in, varspec_of, varspec_text, Telling, later, WhereTold}
-use Rattle.iri_template.proofs.Common.{MovesBy, is_mistyped, is_mistyped_as, EndsAs, CallsUpTo, told_texts, Error, UnexpectedValueType}
+use Rattle.iri_template.proofs.Common.{MovesBy, is_mistyped, EndsAs, CallsUpTo, Error, UnexpectedValueType}
 use Rattle.iri_template.proofs.Common.{Operator, Typecheck, Expand}
 use Rattle.iri_template.specs.Template.{VarSpec as TemplateVarSpec}
-use Rattle.iri_template.specs.VarSpecs.{IsHeld}
-use Rattle.iri_template.specs.inside.Checked.{held_portion}
+use Rattle.iri_template.specs.VarSpecs.{held, IsHeld}
+use Rattle.iri_template.specs.Portions.{varspec_portion}
+use Rattle.iri_template.specs.declared.varspec.Modifier.{Modifier}
 use Rattle.iri_template.specs.declared.varspec.VarSpec.{VarSpec}
 use Rattle.iri_template.proofs.PortionWalk.{HasEnded, ended_none, ended_more, ended_exit, ended_calls, ended_end, BothTold, moved_on}
-use Rattle.iri_template.proofs.VarSpecWalk.{cut_spec, held_spec, mistyped_spec, spec_len}
+use Rattle.iri_template.proofs.VarSpecWalk.{cut_spec, spec_len}
 
 -- the varspecs in a text
 abbrev pub specs_in : List ℕ → ℕ
@@ -20,11 +21,7 @@ pub specs_cut : (t : List ℕ) (o : Option (Bor (List ℕ))) → now_of o ≡ af
 specs_cut t o e = let z = ap (λ ps. length (map varspec_of ps)) (cut_spec t o e) in omega (arith, z)
 
 -- ---- the calls that varspecs take
--- one that isn't mistyped takes two
-two_calls : (at : ℕ) (m n : Bool) → cond (m || n) (fault UnexpectedValueType at) None ≡ None → cond m 1 2 + 0 ≡ 2
-two_calls at true n h = cc
-two_calls at false n h = refl
-
+-- one that isn't mistyped takes two, and then the others are fine
 one_more : (at : ℕ) (m n : Bool) (others : Option Error) → cond (m || n) (fault UnexpectedValueType at) others ≡ None → (cond m 1 2 + 0 ≡ 2) × (others ≡ None)
 one_more at true n others h = cc
 one_more at false true others h = cc
@@ -35,41 +32,37 @@ pub calls_of_all : (s : Tests) (operator : Operator) (h : Telling) (at : ℕ) (w
 calls_of_all s operator h at written [] e = refl
 calls_of_all s operator h at written (v ∷ vs) e =
     let there = at + length (varspec_text v) + 1 in
-    let now = written || has_texts (value_texts s (row_of operator) v.name v.modifier (h 1 v.name Expand)) in
-    let k = one_more at (is_mistyped v.modifier (h 0 v.name Typecheck)) (is_mistyped v.modifier (h 1 v.name Expand))
+    let now = written || has_some (value_texts s (row_of operator) v.name (held v.modifier) (h 1 v.name Expand)) in
+    let k = one_more at (is_mistyped (held v.modifier) (h 0 v.name Typecheck)) (is_mistyped (held v.modifier) (h 1 v.name Expand))
     (portions_fault (varspec_portions s operator (later 2 h) there now vs)) e in
     omega (arith, k.0, calls_of_all s operator (later 2 h) there now vs k.1)
 
 module _ (s : Tests) (operator : Operator) where
   -- what a varspec as it is held writes for the value of its second visit
   abbrev pub told_at : VarSpec → Telling → List (List ℕ)
-  told_at v f = told_texts s (row_of operator) v.name.text.now v.modifier (f 1 v.name.text.now Expand)
+  told_at v f = value_texts s (row_of operator) v.name.text.now v.modifier (f 1 v.name.text.now Expand)
 
   -- its portion
   abbrev pub portion_of : ℕ → Bool → VarSpec → Telling → Portion
-  portion_of at written v f =
-      held_portion s operator at written v (is_mistyped_as v.modifier (f 0 v.name.text.now Typecheck)) (f 1 v.name.text.now Expand)
+  portion_of at written v f = varspec_portion s operator at written v.name.text.now v.modifier (is_mistyped v.modifier (f 0 v.name.text.now Typecheck))
+      (f 1 v.name.text.now Expand)
 
   -- the first portion, and those of the others
   next_portion : (f : Telling) (at : ℕ) (written : Bool) (t : List ℕ) (v : VarSpec) (o : Option (Bor (List ℕ))) → now_of o ≡ after 44 t
       → moved 0 (varspec_fault (before 44 t)) ≡ None → IsHeld v (varspec_of (before 44 t))
       → varspec_portions s operator f at written (map varspec_of (pieces 44 t))
       ≡ portion_of at written v f
-      ∷ varspec_portions s operator (later 2 f) (at + length (before 44 t) + 1) (written || has_texts (told_at v f)) (map varspec_of (varspecs_left o))
+      ∷ varspec_portions s operator (later 2 f) (at + length (before 44 t) + 1) (written || has_some (told_at v f)) (map varspec_of (varspecs_left o))
   next_portion f at written t v o e h i =
       let w = varspec_of (before 44 t) in
-      let shape : List (List ℕ) → Bool → Bool → ℕ → List Portion = λ ts m n len.
-      (record { location = at; text = led (row_of operator) written ts; mistyped = m || n; calls = cond m 1 2 })
-      ∷ varspec_portions s operator (later 2 f) (at + len + 1) (written || has_texts ts) (map varspec_of (varspecs_left o)) in
-      let ts = value_texts s (row_of operator) w.name w.modifier (f 1 w.name Expand) in
-      let m = is_mistyped w.modifier (f 0 w.name Typecheck) in
-      let n = is_mistyped w.modifier (f 1 w.name Expand) in
+      let len = length (before 44 t) in
+      let shape : List ℕ → Modifier → ℕ → List Portion = λ name m n.
+      varspec_portion s operator at written name m (is_mistyped m (f 0 name Typecheck)) (f 1 name Expand)
+      ∷ varspec_portions s operator (later 2 f) (at + n + 1) (written || has_some (value_texts s (row_of operator) name m (f 1 name Expand)))
+      (map varspec_of (varspecs_left o)) in
       ap (λ ps. varspec_portions s operator f at written (map varspec_of ps)) (cut_spec t o e)
-      ∙ ap (λ len. shape ts m n len) (spec_len (before 44 t) h)
-      ∙ ap (λ us. shape us m n (length (before 44 t))) (sym (held_spec s operator (λ name. f 1 name Expand) v w i))
-      ∙ ap (λ b. shape (told_at v f) b n (length (before 44 t))) (sym (mistyped_spec (λ name. f 0 name Typecheck) v w i))
-      ∙ ap (λ b. shape (told_at v f) (is_mistyped_as v.modifier (f 0 v.name.text.now Typecheck)) b (length (before 44 t)))
-      (sym (mistyped_spec (λ name. f 1 name Expand) v w i))
+      ∙ ap (shape w.name (held w.modifier)) (spec_len (before 44 t) h) ∙ ap (λ m. shape w.name m len) (sym i.modifier)
+      ∙ ap (λ name. shape name v.modifier len) (sym i.name)
 
   module _ {W : Type 0} (puts halts : W → List ℕ → W → Type 0) (laws : AreSinkLaws puts halts) (at : ℕ) (all : List ℕ) (a : W) where
     -- all portions, and those that are left
@@ -94,28 +87,28 @@ module _ (s : Tests) (operator : Operator) where
       place = at + (length all - length t)
 
       abbrev rest_of : Telling → List Portion
-      rest_of h = varspec_portions s operator (later 2 h) (place + length (before 44 t) + 1) (written || has_texts (told_at v h))
+      rest_of h = varspec_portions s operator (later 2 h) (place + length (before 44 t) + 1) (written || has_some (told_at v h))
           (map varspec_of (varspecs_left o))
 
       parted : (f h : Telling) → WrittenUpTo written t b f h → HasEnded puts (whole f) a (portion_of place written v h ∷ rest_of h) b f h
       parted f h p = subst (λ l. HasEnded puts (whole f) a l b f h) (next_portion h place written t v o e fine i) p
 
       -- it was written
-      written_one : (f h k : Telling) (now : Bool) (x : Unit {0}) → now ≡ (written || has_texts (told_at v h)) → MovesBy 2 (Some h) (Some k)
+      written_one : (f h k : Telling) (now : Bool) (x : Unit {0}) → now ≡ (written || has_some (told_at v h)) → MovesBy 2 (Some h) (Some k)
           → EndsAs puts halts (portion_of place written v h ∷ []) b c (Ok x) → WrittenUpTo written t b f h
           → HasEnded puts (whole f) a (varspec_portions s operator k (place + length (before 44 t) + 1) now (map varspec_of (varspecs_left o))) c f k
       written_one f h k now x is m q p =
           subst (λ (n : Bool). HasEnded puts (whole f) a (varspec_portions s operator k (place + length (before 44 t) + 1) n (map varspec_of (varspecs_left o))) c f k) (sym is)
           (subst (λ (l : Telling). HasEnded puts (whole f) a
-          (varspec_portions s operator l (place + length (before 44 t) + 1) (written || has_texts (told_at v h)) (map varspec_of (varspecs_left o))) c f k)
+          (varspec_portions s operator l (place + length (before 44 t) + 1) (written || has_some (told_at v h)) (map varspec_of (varspecs_left o))) c f k)
           (sym (moved_on 2 h k m))
           (ended_more puts halts laws (whole f) (portion_of place written v h ∷ []) (rest_of h) a b c x f h k
-          (subst (λ n. MovesBy n (Some h) (Some k)) (sym (two_calls place (is_mistyped_as v.modifier (h 0 v.name.text.now Typecheck))
-          (is_mistyped_as v.modifier (h 1 v.name.text.now Expand)) q.0)) m) (parted f h p) q))
+          (subst (λ n. MovesBy n (Some h) (Some k)) (sym (one_more place (is_mistyped v.modifier (h 0 v.name.text.now Typecheck))
+          (is_mistyped v.modifier (h 1 v.name.text.now Expand)) None q.0).0) m) (parted f h p) q))
 
       pub up_to_more : (r : List ℕ) (now : Bool) (x : Unit {0}) → varspecs_left o ≡ pieces 44 r
           → at + (length all - length r) ≡ place + length (before 44 t) + 1 → (u w z : Option Telling)
-          → BothTold u w (WrittenUpTo written t b) → MovesBy 2 w z → WhereTold w (λ h. now ≡ (written || has_texts (told_at v h)))
+          → BothTold u w (WrittenUpTo written t b) → MovesBy 2 w z → WhereTold w (λ h. now ≡ (written || has_some (told_at v h)))
           → WhereTold w (λ h. EndsAs puts halts (portion_of place written v h ∷ []) b c (Ok x)) → BothTold u z (WrittenUpTo now r c)
       up_to_more r now x left len None w z p m is q = tt
       up_to_more r now x left len (Some f) None z p m is q = absurd p
@@ -126,7 +119,7 @@ module _ (s : Tests) (operator : Operator) where
           (written_one f h k now x is m q p))
 
       pub up_to_end : (now : Bool) (x y : Unit {0}) → varspecs_left o ≡ [] → (u w z : Option Telling) → BothTold u w (WrittenUpTo written t b)
-          → MovesBy 2 w z → WhereTold w (λ h. now ≡ (written || has_texts (told_at v h)))
+          → MovesBy 2 w z → WhereTold w (λ h. now ≡ (written || has_some (told_at v h)))
           → WhereTold w (λ h. EndsAs puts halts (portion_of place written v h ∷ []) b c (Ok x))
           → WhereTold u (λ f. EndsAs puts halts (whole f) a c (Ok y))
       up_to_end now x y none None w z p m is q = tt

@@ -3,16 +3,16 @@ use Rattle.iri_template.proofs.Common.{◌≡◌, ℕ, ◌+◌, ◌-◌, true, f
 use Rattle.iri_template.proofs.Common.{◌∙◌, ap, arith, length-append, [], before, after, delimited, joined, from_any, pieces, is_varname}
 use Rattle.iri_template.proofs.Common.{ends_name, name_of, varspec_of, pieces_of, fault, moved, first, unless, name_fault, modifier_fault}
 use Rattle.iri_template.proofs.Common.{varspec_fault, varspecs_fault, text_fault, Error, InvalidExpression, UnexpectedValueType, Bor}
-use Rattle.iri_template.proofs.Common.{now_of, varspecs_left, Tests, Piece, literal, triplet, expression, operator_text, varspec_text}
-use Rattle.iri_template.proofs.Common.{piece_text, row_of, ShownValue, undefined, is_mistyped, is_mistyped_as, varspecs_type_fault}
-use Rattle.iri_template.proofs.Common.{type_fault_from, type_fault, untold, told_texts, Operator}
+use Rattle.iri_template.proofs.Common.{now_of, varspecs_left, Piece, literal, triplet, expression, operator_text, varspec_text}
+use Rattle.iri_template.proofs.Common.{piece_text, ShownValue, undefined, is_mistyped, varspecs_type_fault}
+use Rattle.iri_template.proofs.Common.{type_fault_from, type_fault, untold}
 use Rattle.iri_grammar.specs.inside.PiecesLaws.{more_pieces}
 use Rattle.iri_grammar.proofs.PiecesLaws.{pieces_cut}
 use Rattle.iri_template.proofs.FaultLemmas.{moved_moved, unmoved, varspecs_moved, moved_none, first_first, first_none}
-use Rattle.iri_template.specs.Expansion.{varspec_texts}
 use Rattle.iri_template.specs.VarSpecs.{held, IsHeld}
 use Rattle.iri_template.specs.declared.varspec.VarSpec.{VarSpec}
-use Rattle.iri_template.proofs.Telling.{held_texts}
+use Rattle.iri_template.specs.declared.varspec.Modifier.{Modifier}
+use Rattle.iri_template.specs.declared.varspec.Modifier.TheVariants.{Whole, Explode, Prefix}
 use Rattle.iri_template.proofs.VarSpecLemmas.{varspec_is}
 use Rattle.iri_template.specs.Template as template
 
@@ -84,27 +84,13 @@ pub fine_left : (t : List ℕ) (o : Option (Bor (List ℕ))) → now_of o ≡ af
 fine_left t None e h k = refl
 fine_left t (Some r) e h k = varspecs_anywhere (0 + (length t - length r.now)) (pieces 44 r.now) (sym (more_varspecs 0 t r.now e h) ∙ k)
 
--- ---- what is written
-pub held_spec : (s : Tests) (operator : Operator) (value : List ℕ → ShownValue) (v : VarSpec) (w : template.VarSpec) → IsHeld v w
-    → told_texts s (row_of operator) v.name.text.now v.modifier (value v.name.text.now) ≡ varspec_texts s operator value w
-held_spec s operator value v w i =
-    ap (λ n. told_texts s (row_of operator) n v.modifier (value n)) i.name
-    ∙ ap (λ m. told_texts s (row_of operator) w.name m (value w.name)) i.modifier
-    ∙ held_texts s (row_of operator) w.name w.modifier (value w.name)
-
 -- ---- types
 pub spec_len : (p : List ℕ) → moved 0 (varspec_fault p) ≡ None → length (varspec_text (varspec_of p)) ≡ length p
 spec_len p h = ap length (varspec_is p (sym (moved_none (varspec_fault p)) ∙ h)).1
 
-held_mistyped : (m : template.Modifier) (v : ShownValue) → is_mistyped_as (held m) v ≡ is_mistyped m v
-held_mistyped template.whole v = refl
-held_mistyped template.explode v = refl
-held_mistyped (template.prefix ds) v = refl
-
 pub mistyped_spec : (value : List ℕ → ShownValue) (v : VarSpec) (w : template.VarSpec) → IsHeld v w
-    → is_mistyped_as v.modifier (value v.name.text.now) ≡ is_mistyped w.modifier (value w.name)
-mistyped_spec value v w i = ap (λ n. is_mistyped_as v.modifier (value n)) i.name ∙ ap (λ m. is_mistyped_as m (value w.name)) i.modifier
-    ∙ held_mistyped w.modifier (value w.name)
+    → is_mistyped v.modifier (value v.name.text.now) ≡ is_mistyped (held w.modifier) (value w.name)
+mistyped_spec value v w i = ap (λ n. is_mistyped v.modifier (value n)) i.name ∙ ap (λ m. is_mistyped m (value w.name)) i.modifier
 
 as_first : (b : Bool) (at : ℕ) (f : Option Error) → cond b (fault UnexpectedValueType at) f
     ≡ first (cond b (fault UnexpectedValueType at) None) f
@@ -115,29 +101,29 @@ as_first false at f = refl
 pub types_spec : (value : List ℕ → ShownValue) (found : Option Error) (at : ℕ) (t : List ℕ) (v : VarSpec) (o : Option (Bor (List ℕ)))
     → now_of o ≡ after 44 t → moved at (varspec_fault (before 44 t)) ≡ None → IsHeld v (varspec_of (before 44 t))
     → first found (varspecs_type_fault value at (map varspec_of (pieces 44 t)))
-    ≡ first (first found (cond (is_mistyped_as v.modifier (value v.name.text.now)) (fault UnexpectedValueType at) None))
+    ≡ first (first found (cond (is_mistyped v.modifier (value v.name.text.now)) (fault UnexpectedValueType at) None))
     (varspecs_type_fault value (at + length (before 44 t) + 1) (map varspec_of (varspecs_left o)))
 types_spec value found at t v o e h i =
     let w = varspec_of (before 44 t) in
-    let b = is_mistyped_as v.modifier (value v.name.text.now) in
+    let b = is_mistyped v.modifier (value v.name.text.now) in
     let others = varspecs_type_fault value (at + length (before 44 t) + 1) (map varspec_of (varspecs_left o)) in
     let good : moved 0 (varspec_fault (before 44 t)) ≡ None = ap (moved 0) (unmoved at (varspec_fault (before 44 t)) h) in
     ap (λ ps. first found (varspecs_type_fault value at (map varspec_of ps))) (cut_spec t o e)
-    ∙ ap (λ n. first found (cond (is_mistyped w.modifier (value w.name)) (fault UnexpectedValueType at)
+    ∙ ap (λ n. first found (cond (is_mistyped (held w.modifier) (value w.name)) (fault UnexpectedValueType at)
     (varspecs_type_fault value (at + n + 1) (map varspec_of (varspecs_left o))))) (spec_len (before 44 t) good)
     ∙ ap (λ x. first found (cond x (fault UnexpectedValueType at) others)) (sym (mistyped_spec value v w i))
     ∙ ap (first found) (as_first b at others) ∙ sym (first_first found (cond b (fault UnexpectedValueType at) None) others)
 
-untold_right : (m : template.Modifier) → is_mistyped m undefined ≡ false
-untold_right template.whole = refl
-untold_right template.explode = refl
-untold_right (template.prefix ds) = refl
+untold_right : (m : Modifier) → is_mistyped m undefined ≡ false
+untold_right Whole = refl
+untold_right Explode = refl
+untold_right (Prefix n) = refl
 
 untold_specs : (at : ℕ) (vs : List template.VarSpec) → varspecs_type_fault untold at vs ≡ None
 untold_specs at [] = refl
 untold_specs at (v ∷ vs) =
     let there = at + length (varspec_text v) + 1 in
-    ap (λ b. cond b (fault UnexpectedValueType at) (varspecs_type_fault untold there vs)) (untold_right v.modifier) ∙ untold_specs there vs
+    ap (λ b. cond b (fault UnexpectedValueType at) (varspecs_type_fault untold there vs)) (untold_right (held v.modifier)) ∙ untold_specs there vs
 
 -- no value is of a wrong type where there is none
 untold_types : (at : ℕ) (ps : List Piece) → type_fault_from untold at ps ≡ None

@@ -1,8 +1,8 @@
 -- What a visitor that writes has done of a value, whose type it checks, and how it has ended then.
 use Rattle.iri_template.proofs.Common.{◌≡◌, ℕ, Bool, true, false, cond, ◌&&◌, ◌||◌, List, [], ◌∷◌, ◌++◌, map, refl, sym, ◌∙◌, ap, Option}
 use Rattle.iri_template.proofs.Common.{None, Some, subst, append-nil, Result, Ok, Err, Tests, texts, ShownValue, undefined, string, list}
-use Rattle.iri_template.proofs.Common.{pairs, is_mistyped_as, WriteState, event_step, event_text, AreSinkLaws, Shows, Stop, row_of, fault}
-use Rattle.iri_template.proofs.Common.{led, has_texts, Portion, Telling, WhereTold, EndsAs, Error, WriteFailed, UnexpectedValueType, Expand}
+use Rattle.iri_template.proofs.Common.{pairs, is_mistyped, WriteState, event_step, event_text, AreSinkLaws, Shows, Stop, row_of, fault}
+use Rattle.iri_template.proofs.Common.{led, has_some, Portion, Telling, WhereTold, EndsAs, Error, WriteFailed, UnexpectedValueType, Expand}
 use Rattle.iri_text.specs.inside.Through.{after}
 use Rattle.iri_template.specs.Events.{Event, Undefined, StringTold, ListBegun, Item, PairsBegun, Entry, Finished, telling, entry_of}
 use Rattle.iri_template.specs.inside.Checked.{has_prefix, CheckState, refuses, is_misfit, checked_step, checked_text, is_put, puts_some}
@@ -87,13 +87,13 @@ none_put ev i (x ∷ xs) = ap (λ b. b || puts_some true (map ev xs ++ (Finished
 -- what was written of it, and whether it is mistyped; where it is, nothing is put
 pub record IsChecked (s : Tests) (w : WriteState) (v : ShownValue) : Type 0 where
   pub texts_are : texts checked_step (checked_text s) (checking w false) (telling v)
-      ≡ cond (is_mistyped_as w.modifier v) [] (texts event_step (event_text s) w (telling v))
-  pub mistyped_is : (after checked_step (checked_text s) (checking w false) (telling v)).mistyped ≡ is_mistyped_as w.modifier v
-  pub write_is : is_mistyped_as w.modifier v ≡ false
+      ≡ cond (is_mistyped w.modifier v) [] (texts event_step (event_text s) w (telling v))
+  pub mistyped_is : (after checked_step (checked_text s) (checking w false) (telling v)).mistyped ≡ is_mistyped w.modifier v
+  pub write_is : is_mistyped w.modifier v ≡ false
       → (after checked_step (checked_text s) (checking w false) (telling v)).write ≡ after event_step (event_text s) w (telling v)
-  pub silent : is_mistyped_as w.modifier v ≡ true → puts_some (has_prefix w.modifier) (telling v) ≡ false
+  pub silent : is_mistyped w.modifier v ≡ true → puts_some (has_prefix w.modifier) (telling v) ≡ false
 
-without : (s : Tests) (w : WriteState) (v : ShownValue) → has_prefix w.modifier ≡ false → is_mistyped_as w.modifier v ≡ false → IsChecked s w v
+without : (s : Tests) (w : WriteState) (v : ShownValue) → has_prefix w.modifier ≡ false → is_mistyped w.modifier v ≡ false → IsChecked s w v
 without s w v h k = record {
   texts_are = plain_texts s w false (telling v) h ∙ ap (λ b. cond b [] (texts event_step (event_text s) w (telling v))) (sym k);
   mistyped_is = ap (λ (u : CheckState). u.mistyped) (plain_after s w false (telling v) h) ∙ sym k;
@@ -174,7 +174,7 @@ first_text s p v e = ap (λ b. texts event_step (event_text s) (begun p b) (tell
     ∙ told_text s p.operator p.name.text.now p.modifier p.written v
 
 first_written : (s : Tests) (p : ExpressionState) (v : ShownValue) → p.member ≡ false
-    → (after event_step (event_text s) (begun p p.member) (telling v)).written ≡ (p.written || has_texts (state_texts s p v))
+    → (after event_step (event_text s) (begun p p.member) (telling v)).written ≡ (p.written || has_some (state_texts s p v))
 first_written s p v e = ap (λ b. (after event_step (event_text s) (begun p b) (telling v)).written) e
     ∙ told_written s p.operator p.name.text.now p.modifier p.written v
 
@@ -187,9 +187,9 @@ module _ {S W : Type 0} (s : Tests) (a : ValueWriter S W) (v : ShownValue) (righ
   begins = ap (checking (write_state a.state)) right
 
   text_is : texts checked_step (checked_text s) (state_of s a) (telling v)
-      ≡ cond (is_mistyped_as a.state.modifier v) [] (led (row_of a.state.operator) a.state.written (state_texts s a.state v))
+      ≡ cond (is_mistyped a.state.modifier v) [] (led (row_of a.state.operator) a.state.written (state_texts s a.state v))
   text_is = ap (λ (u : CheckState). texts checked_step (checked_text s) u (telling v)) begins ∙ checked.texts_are
-      ∙ ap (λ l. cond (is_mistyped_as a.state.modifier v) [] l) (first_text s a.state v first)
+      ∙ ap (λ l. cond (is_mistyped a.state.modifier v) [] l) (first_text s a.state v first)
 
   abbrev portion_at : ℕ → Portion
   portion_at at = state_portion s at a.state false v
@@ -198,14 +198,14 @@ module _ {S W : Type 0} (s : Tests) (a : ValueWriter S W) (v : ShownValue) (righ
     abbrev Heard : Result (Unit {0}) Stop → Type 0
     Heard r = Shows (WriterHears s puts) (WriterHalts s halts) (λ (w : ValueWriter S W). stops w.to.now) a (telling v) b r
 
-    mistyped_is : {x : Unit {0}} → Heard (Ok x) → b.mistyped ≡ is_mistyped_as a.state.modifier v
+    mistyped_is : {x : Unit {0}} → Heard (Ok x) → b.mistyped ≡ is_mistyped a.state.modifier v
     mistyped_is q = ap (λ (u : CheckState). u.mistyped) (q.appends.through.goes_on
         ∙ ap (λ (u : CheckState). after checked_step (checked_text s) u (telling v)) begins) ∙ checked.mistyped_is
 
     pub ends_mistyped : {x : Unit {0}} (at : ℕ) (e : Error) → e ≡ record { kind = UnexpectedValueType; location = at } → b.mistyped ≡ true
         → Heard (Ok x) → EndsAs puts halts (portion_at at ∷ []) a.to.now b.to.now (Err e)
     ends_mistyped at e is m q =
-        let yes : is_mistyped_as a.state.modifier v ≡ true = sym (mistyped_is q) ∙ m in
+        let yes : is_mistyped a.state.modifier v ≡ true = sym (mistyped_is q) ∙ m in
         one_mistyped puts halts (portion_at at) a.to.now b.to.now e is yes
         (subst (λ l. puts a.to.now l b.to.now) (text_is
         ∙ ap (λ k. cond k [] (led (row_of a.state.operator) a.state.written (state_texts s a.state v))) yes) q.appends.through.put)
@@ -213,15 +213,15 @@ module _ {S W : Type 0} (s : Tests) (a : ValueWriter S W) (v : ShownValue) (righ
     pub ends_written : {x : Unit {0}} (at : ℕ) (y : Unit {0}) → b.mistyped ≡ false → Heard (Ok x)
         → EndsAs puts halts (portion_at at ∷ []) a.to.now b.to.now (Ok y)
     ends_written at y m q =
-        let no : is_mistyped_as a.state.modifier v ≡ false = sym (mistyped_is q) ∙ m in
+        let no : is_mistyped a.state.modifier v ≡ false = sym (mistyped_is q) ∙ m in
         one_written puts halts (portion_at at) a.to.now b.to.now y no
         (subst (λ l. puts a.to.now l b.to.now) (text_is
         ∙ ap (λ k. cond k [] (led (row_of a.state.operator) a.state.written (state_texts s a.state v))) no) q.appends.through.put)
 
     pub goes_on_written : {x : Unit {0}} → b.mistyped ≡ false → Heard (Ok x)
-        → b.state.written ≡ (a.state.written || has_texts (state_texts s a.state v))
+        → b.state.written ≡ (a.state.written || has_some (state_texts s a.state v))
     goes_on_written m q =
-        let no : is_mistyped_as a.state.modifier v ≡ false = sym (mistyped_is q) ∙ m in
+        let no : is_mistyped a.state.modifier v ≡ false = sym (mistyped_is q) ∙ m in
         ap (λ (u : CheckState). u.write.written) (q.appends.through.goes_on
         ∙ ap (λ (u : CheckState). after checked_step (checked_text s) u (telling v)) begins)
         ∙ ap (λ u. u.written) (checked.write_is no) ∙ first_written s a.state v first
@@ -231,8 +231,8 @@ module _ {S W : Type 0} (s : Tests) (a : ValueWriter S W) (v : ShownValue) (righ
         → Heard (Err d) → EndsAs puts halts (portion_at at ∷ []) a.to.now b.to.now (Err e)
     ends_stopped laws at e is q =
         let some : puts_some (has_prefix a.state.modifier) (telling v) ≡ true = q.stops_within.put in
-        let no : is_mistyped_as a.state.modifier v ≡ false =
-        elim (is_mistyped_as a.state.modifier v) as (λ k. is_mistyped_as a.state.modifier v ≡ k → k ≡ false) [
+        let no : is_mistyped a.state.modifier v ≡ false =
+        elim (is_mistyped a.state.modifier v) as (λ k. is_mistyped a.state.modifier v ≡ k → k ≡ false) [
           | true ↦ λ yes. let none = checked.silent yes in cc
           | false ↦ λ _. refl
         ] refl in

@@ -17,39 +17,18 @@ outside t at = record { location = at; text = t; mistyped = false; calls = 0 }
 abbrev written : List ℕ → ℕ → Portion
 written t at = record { location = at; text = t; mistyped = false; calls = 2 }
 
--- what stands between expressions is one portion, its triplets too; the operator's first text and separators belong to varspecs
-places : portions uri_tests (always (λ _. string (codes "1"))) (pieces_of (codes "a%41b{?x,y}c")) ≡ outside (codes "a%41b") 0
-    ∷ written (codes "?x=1") 7 ∷ written (codes "&y=1") 9 ∷ outside (codes "c") 11 ∷ []
+-- What stands between expressions is one portion, its triplets too; the operator's first text and separators belong to varspecs. A varspec
+-- without a value is a portion that writes nothing.
+places : (portions uri_tests (always (λ _. string (codes "1"))) (pieces_of (codes "a%41b{?x,y}c")) ≡ outside (codes "a%41b") 0
+    ∷ written (codes "?x=1") 7 ∷ written (codes "&y=1") 9 ∷ outside (codes "c") 11 ∷ [])
+    × (portions uri_tests (always (λ _. undefined)) (pieces_of (codes "hello/{world}")) ≡ outside (codes "hello/") 0 ∷ written [] 7 ∷ [])
 unfolding pieces_from chars encode unreserved is_ascii_unreserved any_char is_ascii_any is_ascii_reg_name is_sub_delim is_gen_delim
-places = refl
-
-around : portions uri_tests (always (λ _. string (codes "zz"))) (pieces_of (codes "ab{v}cd")) ≡ outside (codes "ab") 0
-    ∷ written (codes "zz") 3 ∷ outside (codes "cd") 5 ∷ []
-unfolding pieces_from chars encode unreserved is_ascii_unreserved any_char is_ascii_any is_ascii_reg_name is_sub_delim is_gen_delim
-around = refl
-
--- a varspec without a value is a portion that writes nothing
-no_value : portions uri_tests (always (λ _. undefined)) (pieces_of (codes "hello/{world}")) ≡ outside (codes "hello/") 0 ∷ written [] 7 ∷ []
-unfolding pieces_from chars encode unreserved is_ascii_unreserved any_char is_ascii_any is_ascii_reg_name is_sub_delim is_gen_delim
-no_value = refl
+places = (refl, refl)
 
 -- a string, and from then on a list
 turning : Telling
 turning zero name purpose = string (codes "b")
 turning (suc k) name purpose = list (codes "a" ∷ [])
-
-mistyped_later : portions_fault (portions uri_tests turning (pieces_of (codes "x{v:3}"))) ≡ fault UnexpectedValueType 2
-unfolding turning pieces_from chars encode unreserved is_ascii_unreserved any_char is_ascii_any is_ascii_reg_name is_sub_delim is_gen_delim
-mistyped_later = refl
-
-text_before : portions_text (portions uri_tests turning (pieces_of (codes "x{v:3}y"))) ≡ codes "x"
-unfolding turning pieces_from chars encode unreserved is_ascii_unreserved any_char is_ascii_any is_ascii_reg_name is_sub_delim is_gen_delim
-text_before = refl
-
--- without a length it is written
-no_length : portions_text (portions uri_tests turning (pieces_of (codes "x{v}y"))) ≡ codes "xay"
-unfolding turning pieces_from chars encode unreserved is_ascii_unreserved any_char is_ascii_any is_ascii_reg_name is_sub_delim is_gen_delim
-no_length = refl
 
 -- lists up to the third call, and strings from then on
 returning : Telling
@@ -57,14 +36,20 @@ returning zero name purpose = list (codes "a" ∷ [])
 returning (suc zero) name purpose = list (codes "a" ∷ [])
 returning (suc (suc k)) name purpose = string (codes "bcd")
 
--- calls 0 and 1 are of the first varspec, 2 and 3 of the second
-second_values : portions_text (portions uri_tests returning (pieces_of (codes "{/v,w:2}"))) ≡ codes "/a/bc"
-unfolding returning pieces_from chars encode unreserved is_ascii_unreserved any_char is_ascii_any is_ascii_reg_name is_sub_delim is_gen_delim
-second_values = refl
+-- Without a length a list is written. Calls 0 and 1 are of the first varspec, 2 and 3 of the second.
+texts : (portions_text (portions uri_tests turning (pieces_of (codes "x{v:3}y"))) ≡ codes "x")
+    × (portions_text (portions uri_tests turning (pieces_of (codes "x{v}y"))) ≡ codes "xay")
+    × (portions_text (portions uri_tests returning (pieces_of (codes "{/v,w:2}"))) ≡ codes "/a/bc")
+unfolding turning returning pieces_from chars encode unreserved is_ascii_unreserved any_char is_ascii_any is_ascii_reg_name
+    is_sub_delim is_gen_delim
+texts = (refl, refl, refl)
 
-mistyped_first : portions_fault (portions uri_tests returning (pieces_of (codes "{/w:2,v}"))) ≡ fault UnexpectedValueType 2
-unfolding returning pieces_from chars encode unreserved is_ascii_unreserved any_char is_ascii_any is_ascii_reg_name is_sub_delim is_gen_delim
-mistyped_first = refl
+faults : (portions_fault (portions uri_tests turning (pieces_of (codes "x{v:3}"))) ≡ fault UnexpectedValueType 2)
+    × (portions_fault (portions uri_tests returning (pieces_of (codes "{/w:2,v}"))) ≡ fault UnexpectedValueType 2)
+    × (portions_fault (portions uri_tests returning (pieces_of (codes "{/v,w:2}"))) ≡ None)
+unfolding turning returning pieces_from chars encode unreserved is_ascii_unreserved any_char is_ascii_any is_ascii_reg_name
+    is_sub_delim is_gen_delim
+faults = (refl, refl, refl)
 
 -- a value that is mistyped where it is looked at isn't asked for again
 calls : (calls_in (portions uri_tests returning (pieces_of (codes "x{w:2}"))) ≡ 1)
@@ -72,7 +57,3 @@ calls : (calls_in (portions uri_tests returning (pieces_of (codes "x{w:2}"))) �
 unfolding turning returning pieces_from chars encode unreserved is_ascii_unreserved any_char is_ascii_any is_ascii_reg_name
     is_sub_delim is_gen_delim
 calls = (refl, refl)
-
-right_types : portions_fault (portions uri_tests returning (pieces_of (codes "{/v,w:2}"))) ≡ None
-unfolding returning pieces_from chars encode unreserved is_ascii_unreserved any_char is_ascii_any is_ascii_reg_name is_sub_delim is_gen_delim
-right_types = refl

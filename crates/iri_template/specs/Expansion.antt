@@ -7,9 +7,11 @@ use Rattle.iri_grammar.specs.Pieces.{joined}
 use Rattle.iri_percent.specs.Units.{TextUnit, Plain, Char, Lone, Stray, IllFormed, units}
 use Rattle.iri_percent.specs.Mapping as mapping
 use Rattle.iri_percent.specs.Encoding.{encoded_char}
-use Rattle.iri_template.specs.Template.{Modifier, whole, explode, prefix, VarSpec, Piece, literal, triplet, expression}
-use Rattle.iri_template.specs.VarSpecs.{number_of}
+use Rattle.iri_template.specs.Template.{VarSpec, Piece, literal, triplet, expression}
+use Rattle.iri_template.specs.VarSpecs.{held}
 use Rattle.iri_template.specs.ShownValues.{ShownValue, undefined, string, list, pairs}
+use Rattle.iri_template.specs.declared.varspec.Modifier.{Modifier}
+use Rattle.iri_template.specs.declared.varspec.Modifier.TheVariants.{Whole, Explode, Prefix}
 use Rattle.iri_template.specs.declared.operator.Operator.{Operator}
 use Rattle.iri_template.specs.declared.operator.Operator.TheVariants.{Simple, Reserved, Fragment, Label, PathSegment, PathParameter}
 use Rattle.iri_template.specs.declared.operator.Operator.TheVariants.{FormQuery, FormContinuation}
@@ -78,16 +80,17 @@ abbrev pub in_one : Row → List ℕ → List (List ℕ) → List (List ℕ)
 in_one row name [] = []
 in_one row name (t ∷ ts) = named_text row name (joined comma (t ∷ ts)) ∷ []
 
--- the first where the members are told one by one
-abbrev pub if_exploded : {A : Type 0} → Modifier → A → A → A
-if_exploded explode a b = a
-if_exploded whole a b = b
-if_exploded (prefix ds) a b = b
+-- the members are told one by one
+abbrev pub explodes : Modifier → Bool
+explodes Whole = false
+explodes Explode = true
+explodes (Prefix n) = false
 
-abbrev pub max_length : Modifier → Option ℕ
-max_length (prefix ds) = Some (number_of ds)
-max_length whole = None
-max_length explode = None
+-- how many characters or units of a string are meant
+abbrev pub prefix_of : Modifier → Option ℕ
+prefix_of Whole = None
+prefix_of Explode = None
+prefix_of (Prefix n) = Some n
 
 abbrev pub shown_pair : Tests → Bool → List ℕ × List ℕ → List ℕ × List ℕ
 shown_pair s allow p = (shown_text s allow None p.0, shown_text s allow None p.1)
@@ -95,29 +98,33 @@ shown_pair s allow p = (shown_text s allow None p.0, shown_text s allow None p.1
 -- what a variable writes. A prefix is for strings alone.
 abbrev pub value_texts : Tests → Row → List ℕ → Modifier → ShownValue → List (List ℕ)
 value_texts s row name m undefined = []
-value_texts s row name m (string t) = string_text row name (shown_text s row.allow (max_length m) t) ∷ []
+value_texts s row name m (string t) = string_text row name (shown_text s row.allow (prefix_of m) t) ∷ []
 value_texts s row name m (list items) =
-    if_exploded m (map (named_text row name) (map (shown_text s row.allow None) items))
+    cond (explodes m) (map (named_text row name) (map (shown_text s row.allow None) items))
     (in_one row name (map (shown_text s row.allow None) items))
 value_texts s row name m (pairs entries) =
-    if_exploded m (map (pair_with equals_sign) (map (shown_pair s row.allow) entries))
+    cond (explodes m) (map (pair_with equals_sign) (map (shown_pair s row.allow) entries))
     (in_one row name (map (pair_with comma) (map (shown_pair s row.allow) entries)))
 
 -- ---- expressions and templates
--- the texts of an expression: the operator's first before all, and its separator between each two
-abbrev pub expression_text : Row → List (List ℕ) → List ℕ
-expression_text row [] = []
-expression_text row (t ∷ ts) = row.first ++ joined row.sep (t ∷ ts)
+-- the operator's first text, or its separator
+abbrev pub lead : Row → Bool → List ℕ
+lead row written = cond written (row.sep ∷ []) row.first
+
+-- texts, each after that; `written` says whether the expression has one before them
+abbrev pub led : Row → Bool → List (List ℕ) → List ℕ
+led row written [] = []
+led row written (t ∷ ts) = (lead row written ++ t) ++ led row true ts
 
 abbrev pub varspec_texts : Tests → Operator → (List ℕ → ShownValue) → VarSpec → List (List ℕ)
-varspec_texts s operator value v = value_texts s (row_of operator) v.name v.modifier (value v.name)
+varspec_texts s operator value v = value_texts s (row_of operator) v.name (held v.modifier) (value v.name)
 
 -- A literal that may stand in a reference stands as it is, and past ASCII it becomes its triplets where that is a URI; triplets outside
 -- expressions stand as they are (section 3.1).
 abbrev pub piece_expansion : Tests → (List ℕ → ShownValue) → Piece → List ℕ
 piece_expansion s value (literal c) = encoded_char (any_char s) c
 piece_expansion s value (triplet a b) = percent_sign ∷ a ∷ b ∷ []
-piece_expansion s value (expression operator vs) = expression_text (row_of operator) (flat_map (varspec_texts s operator value) vs)
+piece_expansion s value (expression operator vs) = led (row_of operator) false (flat_map (varspec_texts s operator value) vs)
 
 -- the text of a template's pieces, where names have these values
 abbrev pub expansion : Tests → (List ℕ → ShownValue) → List Piece → List ℕ

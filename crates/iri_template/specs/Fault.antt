@@ -39,7 +39,7 @@ unless b f = cond b None f
 abbrev pub name_fault : List ℕ → Option Error
 name_fault t = unless (is_varname t) (fault InvalidExpression 0)
 
--- ---- varspecs (section 2.3). A bad length is told one byte after the place where it begins.
+-- ---- varspecs (section 2.3). The place of a bad length is one byte after that where it begins.
 -- there are 0 bytes or more than 4; the first byte that is no digit; a leading zero
 abbrev pub max_length_fault : List ℕ → Option Error
 max_length_fault ds =

@@ -17,7 +17,6 @@ pub mod Examples
 pub mod Events
 pub mod Visits
 pub mod Expansion
-pub mod Led
 pub mod TypeFaults
 pub mod ExpansionExamples
 pub mod DynamicExamples

@@ -3,16 +3,17 @@ use Rattle.std.specs.Prelude.{ℕ, ◌+◌, ◌*◌, Bool, false, cond, ◌||◌
 use Rattle.iri_grammar.specs.Characters.{percent_sign}
 use Rattle.iri_grammar.specs.Classes.{Tests, any_char}
 use Rattle.iri_percent.specs.Encoding.{encoded_char}
-use Rattle.iri_template.specs.Template.{VarSpec, Piece, literal, triplet, expression, operator_text, varspec_text, piece_text}
-use Rattle.iri_template.specs.Expansion.{row_of, value_texts}
+use Rattle.iri_template.specs.Template.{has_some, VarSpec, Piece, literal, triplet, expression, operator_text, varspec_text, piece_text}
+use Rattle.iri_template.specs.Expansion.{row_of, value_texts, led}
 use Rattle.iri_template.specs.Fault.{fault}
-use Rattle.iri_template.specs.Led.{led, has_texts}
+use Rattle.iri_template.specs.VarSpecs.{held}
 use Rattle.iri_template.specs.ShownValues.{ShownValue}
 use Rattle.iri_template.specs.Tells.{Telling, later}
 use Rattle.iri_template.specs.TypeFaults.{is_mistyped}
 use Rattle.iri_template.specs.declared.error.Error.{Error}
 use Rattle.iri_template.specs.declared.error.ErrorKind.TheVariants.{UnexpectedValueType}
 use Rattle.iri_template.specs.declared.operator.Operator.{Operator}
+use Rattle.iri_template.specs.declared.varspec.Modifier.{Modifier}
 use Rattle.iri_template.specs.declared.visitor.VisitPurpose.TheVariants.{Typecheck, Expand}
 
 -- its place in the template, in bytes; what it writes; whether it is a varspec with a prefix that has no use for its value (section 2.4.1);
@@ -24,23 +25,23 @@ pub record Portion : Type 0 where
   pub calls : ℕ
 
 -- ---- varspecs
--- One with a first value, told to look at its type, and a second one, told to be written; no second one is asked for where the first is
--- mistyped. What it writes is the second one's texts; `written` says whether its expression has a text before it.
-abbrev pub varspec_portion : Tests → Operator → ℕ → Bool → VarSpec → ShownValue → ShownValue → Portion
-varspec_portion s operator at written v looked_at told = record {
+-- One that is looked at first, and whose value is told to be written where its type was right then. `written` says whether its expression has a
+-- text before it.
+abbrev pub varspec_portion : Tests → Operator → ℕ → Bool → List ℕ → Modifier → Bool → ShownValue → Portion
+varspec_portion s operator at written name modifier mistyped told = record {
   location = at;
-  text = led (row_of operator) written (value_texts s (row_of operator) v.name v.modifier told);
-  mistyped = is_mistyped v.modifier looked_at || is_mistyped v.modifier told;
-  calls = cond (is_mistyped v.modifier looked_at) 1 2;
+  text = led (row_of operator) written (value_texts s (row_of operator) name modifier told);
+  mistyped = mistyped || is_mistyped modifier told;
+  calls = cond mistyped 1 2;
 }
 
 -- The varspecs of an expression, a comma between each two. Each takes two calls.
 abbrev pub varspec_portions : Tests → Operator → Telling → ℕ → Bool → List VarSpec → List Portion
 varspec_portions s operator tells at written [] = []
 varspec_portions s operator tells at written (v ∷ vs) =
-    varspec_portion s operator at written v (tells 0 v.name Typecheck) (tells 1 v.name Expand)
+    varspec_portion s operator at written v.name (held v.modifier) (is_mistyped (held v.modifier) (tells 0 v.name Typecheck)) (tells 1 v.name Expand)
     ∷ varspec_portions s operator (later 2 tells) (at + length (varspec_text v) + 1)
-    (written || has_texts (value_texts s (row_of operator) v.name v.modifier (tells 1 v.name Expand))) vs
+    (written || has_some (value_texts s (row_of operator) v.name (held v.modifier) (tells 1 v.name Expand))) vs
 
 -- ---- templates
 -- literals and triplets outside expressions; none where there are none

@@ -1,4 +1,4 @@
--- How a template is read, from the left: the piece at its start, and how long that is. What no piece begins is read as it comes, and told as a fault.
+-- How a template is read, from the left: the piece at its start, and how long that is. What no piece begins is read as it comes, and is a fault.
 use Rattle.std.specs.Prelude.{ℕ, zero, suc, ◌+◌, ◌-◌, Bool, cond, ◌||◌, ◌==◌, List, [], ◌∷◌, map, length, drop}
 use Rattle.std.specs.Char.{len_utf8}
 use Rattle.std.specs.Str.{chars}

@@ -48,15 +48,15 @@ is_modifier (prefix ds) = is_max_length ds
 abbrev pub is_varspec : VarSpec → Bool
 is_varspec v = is_varname v.name && is_modifier v.modifier
 
-abbrev pub has_varspecs : List VarSpec → Bool
-has_varspecs [] = false
-has_varspecs (v ∷ vs) = true
+abbrev pub has_some : {A : Type 0} → List A → Bool
+has_some [] = false
+has_some (x ∷ xs) = true
 
 -- an expression (section 2.2) has one or more varspecs
 abbrev pub is_piece : Piece → Bool
 is_piece (literal c) = literal_char c
 is_piece (triplet a b) = is_ascii_hexdigit a && is_ascii_hexdigit b
-is_piece (expression operator vs) = has_varspecs vs && list_all is_varspec vs
+is_piece (expression operator vs) = has_some vs && list_all is_varspec vs
 
 -- ---- what they spell
 abbrev pub modifier_text : Modifier → List ℕ

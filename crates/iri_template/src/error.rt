@@ -73,7 +73,7 @@ impl Error {
         Error { kind, location }
     }
 
-    // The same where the sink was a string: it stops on allocation failure alone.
+    // The error of an expansion into a string, which stops on allocation failure alone.
     pub(crate) fn in_memory(self) -> Self
         ensures { result ≡ record { kind = in_memory self.kind; location = self.location } }
     {

@@ -22,8 +22,8 @@ use std::alloc::{AllocError, Global};
 use std::marker::PhantomData;
 use std::{fmt, str};
 
-/// A template whose expansion for a URI or an IRI is shown, with the values of a context (RFC 6570 section 3). It takes
-/// no memory until it is made owned, and the values may put their texts in any pieces.
+/// A template whose expansion for a URI or an IRI is shown, with the values of a context (RFC 6570 section 3). It
+/// allocates nothing until it is made owned, and the values may put their texts in any pieces.
 ///
 /// ```
 /// use iri::format::{Text, ToStringFallible};
@@ -110,7 +110,7 @@ impl<'a, S: Spec, C: Context> Expanded<'a, S, C> {
     ghost use Rattle.iri_template.specs.ExpandedTexts.{expanded_text, RefusedAs, IsWithin};
 
     /// The expansion of a template that stands in bytes, which are looked at once for both kinds of fault. Nothing is
-    /// written and no memory is taken.
+    /// written and nothing is allocated.
     ///
     /// # Errors
     ///
@@ -219,8 +219,8 @@ impl<'a, S: Spec, C: Context> Expanded<'a, S, C> {
         self.into_owned(alloc)
     }
 
-    /// The expansion as a string, where it has at most `limit` bytes; `None` exactly where it has more, and no memory
-    /// is taken for it.
+    /// The expansion as a string, where it has at most `limit` bytes; `None` exactly where it has more, and nothing
+    /// is allocated for it.
     ///
     /// # Errors
     ///

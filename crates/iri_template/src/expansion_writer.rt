@@ -2,20 +2,18 @@
 ghost use Rattle.std.specs.Prelude.{◌≡◌, ◌≤◌, ◌<◌, ◌+◌, ◌*◌, ◌^◌, ◌||◌, [], ◌∷◌, false, cond, None, map, length, IfErr};
 ghost use Rattle.std.specs.Prelude.{OnOk, ◌-◌};
 ghost use Rattle.iri_grammar.specs.Pieces.{pieces};
-ghost use Rattle.iri_template.specs.Expansion.{row_of};
+ghost use Rattle.iri_template.specs.Expansion.{row_of, value_texts};
 ghost use Rattle.iri_template.specs.Fault.{varspecs_fault, text_fault};
-ghost use Rattle.iri_template.specs.Led.{has_texts};
-ghost use Rattle.iri_template.specs.Portions.{varspec_portions, portions};
+ghost use Rattle.iri_template.specs.Portions.{varspec_portion, varspec_portions, portions};
 ghost use Rattle.iri_template.specs.Reading.{varspec_of, pieces_of};
 ghost use Rattle.iri_template.specs.Tells.{WhereTold, MovesBy, Calls};
-ghost use Rattle.iri_template.specs.TypeFaults.{is_mistyped_as};
+ghost use Rattle.iri_template.specs.TypeFaults.{is_mistyped};
 ghost use Rattle.iri_template.specs.Writings.{EndsAs, HasCause, CallsUpTo};
-ghost use Rattle.iri_template.specs.inside.Checked.{state_texts, state_portion, held_portion};
-ghost use Rattle.iri_template.specs.inside.Written.{told_texts};
+ghost use Rattle.iri_template.specs.inside.Checked.{state_texts, state_portion};
 ghost use Rattle.iri_template.specs.declared.visitor.Phase.TheVariants.{Fresh};
 ghost use Rattle.iri_template.specs.declared.visitor.VisitPurpose.TheVariants.{Typecheck, Expand};
-ghost use Rattle.iri_template.specs.Template.{names_of, template_text};
-ghost use Rattle.iri_template.specs.inside.PartEnds.{PartEnds, PartCalls, calls_of, begin_after, told_of};
+ghost use Rattle.iri_template.specs.Template.{has_some, names_of, template_text};
+ghost use Rattle.iri_template.specs.inside.PartEnds.{PartEnds, PartCalls, calls_of, begin_after, write_result};
 ghost use Rattle.iri_template.specs.inside.Parts.{part_pieces, part_fault, EndsBefore};
 
 use crate::dynamic_context::DynamicContext;
@@ -32,7 +30,7 @@ use iri_text::{Stop, TextSink};
 // Looks at the value that the context tells next: whether the varspec has no use for it.
 fn looks_mistyped<C: DynamicContext>(context: &mut C, varspec: VarSpec<'_>) -> bool
     ensures value { WhereTold (C.tells context.old)
-        (λ f. result ≡ is_mistyped_as varspec.entry.modifier (f 0 varspec.entry.name.text.now Typecheck)) }
+        (λ f. result ≡ is_mistyped varspec.entry.modifier (f 0 varspec.entry.name.text.now Typecheck)) }
     ensures call { Calls 1 (C.tells context.old) (C.tells context.new) (C.starts context.old) (C.starts context.new)
         (C.ends context.old) (C.ends context.new) }
 {
@@ -57,7 +55,7 @@ fn tell_next<C: DynamicContext, S: Spec, W: TextSink>(
         (f 0 visitor.old.state.name.text.now Expand) ∷ []) visitor.old.to.now visitor.new.to.now
         result) }
     ensures goes_on { OnOk result (WhereTold (C.tells context.old)
-        (λ f. visitor.new.state.written ≡ (visitor.old.state.written || has_texts
+        (λ f. visitor.new.state.written ≡ (visitor.old.state.written || has_some
         (state_texts S.tests visitor.old.state (f 0 visitor.old.state.name.text.now Expand))))) }
     ensures same { visitor.new.to.ghost_name ≡ visitor.old.to.ghost_name }
     ensures place { IfErr result (λ e. e.location ≡ at) }
@@ -84,18 +82,18 @@ fn write_varspec<C: DynamicContext, S: Spec, W: TextSink>(
     written: &mut bool,
 ) -> Result<(), Error>
     ensures written { WhereTold (C.tells context.old)
-        (λ f. EndsAs W.puts W.halts (held_portion S.tests operator at written.old varspec.entry
-        (is_mistyped_as varspec.entry.modifier (f 0 varspec.entry.name.text.now Typecheck))
+        (λ f. EndsAs W.puts W.halts (varspec_portion S.tests operator at written.old varspec.entry.name.text.now
+        varspec.entry.modifier (is_mistyped varspec.entry.modifier (f 0 varspec.entry.name.text.now Typecheck))
         (f 1 varspec.entry.name.text.now Expand) ∷ []) sink.old sink.new result) }
     ensures goes_on { OnOk result (WhereTold (C.tells context.old)
-        (λ f. written.new ≡ (written.old || has_texts (told_texts S.tests (row_of operator) varspec.entry.name.text.now
+        (λ f. written.new ≡ (written.old || has_some (value_texts S.tests (row_of operator) varspec.entry.name.text.now
         varspec.entry.modifier (f 1 varspec.entry.name.text.now Expand))))) }
     ensures cause { HasCause (W.stops sink.old) (W.stops sink.new) result }
     ensures later { W.stops sink.old ≤ W.stops sink.new }
     ensures moves { OnOk result (MovesBy 2 (C.tells context.old) (C.tells context.new)) }
     ensures place { IfErr result (λ e. e.location ≡ at) }
     ensures calls { WhereTold (C.tells context.old)
-        (λ f. MovesBy (cond (is_mistyped_as varspec.entry.modifier (f 0 varspec.entry.name.text.now Typecheck)) 1 2)
+        (λ f. MovesBy (cond (is_mistyped varspec.entry.modifier (f 0 varspec.entry.name.text.now Typecheck)) 1 2)
         (C.tells context.old) (C.tells context.new)) }
     ensures same_starts { C.starts context.new ≡ C.starts context.old }
     ensures same_ends { C.ends context.new ≡ C.ends context.old }
@@ -165,10 +163,10 @@ pub(crate) fn write_varspecs<C: DynamicContext, S: Spec, W: TextSink>(
     }
 }
 
-// What is told of literals and percent-encoded octets that begin at this place, where they were put or the sink stopped
-// within them.
-fn told(put: Result<(), Stop>, begin: usize) -> Result<(), Error>
-    ensures { result ≡ told_of begin put }
+// What is answered of literals and percent-encoded octets that begin at this place, where they were put or the sink
+// stopped within them.
+fn write_result(put: Result<(), Stop>, begin: usize) -> Result<(), Error>
+    ensures { result ≡ write_result begin put }
 {
     put.map_err(|_| Error::new(ErrorKind::WriteFailed, begin))
 }
@@ -198,8 +196,8 @@ fn write_part<C: DynamicContext, S: Spec, W: TextSink>(
         Part::Expression(e) => {
             write_varspecs::<C, S, W>(sink, context, e.operator, e.varspecs, e.location)
         }
-        Part::Literals(literals) => told(put_as::<S, W>(sink, literals, false), begin),
-        Part::Triplet(_) => told(sink.put(text), begin),
+        Part::Literals(literals) => write_result(put_as::<S, W>(sink, literals, false), begin),
+        Part::Triplet(_) => write_result(sink.put(text), begin),
     }
 }
 

@@ -4,7 +4,7 @@ ghost use Rattle.iri_grammar.specs.Pieces.{pieces};
 ghost use Rattle.iri_template.specs.Fault.{Answers, fault, first, text_fault, varspecs_fault};
 ghost use Rattle.iri_template.specs.inside.Parts.{part_pieces, part_fault, IsPlaced, EndsBefore};
 ghost use Rattle.iri_template.specs.Reading.{varspec_of, pieces_of};
-ghost use Rattle.iri_template.specs.TypeFaults.{is_mistyped_as, varspecs_type_fault, type_fault_from, type_fault};
+ghost use Rattle.iri_template.specs.TypeFaults.{is_mistyped, varspecs_type_fault, type_fault_from, type_fault};
 ghost use Rattle.iri_template.specs.declared.error.ErrorKind.TheVariants.{UnexpectedValueType};
 
 use crate::context::Context;
@@ -21,7 +21,7 @@ fn or_mistyped<C: Context>(
     at: usize,
 ) -> Option<Error>
     ensures { result ≡ first found
-        (cond (is_mistyped_as varspec.entry.modifier (C.value_of context.now varspec.entry.name.text.now))
+        (cond (is_mistyped varspec.entry.modifier (C.value_of context.now varspec.entry.name.text.now))
         (fault UnexpectedValueType at) None) }
 {
     let has_prefix = varspec.modifier.prefix().is_some();
@@ -62,7 +62,7 @@ fn check_varspecs<C: Context>(
     }
 }
 
-// The same of a part of a template.
+// The type fault that was found, or else the first of a part of a template, where it has no other fault.
 fn check_part<C: Context>(
     found: Option<Error>,
     context: &C,

@@ -26,7 +26,7 @@
 //!
 //! `expand` refuses exactly where a varspec with a prefix has a list or an associative array that isn't empty, and
 //! tells the first one's place before anything is written. The text of an `Expanded` is the definition's (`expansion`),
-//! in whatever pieces a value puts its text; it takes no memory, and where the sink stops, it stops within that text.
+//! in whatever pieces a value puts its text; it allocates nothing, and where the sink stops, it stops within that text.
 //! The conversions refuse exactly what is outside their production, and `try_into_text_within` what is longer.
 //!
 //! `expand_dynamic` visits each varspec twice: its value is looked at, and then written. Of a context that tells which value

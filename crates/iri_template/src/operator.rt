@@ -1,7 +1,6 @@
 //! The operators of expressions (RFC 6570 section 2.2), and what each writes besides values (section 3.2.1, appendix A).
 ghost use Rattle.std.specs.Prelude.{◌≡◌};
-ghost use Rattle.iri_template.specs.Expansion.{row_of};
-ghost use Rattle.iri_template.specs.Led.{lead};
+ghost use Rattle.iri_template.specs.Expansion.{row_of, lead};
 ghost use Rattle.iri_template.specs.Reading.{operator_at};
 
 // What an expression begins with, and so how it is expanded (RFC 6570 section 3.2).

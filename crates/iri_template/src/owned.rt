@@ -89,7 +89,7 @@ impl UriTemplateString {
         UriTemplateString::from_view(alloc, view).map_err(CreateTemplateError::Memory)
     }
 
-    /// A string whose text is a template. It takes no memory.
+    /// A string whose text is a template. It allocates nothing.
     ///
     /// # Errors
     ///
@@ -131,7 +131,7 @@ impl UriTemplateString {
         self.text.as_str()
     }
 
-    /// The text as a string. It takes no memory.
+    /// The text as a string. It allocates nothing.
     pub fn into_string(self) -> String
         ensures text { owned_text result ≡ self }
         ensures valid { text_fault (string_bytes result) ≡ None }

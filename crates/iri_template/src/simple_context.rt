@@ -45,7 +45,7 @@ fn is_undefined(value: &Value) -> bool
 }
 
 impl SimpleContext {
-    /// The map without names. It takes no memory.
+    /// The map without names. It allocates nothing.
     pub fn new(alloc: Global) -> Self
         ensures { (q : List ℕ) → value_at result q ≡ None }
     {

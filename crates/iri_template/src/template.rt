@@ -176,7 +176,7 @@ impl<'a> UriTemplateStr<'a> {
     }
 
     /// Writes the expansion with the values of a context that may change from call to call, to any sink (RFC 6570
-    /// section 3). Each varspec's value is looked at, and then written; it takes no memory.
+    /// section 3). Each varspec's value is looked at, and then written; it allocates nothing.
     ///
     /// # Errors
     ///

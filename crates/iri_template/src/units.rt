@@ -9,7 +9,7 @@ ghost use Rattle.iri_text.specs.inside.Through.{after, texts};
 ghost use Rattle.iri_percent.specs.Units.{Plain, units};
 ghost use Rattle.iri_template.specs.Expansion.{text_units};
 ghost use Rattle.iri_template.specs.inside.Pieces.{IsCut};
-ghost use Rattle.iri_template.specs.inside.UnitSteps.{is_part, told_units, left_over, fewer, step_units, step_pending};
+ghost use Rattle.iri_template.specs.inside.UnitSteps.{is_part, ready_units, left_over, fewer, step_units, step_pending};
 ghost use Rattle.iri_template.specs.inside.UnitSteps.{is_used_up, unit_step, unit_step_text, written_units};
 ghost use Rattle.iri_template.specs.inside.UnitViews.{unit_as};
 
@@ -112,14 +112,14 @@ fn put_unit<S: Spec, W: TextSink>(
 // Writes the units that are settled, or all, and holds the rest back.
 fn drain<S: Spec, W: TextSink>(sink: &mut W, state: &mut Units, end: bool) -> Result<(), Stop>
     ensures shows { Shows W.puts W.halts W.stops sink.old
-        (written_units S.tests state.old.left (told_units end 12 state.old.pending)) sink.new result }
+        (written_units S.tests state.old.left (ready_units end 12 state.old.pending)) sink.new result }
     ensures pending { OnOk result (state.new.pending ≡ left_over end 12 state.old.pending) }
     ensures left { OnOk result (state.new.left
-        ≡ fewer state.old.left (length (told_units end 12 state.old.pending))) }
+        ≡ fewer state.old.left (length (ready_units end 12 state.old.pending))) }
     ensures cleared { OnErr result (state.new.pending ≡ []) }
 {
-    let mut told = 0u8;
-    'units: while told < 12 {
+    let mut ready = 0u8;
+    'units: while ready < 12 {
         match first_unit::<S>(state.pending.as_bytes(), end) {
             Some(unit) => {
                 match put_unit::<S, W>(
@@ -131,7 +131,7 @@ fn drain<S: Spec, W: TextSink>(sink: &mut W, state: &mut Units, end: bool) -> Re
                     Ok(()) => {
                         state.pending.drop_start(unit.len);
                         state.left = one_fewer(state.left);
-                        told += 1;
+                        ready += 1;
                     }
                     Err(stop) => {
                         state.pending.clear();

@@ -35,7 +35,7 @@ impl Model for TextList {
 }
 
 impl TextList {
-    /// The list without items. It takes no memory.
+    /// The list without items. It allocates nothing.
     pub fn new(alloc: Global) -> Self
         ensures { result ≡ [] }
     {
@@ -95,7 +95,7 @@ impl Model for PairList {
 }
 
 impl PairList {
-    /// The list without pairs. It takes no memory.
+    /// The list without pairs. It allocates nothing.
     pub fn new(alloc: Global) -> Self
         ensures { result ≡ [] }
     {

@@ -2,8 +2,7 @@
 ghost use Rattle.std.specs.Prelude.{◌≡◌, ◌++◌, ◌∷◌, [], false, MatchResult};
 ghost use Rattle.iri_text.specs.Shown.{Shows};
 ghost use Rattle.iri_template.specs.Events.{StringTold, Item, Entry};
-ghost use Rattle.iri_template.specs.Expansion.{row_of};
-ghost use Rattle.iri_template.specs.Led.{lead};
+ghost use Rattle.iri_template.specs.Expansion.{row_of, lead};
 ghost use Rattle.iri_template.specs.inside.Written.{write_state, name_part, item_lead, entry_lead, entry_delimiter};
 ghost use Rattle.iri_template.specs.inside.Written.{event_text};
 ghost use Rattle.iri_template.specs.inside.WriterHears.{WriterHears, WriterHalts, writer_rules};

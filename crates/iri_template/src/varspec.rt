@@ -6,7 +6,7 @@ ghost use Rattle.iri_grammar.specs.OptionalSlices.{now_of};
 ghost use Rattle.iri_template.specs.Reading.{ends_name, name_of, modifier_of, varspec_of};
 ghost use Rattle.iri_template.specs.Fault.{Answers, moved, max_length_fault, modifier_fault, varspec_fault};
 ghost use Rattle.iri_template.specs.VarSpecs.{number_of, held, IsHeld};
-ghost use Rattle.iri_template.specs.inside.Written.{explodes, prefix_of};
+ghost use Rattle.iri_template.specs.Expansion.{explodes, prefix_of};
 
 use crate::error::{Error, ErrorKind};
 use crate::var_name::VarName;

@@ -1,18 +1,15 @@
 -- What is written for the events of a value, whose type is checked: a varspec with a prefix has no use for members.
-use Rattle.std.specs.Prelude.{ℕ, is_some, Bool, true, false, cond, not, ◌&&◌, ◌||◌, List, [], ◌∷◌}
+use Rattle.std.specs.Prelude.{ℕ, is_some, Bool, true, false, cond, not, ◌&&◌, List, []}
+use Rattle.std.specs.List.{list_any}
 use Rattle.iri_grammar.specs.Classes.{Tests}
 use Rattle.iri_template.specs.Events.{Event, StringTold, Item, Entry}
-use Rattle.iri_template.specs.Expansion.{row_of}
-use Rattle.iri_template.specs.Led.{led}
-use Rattle.iri_template.specs.Portions.{Portion}
+use Rattle.iri_template.specs.Expansion.{row_of, value_texts, prefix_of}
+use Rattle.iri_template.specs.Portions.{Portion, varspec_portion}
 use Rattle.iri_template.specs.ShownValues.{ShownValue}
-use Rattle.iri_template.specs.TypeFaults.{is_mistyped_as}
 use Rattle.iri_template.specs.inside.Members.{is_member}
-use Rattle.iri_template.specs.inside.Written.{WriteState, event_step, event_text, told_texts, prefix_of}
-use Rattle.iri_template.specs.declared.operator.Operator.{Operator}
+use Rattle.iri_template.specs.inside.Written.{WriteState, event_step, event_text}
 use Rattle.iri_template.specs.declared.value_writer.ExpressionState.{ExpressionState}
 use Rattle.iri_template.specs.declared.varspec.Modifier.{Modifier}
-use Rattle.iri_template.specs.declared.varspec.VarSpec.{VarSpec}
 
 abbrev pub has_prefix : Modifier → Bool
 has_prefix m = is_some (prefix_of m)
@@ -44,23 +41,13 @@ is_put refused (Entry k t) = not refused
 is_put refused e = false
 
 abbrev pub puts_some : Bool → List Event → Bool
-puts_some refused [] = false
-puts_some refused (e ∷ es) = is_put refused e || puts_some refused es
+puts_some refused es = list_any (is_put refused) es
 
 -- ---- a varspec as it is held
 -- what it writes for a value
 abbrev pub state_texts : Tests → ExpressionState → ShownValue → List (List ℕ)
-state_texts s p told = told_texts s (row_of p.operator) p.name.text.now p.modifier told
+state_texts s p told = value_texts s (row_of p.operator) p.name.text.now p.modifier told
 
 -- its portion, with the value that is told to be written; whether the one before was mistyped
 abbrev pub state_portion : Tests → ℕ → ExpressionState → Bool → ShownValue → Portion
-state_portion s at p mistyped told = record {
-  location = at;
-  text = led (row_of p.operator) p.written (state_texts s p told);
-  mistyped = mistyped || is_mistyped_as p.modifier told;
-  calls = cond mistyped 1 2;
-}
-
-abbrev pub held_portion : Tests → Operator → ℕ → Bool → VarSpec → Bool → ShownValue → Portion
-held_portion s operator at written v mistyped told =
-    state_portion s at (record { operator = operator; name = v.name; modifier = v.modifier; written = written; member = false }) mistyped told
+state_portion s at p mistyped told = varspec_portion s p.operator at p.written p.name.text.now p.modifier mistyped told

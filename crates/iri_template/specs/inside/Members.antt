@@ -1,5 +1,6 @@
 -- Whether a value is a list or a list of pairs that isn't empty.
-use Rattle.std.specs.Prelude.{◌≡◌, ℕ, Bool, true, false, ◌||◌, List, [], ◌∷◌, refl, map, not, length, ◌==◌}
+use Rattle.std.specs.Prelude.{◌≡◌, ℕ, Bool, true, false, List, [], ◌∷◌, refl, map, not, length, ◌==◌}
+use Rattle.std.specs.List.{list_any}
 use Rattle.std.proofs.Common.{arith}
 use Rattle.std.proofs.lemmas.Bool.Decides.{nat_tests}
 use Rattle.iri_template.specs.ShownValues.{ShownValue, undefined, string, list, pairs, has_members}
@@ -12,8 +13,7 @@ is_member event = false
 
 -- one of these events has a member
 abbrev pub has_member : List Event → Bool
-has_member [] = false
-has_member (event ∷ events) = is_member event || has_member events
+has_member events = list_any is_member events
 
 some_members : {X : Type 0} (x : X) (xs : List X) → true ≡ not (length (x ∷ xs) == 0)
 some_members x xs = grind (arith, nat_tests)

@@ -13,16 +13,16 @@ use Rattle.iri_template.specs.declared.error.ErrorKind.TheVariants.{WriteFailed}
 use Rattle.iri_template.specs.declared.part.Part.{Part}
 use Rattle.iri_template.specs.declared.part.Part.TheVariants as part
 
--- a text went in, or the sink stopped within it, which is told at this place
+-- a text went in, or the sink stopped within it, which is a fault at this place
 abbrev pub LiteralsEnd : {W : Type 0} → (W → List ℕ → W → Type 0) → (W → List ℕ → W → Type 0) → ℕ → List ℕ → W → W → Result (Unit {0}) Error
     → Type 0
 LiteralsEnd puts halts at text old new (Ok x) = puts old text new
 LiteralsEnd puts halts at text old new (Err e) = (e ≡ record { kind = WriteFailed; location = at }) × halts old text new
 
--- what is told of a text that was put, or within which the sink stopped
-abbrev pub told_of : ℕ → Result (Unit {0}) Stop → Result (Unit {0}) Error
-told_of at (Ok x) = Ok x
-told_of at (Err e) = Err (record { kind = WriteFailed; location = at })
+-- what is answered of a text that was put, or within which the sink stopped
+abbrev pub write_result : ℕ → Result (Unit {0}) Stop → Result (Unit {0}) Error
+write_result at (Ok x) = Ok x
+write_result at (Err e) = Err (record { kind = WriteFailed; location = at })
 
 -- of a part with this text; literals and triplets without an expression between them begin at this place
 abbrev pub PartEnds : {W : Type 0} → Tests → (W → List ℕ → W → Type 0) → (W → List ℕ → W → Type 0) → ℕ → List ℕ → W → W

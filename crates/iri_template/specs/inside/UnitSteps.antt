@@ -1,4 +1,4 @@
--- Units of a text that comes character by character: what is held back, which units each character tells, and what is written for them.
+-- Units of a text that comes character by character: what is held back, which units each character makes ready, and what is written for them.
 use Rattle.std.specs.Prelude.{ℕ, zero, suc, ◌-◌, Bool, true, false, cond, not, ◌&&◌, ◌||◌, ◌==◌, nat_le, List, [], ◌∷◌, ◌++◌, Option, Some}
 use Rattle.std.specs.Prelude.{None, is_some, length, drop}
 use Rattle.std.specs.List.{flat_map}
@@ -31,10 +31,10 @@ abbrev pub after_unit : ℕ → List ℕ → List ℕ
 after_unit x xs = drop (length (unit_text (first_unit x xs))) (x ∷ xs)
 
 -- at most so many units, as long as they are settled, or to the end; and what is left
-abbrev pub told_units : Bool → ℕ → List ℕ → List TextUnit
-told_units end zero t = []
-told_units end (suc k) [] = []
-told_units end (suc k) (x ∷ xs) = cond (end || is_settled (x ∷ xs)) (first_unit x xs ∷ told_units end k (after_unit x xs)) []
+abbrev pub ready_units : Bool → ℕ → List ℕ → List TextUnit
+ready_units end zero t = []
+ready_units end (suc k) [] = []
+ready_units end (suc k) (x ∷ xs) = cond (end || is_settled (x ∷ xs)) (first_unit x xs ∷ ready_units end k (after_unit x xs)) []
 
 abbrev pub left_over : Bool → ℕ → List ℕ → List ℕ
 left_over end zero t = t
@@ -49,7 +49,7 @@ fewer (Some m) n = Some (m - n)
 
 -- a character that is no part of a triplet ends what is pending
 abbrev pub step_units : List ℕ → ℕ → List TextUnit
-step_units h c = cond (is_part c) (told_units false 12 (h ++ c ∷ [])) (units h ++ Plain c ∷ [])
+step_units h c = cond (is_part c) (ready_units false 12 (h ++ c ∷ [])) (units h ++ Plain c ∷ [])
 
 abbrev pub step_pending : List ℕ → ℕ → List ℕ
 step_pending h c = cond (is_part c) (left_over false 12 (h ++ c ∷ [])) []

@@ -5,7 +5,7 @@ use Rattle.iri_percent.specs.Units.{TextUnit, Stray, first_unit, unit_text}
 use Rattle.iri_percent.specs.Encoding.{keeps, encoded}
 use Rattle.iri_percent.specs.declared.context.Context.TheVariants.{Any}
 use Rattle.iri_template.specs.Expansion.{kept_unit}
-use Rattle.iri_template.specs.inside.UnitSteps.{is_settled, told_units, left_over}
+use Rattle.iri_template.specs.inside.UnitSteps.{is_settled, ready_units, left_over}
 
 abbrev pub unit_at : List ℕ → TextUnit
 unit_at [] = Stray
@@ -15,14 +15,14 @@ unit_at (x ∷ xs) = first_unit x xs
 abbrev pub unit_as : Tests → Bool → List ℕ → List ℕ
 unit_as s stands t = cond stands t (encoded (keeps s Any) t)
 
--- no unit is told
+-- no unit is ready
 abbrev pub TellsNone : Bool → List ℕ → Type 0
-TellsNone end t = (k : ℕ) → (told_units end k t ≡ []) × (left_over end k t ≡ t)
+TellsNone end t = (k : ℕ) → (ready_units end k t ≡ []) × (left_over end k t ≡ t)
 
--- the unit at the start is told, has so many bytes, and is written like this
+-- the unit at the start is ready, has so many bytes, and is written like this
 pub record IsUnit (s : Tests) (end : Bool) (t : List ℕ) (len : ℕ) (stands : Bool) : Type 0 where
   pub some : 0 < len
   pub within : len ≤ length t
-  pub told : end || is_settled t ≡ true
+  pub ready : end || is_settled t ≡ true
   pub all : length (unit_text (unit_at t)) ≡ len
   pub text : kept_unit s (unit_at t) ≡ unit_as s stands (take len t)

@@ -1,6 +1,8 @@
 -- What a visitor that writes does with what it is told, and its laws.
-use Rattle.std.specs.Prelude.{◌≡◌, ℕ, Bool, true, false, ◌||◌, List, [], ◌∷◌, ◌++◌, refl}
+use Rattle.std.specs.Prelude.{◌≡◌, ℕ, Bool, true, ◌||◌, List, refl}
 use Rattle.std.proofs.Common.{◌∙◌, ap, sym}
+use Rattle.std.proofs.Math.Bool.{or-true}
+use Rattle.std.proofs.lemmas.List.Folds.{list_any-append}
 use Rattle.iri_grammar.specs.Classes.{Tests}
 use Rattle.iri_text.specs.Shown.{AreSinkLaws}
 use Rattle.iri_text.specs.inside.Through.{ThroughPuts, ThroughHalts}
@@ -28,17 +30,6 @@ module _ {S W : Type 0} (s : Tests) where
     pub through : ThroughHalts checked_step (checked_text s) state_of (λ (v : ValueWriter S W). v.to.now)
         (λ (v : ValueWriter S W). v.to.ghost_name) halts a es b
 
-some_within : (r : Bool) (t u : List Event) → puts_some r t ≡ true → puts_some r (t ++ u) ≡ true
-some_within r [] u h = cc
-some_within r (e ∷ t) u h = elim (is_put r e) as (λ b. b || puts_some r t ≡ true → b || puts_some r (t ++ u) ≡ true) [
-  | true ↦ λ k. refl
-  | false ↦ λ k. some_within r t u k
-] h
-
-some_later : (r : Bool) (t u : List Event) → puts_some r u ≡ true → puts_some r (t ++ u) ≡ true
-some_later r [] u h = h
-some_later r (e ∷ t) u h = elim (is_put r e) as (λ b. b || puts_some r (t ++ u) ≡ true) [ true ↦ refl | false ↦ some_later r t u h ]
-
 module _ {S W : Type 0} (s : Tests) where
   pub writer_rules : {puts halts : W → List ℕ → W → Type 0} → AreSinkLaws puts halts
       → AreSinkLaws (WriterHears {S = S} s puts) (WriterHalts {S = S} s halts)
@@ -52,11 +43,12 @@ module _ {S W : Type 0} (s : Tests) where
           through = through.both a b c t u p.through q.through;
         };
         until = λ a b c t u p h. record {
-          put = some_later (refused_by s a) t u (ap (λ r. puts_some r u) (sym p.same_refused) ∙ h.put);
+          put = list_any-append (is_put (refused_by s a)) t u ∙ ap (λ b. puts_some (refused_by s a) t || b)
+              (ap (λ r. puts_some r u) (sym p.same_refused) ∙ h.put) ∙ or-true (puts_some (refused_by s a) t);
           through = through.until a b c t u p.through h.through;
         };
         within = λ a b t u h. record {
-          put = some_within (refused_by s a) t u h.put;
+          put = list_any-append (is_put (refused_by s a)) t u ∙ ap (λ b. b || puts_some (refused_by s a) u) h.put;
           through = through.within a b t u h.through;
         };
       }

@@ -1,14 +1,11 @@
 -- What is written for the events of a value, one by one.
-use Rattle.std.specs.Prelude.{ℕ, Bool, true, false, cond, not, ◌&&◌, List, [], ◌∷◌, ◌++◌, Option, None, Some, map}
+use Rattle.std.specs.Prelude.{ℕ, Bool, true, cond, not, ◌&&◌, List, [], ◌∷◌, ◌++◌, None}
 use Rattle.iri_grammar.specs.Classes.{Tests}
 use Rattle.iri_template.specs.Events.{Event, StringTold, Item, Entry}
-use Rattle.iri_template.specs.Expansion.{Row, row_of, shown_text, shown_pair, string_text, named_text, pair_with, in_one}
-use Rattle.iri_template.specs.Led.{lead}
-use Rattle.iri_template.specs.ShownValues.{ShownValue, undefined, string, list, pairs}
+use Rattle.iri_template.specs.Expansion.{Row, row_of, lead, shown_text, string_text, pair_with, explodes, prefix_of}
 use Rattle.iri_template.specs.declared.operator.Operator.{Operator}
 use Rattle.iri_template.specs.declared.value_writer.ExpressionState.{ExpressionState}
 use Rattle.iri_template.specs.declared.varspec.Modifier.{Modifier}
-use Rattle.iri_template.specs.declared.varspec.Modifier.TheVariants.{Whole, Explode, Prefix}
 
 -- how a variable is written; whether the expression has a text before, and this value a member
 pub record WriteState : Type 0 where
@@ -20,16 +17,6 @@ pub record WriteState : Type 0 where
 
 abbrev pub write_state : ExpressionState → WriteState
 write_state p = record { operator = p.operator; name = p.name.text.now; modifier = p.modifier; written = p.written; member = p.member }
-
-abbrev pub explodes : Modifier → Bool
-explodes Whole = false
-explodes Explode = true
-explodes (Prefix n) = false
-
-abbrev pub prefix_of : Modifier → Option ℕ
-prefix_of Whole = None
-prefix_of Explode = None
-prefix_of (Prefix n) = Some n
 
 abbrev pub name_part : Row → List ℕ → List ℕ
 name_part row name = cond row.named (name ++ 61 ∷ []) []
@@ -58,14 +45,3 @@ event_text s w (Item t) = item_lead w ++ shown_text s (row_of w.operator).allow 
 event_text s w (Entry k t) = entry_lead w ++ pair_with (entry_delimiter w.modifier)
     (shown_text s (row_of w.operator).allow None k, shown_text s (row_of w.operator).allow None t)
 event_text s w e = []
-
--- ---- what a variable writes, by its varspec as it is held
-abbrev pub told_texts : Tests → Row → List ℕ → Modifier → ShownValue → List (List ℕ)
-told_texts s row name m undefined = []
-told_texts s row name m (string t) = string_text row name (shown_text s row.allow (prefix_of m) t) ∷ []
-told_texts s row name m (list items) =
-    cond (explodes m) (map (named_text row name) (map (shown_text s row.allow None) items))
-    (in_one row name (map (shown_text s row.allow None) items))
-told_texts s row name m (pairs entries) =
-    cond (explodes m) (map (pair_with 61) (map (shown_pair s row.allow) entries))
-    (in_one row name (map (pair_with 44) (map (shown_pair s row.allow) entries)))

@@ -19,32 +19,28 @@ loop-c-init g c =
 
 pub loop-c-preserved : goal.loop-c-preserved
 loop-c-preserved g c =
-    let i = c.loop-c.invariant in
-    let f = first_char _ _ c.in-Some.c i.utf8 c.in-Some.ensures.steps.0 in
+    let f = first_char _ _ c.in-Some.c c.loop-c.invariant.utf8 c.in-Some.ensures.steps.0 in
     let put = some_left g.S.Spec.tests c.in-Some.c c.loop-c.left c.if-left-eq0.false c.in_ok-put_char.ensures in
     record {
       can = tt;
       ends = tt;
       utf8 = f.utf8;
-      far = up_to_more g.met.W.TextSink.rules c.in-Some.c f.first refl i.far put;
+      far = up_to_more g.met.W.TextSink.rules c.in-Some.c f.first refl c.loop-c.invariant.far put;
     }
 
 pub returns-then-left-eq0 : goal.returns-then-left-eq0
 returns-then-left-eq0 g c =
-    let i = c.loop-c.invariant in
-    let s = g.S.Spec.tests in
     let none = c.if-left-eq0.true in
     record {
-      shows = up_to_last g.met.W.TextSink.rules (none_left s _ c.loop-c.left none) i.far;
-      left = sym (i.far.goes_on ∙ none_after s (chars (chars_rest c.loop-c.c-iterator)) c.loop-c.left none);
+      shows = up_to_last g.met.W.TextSink.rules (none_left g.S.Spec.tests _ c.loop-c.left none) c.loop-c.invariant.far;
+      left = sym (c.loop-c.invariant.far.goes_on ∙ none_after g.S.Spec.tests (chars (chars_rest c.loop-c.c-iterator)) c.loop-c.left none);
     }
 
 pub returns-in_err-put_char-clause-shows : goal.returns-in_err-put_char-clause-shows
 returns-in_err-put_char-clause-shows g c =
-    let i = c.loop-c.invariant in
-    let f = first_char _ _ c.in-Some.c i.utf8 c.in-Some.ensures.steps.0 in
+    let f = first_char _ _ c.in-Some.c c.loop-c.invariant.utf8 c.in-Some.ensures.steps.0 in
     let put = some_left g.S.Spec.tests c.in-Some.c c.loop-c.left c.if-left-eq0.false c.in_err-put_char.ensures in
-    up_to_exit g.met.W.TextSink.rules c.in-Some.c f.first c.from_residual.ensures.0 i.far put
+    up_to_exit g.met.W.TextSink.rules c.in-Some.c f.first c.from_residual.ensures.0 c.loop-c.invariant.far put
 
 pub returns-clause-shows : goal.returns-clause-shows
 returns-clause-shows g c = up_to_end g.met.W.TextSink.rules

@@ -10,13 +10,12 @@ use Rattle.iri_template.proofs.expansion_writer.write_expansion.Goals as goal
 
 pub parts-init : goal.parts-init
 parts-init g c =
-    let w = g.W.TextSink in
     let tells = g.C.DynamicContext.tells c.args.context.now in
     record {
       utf8 = c.utf8.template;
       len = omega arith;
       fine = c.requires;
-      far = reached_none g.S.Spec.tests w.puts w.halts g.met.W.TextSink.rules c.args.template.now c.args.sink.now tells;
+      far = reached_none g.S.Spec.tests g.W.TextSink.puts g.W.TextSink.halts g.met.W.TextSink.rules c.args.template.now c.args.sink.now tells;
       moved = moved_none tells (names_in c.args.template.now);
       starts = refl;
       ends = refl;
@@ -51,18 +50,17 @@ parts-preserved g c =
     let whole = c.args.template.now in
     let v : IsUtf8 r = search rules in
     let k = part_cut c.in-Ok.part (length whole - length t) t r c.in-Ok.ensures i.utf8 v i.fine in
-    let shorter = c.in-Ok.ensures.shorter in
     let text = c.range-text.ensures.value ∙ prefix_range t (template_text (part_pieces c.in-Ok.part)) r (length t - length r) (sym k.text) refl in
     record {
       utf8 = v;
-      len = omega (arith, shorter, i.len);
+      len = omega (arith, c.in-Ok.ensures.shorter, i.len);
       fine = k.fine;
       far =
           subst (λ n. BothTold (d.tells c.args.context.now) (d.tells c.write_part.new.context)
           (ReachedUpTo g.S.Spec.tests w.puts w.halts g.met.W.TextSink.rules whole c.args.sink.now n r c.write_part.new.sink))
           (sym c.begin_after-begin.ensures)
           (reached_more g.S.Spec.tests w.puts w.halts g.met.W.TextSink.rules whole c.args.sink.now c.in-Ok.part t r c.range-text.result.now
-          c.parts.begin c.parts.sink c.write_part.new.sink tt k c.in-Ok.ensures.placed text shorter i.len
+          c.parts.begin c.parts.sink c.write_part.new.sink tt k c.in-Ok.ensures.placed text c.in-Ok.ensures.shorter i.len
           (d.tells c.args.context.now) (d.tells c.parts.context) (d.tells c.write_part.new.context) i.far q.moves q.written);
       moved =
           moved_more (d.tells c.args.context.now) (d.tells c.parts.context) (d.tells c.write_part.new.context) (names_in whole) (names_in t)
@@ -111,9 +109,8 @@ returns-clause-written g c =
 
 pub returns-clause-moves : goal.returns-clause-moves
 returns-clause-moves g c =
-    let d = g.C.DynamicContext in
     let none : length c.parts.rest.now ≡ 0 = grind (arith, nat_tests) in
-    let t = d.tells c.args.context.now in
-    let u = d.tells c.parts.context in
+    let t = g.C.DynamicContext.tells c.args.context.now in
+    let u = g.C.DynamicContext.tells c.parts.context in
     let all = names_in c.args.template.now in
     moved_all t u all (subst (HasMoved t all u) (none_in c.parts.rest.now none) c.parts.invariant.moved)

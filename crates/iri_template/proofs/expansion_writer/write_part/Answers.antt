@@ -5,5 +5,4 @@ use Rattle.iri_template.proofs.expansion_writer.write_part.Goals as goal
 
 pub write_varspecs-requires-clause-fine : goal.write_varspecs-requires-clause-fine
 write_varspecs-requires-clause-fine g c =
-    let e = c.in-Expression.e in
-    varspecs_anywhere e.location (pieces 44 e.varspecs.now) (ap part_fault (sym c.in-Expression.is) ∙ c.requires.fine)
+    varspecs_anywhere c.in-Expression.e.location (pieces 44 c.in-Expression.e.varspecs.now) (ap part_fault (sym c.in-Expression.is) ∙ c.requires.fine)

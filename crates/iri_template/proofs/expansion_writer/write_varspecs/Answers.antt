@@ -24,9 +24,8 @@ varspecs-init g c =
 pub varspecs-smaller : goal.varspecs-smaller
 varspecs-smaller g c =
     let t = c.varspecs.rest.now in
-    let r = c.in-Some.more.now in
-    let e : Some r ≡ after 44 t = ap now_of (sym c.in-Some.is) ∙ c.in-Ok.ensures.others in
-    omega (arith, cut_len t r e)
+    let e : Some c.in-Some.more.now ≡ after 44 t = ap now_of (sym c.in-Some.is) ∙ c.in-Ok.ensures.others in
+    omega (arith, cut_len t c.in-Some.more.now e)
 
 pub varspecs-preserved : goal.varspecs-preserved
 varspecs-preserved g c =
@@ -72,12 +71,11 @@ returns-in-None-clause-written g c =
 pub returns-in-None-clause-moves : goal.returns-in-None-clause-moves
 returns-in-None-clause-moves g c =
     let d = g.C.DynamicContext in
-    let t = c.varspecs.rest.now in
-    let cut = specs_cut t c.in-Ok.others c.in-Ok.ensures.others in
+    let cut = specs_cut c.varspecs.rest.now c.in-Ok.others c.in-Ok.ensures.others in
     let none : length (map varspec_of (varspecs_left c.in-Ok.others)) ≡ 0 = ap (λ o. length (map varspec_of (varspecs_left o))) c.in-None.is in
     moved_all (d.tells c.args.context.now) (d.tells c.write_varspec.new.context) (specs_in c.args.varspecs.now)
     (moved_more (d.tells c.args.context.now) (d.tells c.varspecs.context) (d.tells c.write_varspec.new.context)
-    (specs_in c.args.varspecs.now) (specs_in t) 0 2 (omega arith) c.varspecs.invariant.moved c.in-Ok-write_varspec.ensures.moves)
+    (specs_in c.args.varspecs.now) (specs_in c.varspecs.rest.now) 0 2 (omega arith) c.varspecs.invariant.moved c.in-Ok-write_varspec.ensures.moves)
 
 pub returns-in-Err-write_varspec : goal.returns-in-Err-write_varspec
 returns-in-Err-write_varspec g c =
@@ -101,6 +99,5 @@ returns-in-Err-write_varspec g c =
 
 pub unreachable-requires : goal.unreachable-requires
 unreachable-requires g c =
-    let fine = c.varspecs.invariant.fine in
     let bad = bad_varspec 0 c.varspecs.rest.now c.in-Err.field-0 c.in-Err.ensures.fault in
-    cc (fine, bad)
+    cc (c.varspecs.invariant.fine, bad)

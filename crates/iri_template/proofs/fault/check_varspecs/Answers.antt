@@ -7,9 +7,8 @@ use Rattle.iri_template.proofs.fault.check_varspecs.Goals as goal
 pub varspecs-smaller : goal.varspecs-smaller
 varspecs-smaller g c =
     let t = c.varspecs.rest.now in
-    let r = c.in-Some.more.now in
-    let e : Some r ≡ after 44 t = ap now_of (sym c.in-Some.is) ∙ c.in-Ok.ensures.others in
-    omega (arith, cut_len t r e)
+    let e : Some c.in-Some.more.now ≡ after 44 t = ap now_of (sym c.in-Some.is) ∙ c.in-Ok.ensures.others in
+    omega (arith, cut_len t c.in-Some.more.now e)
 
 pub varspecs-preserved : goal.varspecs-preserved
 varspecs-preserved g c =
@@ -19,7 +18,6 @@ varspecs-preserved g c =
     let r = c.in-Some.more.now in
     let n = length c.args.varspecs.now in
     let place = c.args.at + (n - length t) in
-    let now = c.or_mistyped-mistyped.result in
     let e : Some r ≡ after 44 t = ap now_of (sym c.in-Some.is) ∙ c.in-Ok.ensures.others in
     let left : varspecs_left c.in-Ok.others ≡ pieces 44 r = ap varspecs_left c.in-Some.is in
     let z : place + (length t - length r) ≡ c.args.at + (n - length r) = omega (arith, cut_len t r e, i.len) in
@@ -29,8 +27,8 @@ varspecs-preserved g c =
       len = omega (arith, cut_len t r e, i.len);
       fault = ap (λ k. varspecs_fault k (pieces 44 r)) (sym z) ∙ (sym (more_varspecs place t r e c.in-Ok.ensures.fault) ∙ i.fault);
       types =
-          ap (λ m. first now (varspecs_type_fault value m (map varspec_of (pieces 44 r)))) y
-          ∙ ap (λ l. first now (varspecs_type_fault value (place + length (before 44 t) + 1) (map varspec_of l))) (sym left)
+          ap (λ m. first c.or_mistyped-mistyped.result (varspecs_type_fault value m (map varspec_of (pieces 44 r)))) y
+          ∙ ap (λ l. first c.or_mistyped-mistyped.result (varspecs_type_fault value (place + length (before 44 t) + 1) (map varspec_of l))) (sym left)
           ∙ ap (λ f. first f (varspecs_type_fault value (place + length (before 44 t) + 1) (map varspec_of (varspecs_left c.in-Ok.others))))
           c.or_mistyped-mistyped.ensures
           ∙ sym (types_spec value c.varspecs.mistyped place t c.in-Ok.varspec c.in-Ok.others c.in-Ok.ensures.others c.in-Ok.ensures.fault

@@ -17,27 +17,23 @@ parts-preserved g c =
     let part = c.in-Ok.part in
     let k = c.in-Ok.ensures in
     let v : IsUtf8 r = search rules in
-    let old = c.parts.mistyped in
-    let now = c.in-Ok-check_part.found in
-    let shorter = k.shorter in
-    let z : n - length r ≡ there = omega (arith, i.len, shorter) in
+    let z : n - length r ≡ there = omega (arith, i.len, k.shorter) in
     record {
       utf8 = v;
-      len = omega (arith, shorter, i.len);
+      len = omega (arith, k.shorter, i.len);
       fault = ap (λ m. fault_from 0 m r) z ∙ sym (k.fault ∙ ap (λ f. first f (fault_from 0 there r)) c.in-Ok-check_part.ensures.fault) ∙ i.fault;
       types = λ h.
           let cut = part_cut part at t r k i.utf8 v (none_anywhere at t (i.fault ∙ h)) in
-          ap (λ m. first now (type_fault_from value m (pieces_of r))) z
+          ap (λ m. first c.in-Ok-check_part.found (type_fault_from value m (pieces_of r))) z
           ∙ ap (λ f. first f (type_fault_from value there (pieces_of r))) c.in-Ok-check_part.ensures.types
-          ∙ first_first old (type_fault_from value at (part_pieces part)) (type_fault_from value there (pieces_of r))
-          ∙ ap (first old) (sym (types_cut value at part t r cut)) ∙ i.types h;
+          ∙ first_first c.parts.mistyped (type_fault_from value at (part_pieces part)) (type_fault_from value there (pieces_of r))
+          ∙ ap (first c.parts.mistyped) (sym (types_cut value at part t r cut)) ∙ i.types h;
     }
 
 pub returns-in-Err-check_part : goal.returns-in-Err-check_part
 returns-in-Err-check_part g c =
-    let t = c.parts.rest.now in
     let r = c.in-Ok.next.now in
-    let rest = fault_from 0 (length c.args.template.now - length t + (length t - length r)) r in
+    let rest = fault_from 0 (length c.args.template.now - length c.parts.rest.now + (length c.parts.rest.now - length r)) r in
     let is : text_fault c.args.template.now ≡ Some c.in-Err-check_part.error =
     sym c.parts.invariant.fault ∙ c.in-Ok.ensures.fault ∙ ap (λ f. first f rest) c.in-Err-check_part.ensures.fault in
     sym (ap (λ f. first f (type_fault (g.C.Context.value_of c.args.context.now) (pieces_of c.args.template.now))) is)

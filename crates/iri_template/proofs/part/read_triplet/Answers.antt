@@ -4,16 +4,14 @@ use Rattle.iri_template.proofs.part.read_triplet.Goals as goal
 
 pub range-requires-clause-end_boundary : goal.range-requires-clause-end_boundary
 range-requires-clause-end_boundary c =
-    let t = c.args.s.now in
     let hex = ap (λ l. is_ascii_hexdigit (get_or l 2 0)) (sym c.as_bytes.ensures.value)
     ∙ (sym c.is_ascii_hexdigit-else-not-is_ascii_hexdigit.ensures.value ∙ c.if-not-is_ascii_hexdigit-2.false) in
-    IsCharBoundary-after_ascii t 2 c.utf8.s (omega (arith, c.in-len3-up.len_at_least, c.as_bytes.ensures.len))
-    (hex_is_ascii (get_or t 2 0) hex)
+    IsCharBoundary-after_ascii c.args.s.now 2 c.utf8.s (omega (arith, c.in-len3-up.len_at_least, c.as_bytes.ensures.len))
+    (hex_is_ascii (get_or c.args.s.now 2 0) hex)
 
 pub range_from-requires : goal.range_from-requires
 range_from-requires c _ =
-    let t = c.args.s.now in
     let hex = ap (λ l. is_ascii_hexdigit (get_or l 2 0)) (sym c.as_bytes.ensures.value)
     ∙ (sym c.is_ascii_hexdigit-else-not-is_ascii_hexdigit.ensures.value ∙ c.if-not-is_ascii_hexdigit-2.false) in
-    IsCharBoundary-after_ascii t 2 c.utf8.s (omega (arith, c.in-len3-up.len_at_least, c.as_bytes.ensures.len))
-    (hex_is_ascii (get_or t 2 0) hex)
+    IsCharBoundary-after_ascii c.args.s.now 2 c.utf8.s (omega (arith, c.in-len3-up.len_at_least, c.as_bytes.ensures.len))
+    (hex_is_ascii (get_or c.args.s.now 2 0) hex)

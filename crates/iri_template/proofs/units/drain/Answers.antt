@@ -11,38 +11,36 @@ units-init g c = record {
 pub units-preserved : goal.units-preserved
 units-preserved g c =
     let w = g.W.TextSink in
-    let s = g.S.Spec.tests in
     let u = c.in-Some.unit in
-    let unit = subst (λ h. IsUnit s c.args.end h u.len u.stands) c.as_bytes.ensures.bytes c.in-Some.ensures in
+    let unit = subst (λ h. IsUnit g.S.Spec.tests c.args.end h u.len u.stands) c.as_bytes.ensures.bytes c.in-Some.ensures in
     let put = subst (λ t. Shows w.puts w.halts w.stops c.units.sink
-    (cond (is_used_up c.units.state.left) [] (unit_as s u.stands t)) c.put_unit.new.sink (Ok tt)) c.start.ensures c.in-Ok.ensures in
+    (cond (is_used_up c.units.state.left) [] (unit_as g.S.Spec.tests u.stands t)) c.put_unit.new.sink (Ok tt)) c.start.ensures c.in-Ok.ensures in
     record {
       most = omega arith;
-      far = drained_more g.met.W.TextSink.rules (12 - c.units.told) (12 - (c.units.told + 1)) c.units.state.pending _ c.units.state.left _ u.len
+      far = drained_more g.met.W.TextSink.rules (12 - c.units.ready) (12 - (c.units.ready + 1)) c.units.state.pending _ c.units.state.left _ u.len
           u.stands (omega arith) unit c.drop_start.ensures c.one_fewer-state.ensures c.units.invariant.far put;
     }
 
 pub returns-in-Err-clause-shows : goal.returns-in-Err-clause-shows
 returns-in-Err-clause-shows g c =
     let w = g.W.TextSink in
-    let s = g.S.Spec.tests in
     let u = c.in-Some.unit in
-    let unit = subst (λ h. IsUnit s c.args.end h u.len u.stands) c.as_bytes.ensures.bytes c.in-Some.ensures in
+    let unit = subst (λ h. IsUnit g.S.Spec.tests c.args.end h u.len u.stands) c.as_bytes.ensures.bytes c.in-Some.ensures in
     let put = subst (λ t. Shows w.puts w.halts w.stops c.units.sink
-    (cond (is_used_up c.units.state.left) [] (unit_as s u.stands t)) c.put_unit.new.sink
+    (cond (is_used_up c.units.state.left) [] (unit_as g.S.Spec.tests u.stands t)) c.put_unit.new.sink
     (Err c.in-Err.stop)) c.start.ensures c.in-Err.ensures in
-    drained_exit g.met.W.TextSink.rules (12 - c.units.told)
-    (12 - (c.units.told + 1)) c.units.state.pending c.units.state.left u.len u.stands (omega arith) unit c.units.invariant.far put
+    drained_exit g.met.W.TextSink.rules (12 - c.units.ready)
+    (12 - (c.units.ready + 1)) c.units.state.pending c.units.state.left u.len u.stands (omega arith) unit c.units.invariant.far put
 
 pub returns-in-None : goal.returns-in-None
 returns-in-None g c =
     let none = subst (λ h. TellsNone c.args.end h) c.as_bytes.ensures.bytes c.in-None.ensures in
-    let k = drained_end g.met.W.TextSink.rules (12 - c.units.told) c.units.state.pending c.units.state.left none
+    let k = drained_end g.met.W.TextSink.rules (12 - c.units.ready) c.units.state.pending c.units.state.left none
     c.units.invariant.far in
     record { shows = k.shows; pending = k.holds; left = k.lefts; cleared = tt }
 
 pub returns : goal.returns
 returns g c =
-    let k = drained_out g.met.W.TextSink.rules (12 - c.units.told) c.units.state.pending c.units.state.left (omega arith)
+    let k = drained_out g.met.W.TextSink.rules (12 - c.units.ready) c.units.state.pending c.units.state.left (omega arith)
     c.units.invariant.far in
     record { shows = k.shows; pending = k.holds; left = k.lefts; cleared = tt }

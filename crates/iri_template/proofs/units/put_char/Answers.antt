@@ -1,5 +1,5 @@
 use Rattle.iri_template.proofs.Common.{◌≡◌, ℕ, Option, ◌∷◌, [], true, false, length, sym, ◌∙◌, ap, subst, arith, refl, Result, Ok, Err}
-use Rattle.iri_template.proofs.Common.{OnOk, Shows, Stop, shows_then, shows_exit, Plain, is_part, fewer, step_units, told_units}
+use Rattle.iri_template.proofs.Common.{OnOk, Shows, Stop, shows_then, shows_exit, Plain, is_part, fewer, step_units, ready_units}
 use Rattle.iri_template.proofs.Common.{written_units}
 use Rattle.iri_template.proofs.Drains.{ends_pending, part_short, on_ok}
 use Rattle.iri_template.proofs.units.put_char.Goals as goal
@@ -15,11 +15,10 @@ returns-then-is_part-clause-short g c =
 pub returns-in-Ok : goal.returns-in-Ok
 returns-in-Ok g c =
     let w = g.W.TextSink in
-    let s = g.S.Spec.tests in
     let n : is_part c.args.c ≡ false = cc in
-    let e = ends_pending s c.args.state.now.pending c.args.state.now.left c.args.c c.requires n in
+    let e = ends_pending g.S.Spec.tests c.args.state.now.pending c.args.state.now.left c.args.c c.requires n in
     let put = subst (λ m. Shows w.puts w.halts w.stops c.drain-2.new.sink
-    (written_units s m (Plain c.args.c ∷ [])) c.put_plain.new.sink c.put_plain.result) c.in-Ok.ensures.left c.put_plain.ensures.shows in
+    (written_units g.S.Spec.tests m (Plain c.args.c ∷ [])) c.put_plain.new.sink c.put_plain.result) c.in-Ok.ensures.left c.put_plain.ensures.shows in
     record {
       shows = subst (λ l. Shows w.puts w.halts w.stops c.args.sink.now l c.put_plain.new.sink c.put_plain.result) e.text
           (shows_then g.met.W.TextSink.rules c.in-Ok.ensures.shows put);
@@ -33,10 +32,9 @@ returns-in-Ok g c =
 pub returns-in-Err-clause-shows : goal.returns-in-Err-clause-shows
 returns-in-Err-clause-shows g c =
     let w = g.W.TextSink in
-    let s = g.S.Spec.tests in
     let n : is_part c.args.c ≡ false = cc in
-    let e = ends_pending s c.args.state.now.pending c.args.state.now.left c.args.c c.requires n in
+    let e = ends_pending g.S.Spec.tests c.args.state.now.pending c.args.state.now.left c.args.c c.requires n in
     subst (λ l. Shows w.puts w.halts w.stops c.args.sink.now l c.drain-2.new.sink (Err c.in-Err.stop)) e.text
     (shows_exit g.met.W.TextSink.rules {r = Err c.in-Err.stop}
-    (written_units s (fewer c.args.state.now.left (length (told_units true 12 c.args.state.now.pending)))
+    (written_units g.S.Spec.tests (fewer c.args.state.now.left (length (ready_units true 12 c.args.state.now.pending)))
     (Plain c.args.c ∷ [])) refl c.in-Err.ensures.shows)

@@ -52,9 +52,8 @@ returns-then-is_used_up g c =
 
 pub returns-in_err-put_char-clause-shows : goal.returns-in_err-put_char-clause-shows
 returns-in_err-put_char-clause-shows g c =
-    let i = c.loop-c.invariant in
-    let f = first_char _ _ c.in-Some.c i.utf8 c.in-Some.ensures.steps.0 in
-    up_to_exit g.met.W.TextSink.rules c.in-Some.c f.first c.from_residual.ensures.0 i.far c.in_err-put_char.ensures.shows
+    let f = first_char _ _ c.in-Some.c c.loop-c.invariant.utf8 c.in-Some.ensures.steps.0 in
+    up_to_exit g.met.W.TextSink.rules c.in-Some.c f.first c.from_residual.ensures.0 c.loop-c.invariant.far c.in_err-put_char.ensures.shows
 
 pub returns : goal.returns
 returns g c =

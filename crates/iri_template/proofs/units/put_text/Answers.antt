@@ -14,7 +14,6 @@ pieces-init g c =
 
 pub pieces-preserved : goal.pieces-preserved
 pieces-preserved g c =
-    let i = c.pieces.invariant in
     let piece = c.in-Some.piece.now in
     let following = c.in-Some.following.now in
     let u : IsUtf8 piece = search rules in
@@ -24,18 +23,17 @@ pieces-preserved g c =
       utf8 = v;
       short = c.put_piece.ensures.short;
       far = up_to_some g.met.W.TextSink.rules (chars piece) cut
-          c.in_ok-put_piece.ensures.goes_on i.far c.in_ok-put_piece.ensures.shows;
+          c.in_ok-put_piece.ensures.goes_on c.pieces.invariant.far c.in_ok-put_piece.ensures.shows;
     }
 
 pub returns-in_err-put_piece-clause-shows : goal.returns-in_err-put_piece-clause-shows
 returns-in_err-put_piece-clause-shows g c =
-    let i = c.pieces.invariant in
     let piece = c.in-Some.piece.now in
     let following = c.in-Some.following.now in
     let u : IsUtf8 piece = search rules in
     let cut : chars c.pieces.rest.now ≡ chars piece ++ chars following = ap chars (sym c.in-Some.ensures.whole) ∙ chars-append piece following u in
     up_to_stop g.met.W.TextSink.rules (chars piece) (chars following) cut
-    c.from_residual.ensures.0 i.far c.in_err-put_piece.ensures.shows
+    c.from_residual.ensures.0 c.pieces.invariant.far c.in_err-put_piece.ensures.shows
 
 pub returns : goal.returns
 returns g c =

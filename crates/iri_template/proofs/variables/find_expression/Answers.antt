@@ -23,11 +23,10 @@ parts-preserved c =
     let t = c.parts.rest.now in
     let r = c.in-Ok.next.now in
     let v : IsUtf8 r = search rules in
-    let shorter = c.in-Ok.ensures.shorter in
     let cut = part_cut c.in-Ok.part (c.args.len - length t) t r c.in-Ok.ensures i.utf8 v i.fine in
     record {
       utf8 = v;
-      len = omega (arith, shorter, i.len);
+      len = omega (arith, c.in-Ok.ensures.shorter, i.len);
       fine = cut.fine;
       names = over_none c.in-Ok.part c.expression_within-expression.result c.args.len t r cut i.len c.expression_within-expression.ensures
           (sym c.is_some.ensures ∙ c.if-is_some.false) ∙ i.names;

@@ -5,9 +5,8 @@ use Rattle.iri_template.proofs.template.UriTemplateStr.expand_dynamic.Goals as g
 pub returns-clause-written : goal.returns-clause-written
 returns-clause-written g c =
     let w = g.W.TextSink in
-    let d = g.C.DynamicContext in
     let written = c.write_expansion-result in
-    told_later 1 (d.tells c.args.context.now) (d.tells c.on_expansion_start.new.self)
+    told_later 1 (g.C.DynamicContext.tells c.args.context.now) (g.C.DynamicContext.tells c.on_expansion_start.new.self)
     (λ f. EndsAs w.puts w.halts (portions g.S.Spec.tests f (pieces_of (text c.args.self))) c.args.writer.now written.new.sink written.result)
     c.on_expansion_start.ensures.moves written.ensures.written
 

@@ -11,7 +11,6 @@ take_name-requires-clause-fits c =
 
 pub returns-in-None : goal.returns-in-None
 returns-in-None c =
-    let s = c.args.self.now in
     let k = c.current.ensures in
-    let none = none_left c.current.result.0 c.current.result.1.now s.len (places_left s) c.in-None.is k.none k.names in
+    let none = none_left c.current.result.0 c.current.result.1.now c.args.self.now.len (places_left c.args.self.now) c.in-None.is k.none k.names in
     (none, none)
