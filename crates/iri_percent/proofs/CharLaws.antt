@@ -1,14 +1,13 @@
 -- The units of a text, character by character and byte by byte.
 use Rattle.iri_percent.proofs.Common.{◌≡◌, ℕ, zero, suc, ◌-◌, true, false, cond, ◌&&◌, List, [], ◌∷◌, ◌++◌, Option, Some, None, length}
-use Rattle.iri_percent.proofs.Common.{drop, refl, sym, ◌∙◌, ap, subst, arith, append-nil, eqb-true, ◌==◌, map, flat_map}
-use Rattle.iri_percent.proofs.Common.{is_ascii_hexdigit, to_ascii_uppercase, encode_utf8, drop_at, Tests, unreserved}
-use Rattle.iri_percent.proofs.Common.{TextUnit, Plain, Char, Lone, Stray, IllFormed, octets, first_char, triplet_unit, first_unit}
-use Rattle.iri_percent.proofs.Common.{unit_text, units_from, units, by_character, char_unit_text, char_units_from, char_units, plains}
-use Rattle.iri_percent.proofs.Common.{byte_units, normal, written}
+use Rattle.iri_percent.proofs.Common.{drop, refl, sym, ◌∙◌, ap, subst, arith, append-nil, eqb-true, ◌==◌, map, flat_map, is_ascii_hexdigit}
+use Rattle.iri_percent.proofs.Common.{to_ascii_uppercase, encode_utf8, drop_at, Tests, unreserved, TextUnit, Plain, Char, Lone, Stray}
+use Rattle.iri_percent.proofs.Common.{IllFormed, octets, first_char, triplet_unit, first_unit, unit_text, units_from, units, by_character}
+use Rattle.iri_percent.proofs.Common.{char_unit_text, char_units_from, char_units, plains, byte_units, normal, written, all-lacks}
 use Rattle.std.proofs.lemmas.Grind.{flat_map-append}
 use Rattle.iri_percent.specs.Triplets.{unit_form}
-use Rattle.iri_percent.proofs.UnitLaws.{BeginsChar, first_char_is, is_continuation, encode_bytes, units_from_drop, byte_other, units_plain, units_plains}
-use Rattle.iri_percent.proofs.Common.{all-lacks}
+use Rattle.iri_percent.proofs.UnitLaws.{BeginsChar, first_char_is, is_continuation, encode_bytes, units_from_drop, byte_other, units_plain}
+use Rattle.iri_percent.proofs.UnitLaws.{units_plains}
 
 -- a unit that is the same in both readings
 pub record IsSame (u : TextUnit) (o : Option ℕ) : Type 0 where

@@ -43,8 +43,7 @@ unfoldable pub use Rattle.iri_percent.specs.Encoding.{encoded}
 pub use Rattle.iri_percent.specs.Mapping.{capital_hex, triplets, triplet, mapped}
 pub use Rattle.iri_percent.specs.NormalHost.{is_plain_byte}
 unfoldable pub use Rattle.iri_percent.specs.NormalHost.{normal_authority, is_ascii_host, normal_host}
-pub use Rattle.iri_percent.specs.Triplets.{decoded, unreserved_only}
-pub use Rattle.iri_percent.specs.Triplets.{pct, as_it_is}
+pub use Rattle.iri_percent.specs.Triplets.{decoded, unreserved_only, pct, as_it_is}
 unfoldable pub use Rattle.iri_percent.specs.Triplets.{normal}
 pub use Rattle.iri_percent.specs.Units.{octet, octets, Plain, Char, Lone, units, two_digits, TextUnit, Stray, IllFormed, triplet_unit}
 pub use Rattle.iri_percent.specs.Units.{first_unit, unit_text, is_triplet, byte_unit}

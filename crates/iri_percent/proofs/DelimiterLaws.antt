@@ -1,8 +1,8 @@
 -- A text with a delimiter: units and triplet normal form on both sides of it.
 use Rattle.iri_percent.proofs.Common.{◌≡◌, ℕ, zero, suc, ◌+◌, ◌*◌, ◌-◌, ◌≤◌, true, false, cond, ◌&&◌, List, [], ◌∷◌, ◌++◌, Option, Some}
 use Rattle.iri_percent.proofs.Common.{None, length, refl, sym, ◌∙◌, ap, arith, length-append, ◌==◌, is_ascii_hexdigit, len_utf8}
-use Rattle.iri_percent.proofs.Common.{encode_utf8, length-encode, Tests, Plain, Char, is_triplet, octet, octets, first_char}
-use Rattle.iri_percent.proofs.Common.{triplet_unit, byte_unit, first_unit, unit_text, units_from, units, normal, as_it_is, pct, written}
+use Rattle.iri_percent.proofs.Common.{encode_utf8, length-encode, Tests, Plain, Char, is_triplet, octet, octets, first_char, triplet_unit}
+use Rattle.iri_percent.proofs.Common.{byte_unit, first_unit, unit_text, units_from, units, normal, as_it_is, pct, written, flat_map}
 use Rattle.std.proofs.lemmas.List.{take-append-le}
 use Rattle.std.proofs.Math.Bool.{and-false}
 use Rattle.std.proofs.lemmas.Grind.{flat_map-append}
@@ -10,7 +10,6 @@ use Rattle.iri_percent.proofs.CharLaws.{normal-by_bytes}
 use Rattle.iri_percent.proofs.UnitLaws.{first_char_is, units_plain}
 use Rattle.iri_percent.specs.Units.{IsOutsideTriplets}
 use Rattle.iri_percent.proofs.UnitTexts.{unit_prefix}
-use Rattle.iri_percent.proofs.Common.{flat_map}
 
 no_second : (x m b : ℕ) → IsOutsideTriplets m → is_triplet x m b ≡ false
 no_second x m b k = ap (λ v. x == 37 && (v && is_ascii_hexdigit b)) k.digit ∙ and-false (x == 37)

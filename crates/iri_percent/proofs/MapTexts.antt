@@ -1,11 +1,12 @@
 -- The mapping of texts over a class.
 use Rattle.iri_percent.proofs.Common.{◌≡◌, ℕ, ◌+◌, ◌*◌, ◌<◌, ◌≤◌, Bool, true, false, cond, List, [], ◌∷◌, ◌++◌, refl, sym, ◌∙◌, ap, subst}
-use Rattle.iri_percent.proofs.Common.{arith, append_assoc, ltb-true, ◌/◌, ◌%◌, nat_lt, list_all, is_ascii_hexdigit, digit_value, ltb}
-use Rattle.iri_percent.proofs.Common.{encode, next, scalar, encode_ascii, nat_tests, IsSpec, uri_tests, both, text_over, octet, capital_hex}
+use Rattle.iri_percent.proofs.Common.{arith, append_assoc, ltb-true, ◌/◌, ◌%◌, nat_lt, list_all, is_ascii_hexdigit, digit_value}
+use Rattle.iri_percent.proofs.Common.{encode, scalar, encode_ascii, nat_tests, IsSpec, uri_tests, both, text_over, octet, capital_hex}
 use Rattle.iri_percent.proofs.Common.{triplet, mapped}
 use Rattle.std.specs.Int.{is_in_range}
 use Rattle.iri_percent.proofs.ClassLaws.{IsText, ended, letter, escape, text-from_over, over-from_text}
-use Rattle.iri_percent.proofs.UnitLaws.{Spells, none, more}
+use Rattle.iri_grammar.proofs.LiteralChars.{all-weaken}
+use Rattle.iri_percent.proofs.UnitLaws.{encode_bytes, is_continuation, Spells, none, more}
 
 -- ---- bytes
 pub mapped-low : (x : ℕ) (xs : List ℕ) → nat_lt x 128 ≡ true → mapped (x ∷ xs) ≡ x ∷ mapped xs
@@ -75,34 +76,18 @@ mapped-spells (x ∷ xs) h =
 scalar_small : (c : ℕ) → scalar c ≡ true → c < 1114112
 scalar_small c h = grind (arith, nat_tests)
 
-next_high : (x : ℕ) → is_high (next x) ≡ true
-next_high x = grind (arith, nat_tests)
+continues_high : (x : ℕ) → is_continuation x ≡ true → is_high x ≡ true
+continues_high x h = grind (arith, nat_tests)
 
 in_high : (x : ℕ) → 128 ≤ x → x < 256 → is_high x ≡ true
 in_high x h k = grind (arith, nat_tests)
 
 pub encode-high : (c : ℕ) → scalar c ≡ true → nat_lt c 128 ≡ false → list_all is_high (encode c) ≡ true
-unfolding encode
 encode-high c s h =
-    let l = scalar_small c s in
-    rw h (elim (ltb c 2048) as (λ b. ltb c 2048 ≡ b
-    → list_all is_high (cond b ((192 + c / 64) ∷ next c ∷ [])
-    (cond (ltb c 65536) ((224 + c / 4096) ∷ next (c / 64) ∷ next c ∷ [])
-    ((240 + c / 262144) ∷ next (c / 4096) ∷ next (c / 64) ∷ next c ∷ []))) ≡ true) [
-      | true ↦ λ e. let m : c < 2048 = ltb-true c 2048 e in rw (in_high (192 + c / 64) (omega arith) (omega (arith, m)), next_high c) refl
-      | false ↦ λ _. elim (ltb c 65536) as (λ b. ltb c 65536 ≡ b
-          → list_all is_high (cond b ((224 + c / 4096) ∷ next (c / 64) ∷ next c ∷ [])
-          ((240 + c / 262144) ∷ next (c / 4096) ∷ next (c / 64) ∷ next c ∷ [])) ≡ true) [
-            | true ↦ λ e. let m : c < 65536 = ltb-true c 65536 e in
-                rw (in_high (224 + c / 4096) (omega arith) (omega (arith, m)), next_high (c / 64), next_high c) refl
-            | false ↦ λ _. rw (
-              in_high (240 + c / 262144) (omega arith) (omega (arith, l)),
-              next_high (c / 4096),
-              next_high (c / 64),
-              next_high c,
-            ) refl
-          ] refl
-    ] refl)
+    let b = encode_bytes c in
+    let k = b.bounds h (scalar_small c s) in
+    let first : is_high b.lead ≡ true = in_high b.lead (omega (arith, k.0)) k.1 in
+    ap (list_all is_high) b.split ∙ rw first (all-weaken is_continuation is_high continues_high b.tail b.continue)
 
 pub uri-spec : IsSpec uri_tests
 uri-spec = record { ucs_ascii = λ c l. refl; priv_ascii = λ c l. refl; apart = λ c. refl }

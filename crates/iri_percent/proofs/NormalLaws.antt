@@ -1,13 +1,11 @@
 -- Triplet normal form, unit by unit.
-use Rattle.iri_percent.proofs.Common.{◌≡◌, ℕ, true, false, cond, List, [], ◌∷◌, ◌++◌, Some, None, refl, sym, ◌∙◌, ap, subst, ◌==◌}
-use Rattle.iri_percent.proofs.Common.{map, list_all, is_ascii_hexdigit, to_ascii_uppercase, encode_utf8, scalar, Tests, unreserved}
-use Rattle.iri_percent.proofs.Common.{lacks, both, TextUnit, Plain, Char, Lone, octet, octets, first_char, units, normal, written}
-use Rattle.iri_percent.proofs.Common.{decoded, unreserved_only}
+use Rattle.iri_percent.proofs.Common.{◌≡◌, ℕ, true, false, cond, List, [], ◌∷◌, ◌++◌, Some, None, refl, sym, ◌∙◌, ap, subst, ◌==◌, map}
+use Rattle.iri_percent.proofs.Common.{list_all, is_ascii_hexdigit, to_ascii_uppercase, encode_utf8, scalar, Tests, unreserved, lacks, both}
+use Rattle.iri_percent.proofs.Common.{TextUnit, Plain, Char, Lone, octet, octets, first_char, units, normal, written, decoded}
+use Rattle.iri_percent.proofs.Common.{unreserved_only, flat_map}
 use Rattle.iri_percent.proofs.CharLaws.{normal-by_bytes}
 use Rattle.iri_percent.proofs.UnitLaws.{Spells, none, more, spelled, octets_triplet, BeginsChar, first_char_is, is_continuation}
-use Rattle.iri_percent.proofs.UnitLaws.{encode_bytes, continuation_none, units_plain, units_lone, units_char}
-use Rattle.iri_percent.proofs.UnitLaws.{lacks_first}
-use Rattle.iri_percent.proofs.Common.{flat_map}
+use Rattle.iri_percent.proofs.UnitLaws.{encode_bytes, continuation_none, units_plain, units_lone, units_char, lacks_first}
 
 pub normal_nil : (s : Tests) (f : ℕ → ℕ) → normal s f [] ≡ []
 unfolding normal Rattle.iri_percent.specs.CharUnits.char_units_from

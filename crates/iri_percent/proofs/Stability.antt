@@ -1,9 +1,9 @@
 -- Triplet normal form is stable, and makes no new character in triplets.
-use Rattle.iri_percent.proofs.Common.{◌≡◌, ℕ, ◌<◌, ◌≤◌, true, false, cond, List, [], ◌∷◌, ◌++◌, None, refl, sym, ◌∙◌, ap, subst}
-use Rattle.iri_percent.proofs.Common.{arith, append_assoc, ◌==◌, map, is_ascii_hexdigit, digit_value, to_ascii_uppercase}
-use Rattle.iri_percent.proofs.Common.{to_ascii_lowercase, encode_utf8, nat_tests, append-nil, Tests, IsSpec, unreserved}
-use Rattle.iri_percent.proofs.Common.{is_ascii_unreserved, lacks, TextUnit, Plain, Char, Lone, Stray, IllFormed, octet, octets, first_char}
-use Rattle.iri_percent.proofs.Common.{units, units_from, whole_triplets, plains, normal, as_it_is, pct, written, normal_unit}
+use Rattle.iri_percent.proofs.Common.{◌≡◌, ℕ, ◌<◌, ◌≤◌, true, false, cond, List, [], ◌∷◌, ◌++◌, None, refl, sym, ◌∙◌, ap, subst, arith}
+use Rattle.iri_percent.proofs.Common.{append_assoc, ◌==◌, map, is_ascii_hexdigit, digit_value, to_ascii_uppercase, to_ascii_lowercase}
+use Rattle.iri_percent.proofs.Common.{encode_utf8, nat_tests, append-nil, Tests, IsSpec, unreserved, is_ascii_unreserved, lacks, TextUnit}
+use Rattle.iri_percent.proofs.Common.{Plain, Char, Lone, Stray, IllFormed, octet, octets, first_char, units, units_from, whole_triplets}
+use Rattle.iri_percent.proofs.Common.{plains, normal, as_it_is, pct, written, normal_unit, flat_map}
 use Rattle.std.proofs.lemmas.Str.Ascii.{lowercase-lowercase, lowercase_ascii, uppercase-uppercase}
 use Rattle.iri_grammar.proofs.CutLaws.{by_test, lacks-other}
 use Rattle.iri_grammar.proofs.CutBytes.{lacks-encodes}
@@ -14,7 +14,6 @@ use Rattle.iri_percent.proofs.UnitLaws.{lacks_first, units_plain, units_plains, 
 use Rattle.iri_percent.proofs.NormalLaws.{normal_nil, normal_plain, normal_lone, normal_char}
 use Rattle.iri_percent.proofs.Reading.{Reading, done, plain, char, lone, whole_plain, whole_triplet, whole_after, read}
 pub use Rattle.std.proofs.lemmas.Str.Ascii.{uppercase-uppercase as upper_twice}
-use Rattle.iri_percent.proofs.Common.{flat_map}
 
 -- what may be done to characters outside triplets: it makes no `%`, and once is enough
 pub record IsCase (f : ℕ → ℕ) : Type 0 where

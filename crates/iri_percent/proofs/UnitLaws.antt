@@ -1,7 +1,8 @@
 -- How a text is read: octets, characters and units at its start.
 use Rattle.iri_percent.proofs.Common.{◌==◌, ◌/◌, list_all, is_ascii_hexdigit, len_utf8, chars, ltb, encode, encodes, next, scalar, scalars}
 use Rattle.iri_percent.proofs.Common.{encode_ascii, length-encode, take_at, drop_at, nat_tests, both, Plain, Char, Lone, Stray, is_triplet}
-use Rattle.iri_percent.proofs.Common.{octet, octets, first_char, triplet_unit, first_unit, unit_text, units_from, units}
+use Rattle.iri_percent.proofs.Common.{octet, octets, first_char, triplet_unit, first_unit, unit_text, units_from, units, lacks, not-true}
+use Rattle.iri_percent.proofs.Common.{not, plains, ltb-true, ◌<◌}
 use Rattle.std.proofs.Common.{◌≡◌, ℕ, zero, suc, ◌+◌, ◌*◌, ◌-◌, ◌≤◌, Bool, true, false, cond, ◌&&◌, List, [], ◌∷◌, ◌++◌, Some, None, length}
 use Rattle.std.proofs.Common.{take, drop, refl, sym, ◌∙◌, ap, subst, arith, append_assoc, append-nil, eq-eqb, eqb-true}
 use Rattle.std.specs.Int.{is_in_range}
@@ -9,7 +10,6 @@ use Rattle.std.proofs.lemmas.Str.{chars-append, chars-encodes, IsUtf8-encode}
 use Rattle.std.proofs.lemmas.Bool.{and_from}
 use Rattle.iri_grammar.proofs.Units.{hex_is_ascii}
 use Rattle.iri_percent.specs.Units.{starts_with, well_formed}
-use Rattle.iri_percent.proofs.Common.{lacks, not-true, not, plains}
 
 -- ---- octets
 pub hex_apart : (x : ℕ) → is_ascii_hexdigit x ≡ true → (x == 37) ≡ false
@@ -152,18 +152,21 @@ pub record Bytes (c : ℕ) (os : List ℕ) : Type 0 where
   pub leads : is_continuation lead ≡ false
   pub continue : list_all is_continuation tail ≡ true
   pub percent : (lead == 37) ≡ (c == 37)
+  pub bounds : ltb c 128 ≡ false → c < 1114112 → (192 ≤ lead) × (lead < 256)
 
 pub next_continues : (x : ℕ) → is_continuation (next x) ≡ true
 next_continues x = grind (arith, nat_tests)
 
-far_bytes : (c lead : ℕ) (tail : List ℕ) → ltb c 128 ≡ false → 192 ≤ lead → list_all is_continuation tail ≡ true → Bytes c (lead ∷ tail)
-far_bytes c lead tail e h k = record {
+far_bytes : (c lead : ℕ) (tail : List ℕ) → ltb c 128 ≡ false → 192 ≤ lead → (c < 1114112 → lead < 256) → list_all is_continuation tail ≡ true
+    → Bytes c (lead ∷ tail)
+far_bytes c lead tail e h l k = record {
   lead = lead;
   tail = tail;
   split = refl;
   leads = grind (arith, nat_tests);
   continue = k;
   percent = grind (arith, nat_tests);
+  bounds = λ _ u. (h, l u);
 }
 
 pub encode_bytes : (c : ℕ) → Bytes c (encode c)
@@ -173,19 +176,19 @@ encode_bytes c =
     (cond b (c ∷ []) (cond (ltb c 2048) ((192 + c / 64) ∷ next c ∷ [])
     (cond (ltb c 65536) ((224 + c / 4096) ∷ next (c / 64) ∷ next c ∷ [])
     ((240 + c / 262144) ∷ next (c / 4096) ∷ next (c / 64) ∷ next c ∷ []))))) [
-      | true ↦ λ e. record { lead = c; tail = []; split = refl; leads = grind (arith, nat_tests); continue = refl; percent = refl }
-      | false ↦ λ e. elim (ltb c 2048) as (λ b. Bytes c
+      | true ↦ λ e. record { lead = c; tail = []; split = refl; leads = grind (arith, nat_tests); continue = refl; percent = refl; bounds = λ no _. absurd (cc) }
+      | false ↦ λ e. elim (ltb c 2048) as (λ b. ltb c 2048 ≡ b → Bytes c
           (cond b ((192 + c / 64) ∷ next c ∷ []) (cond (ltb c 65536) ((224 + c / 4096) ∷ next (c / 64) ∷ next c ∷ [])
           ((240 + c / 262144) ∷ next (c / 4096) ∷ next (c / 64) ∷ next c ∷ [])))) [
-            | true ↦ far_bytes c (192 + c / 64) (next c ∷ []) e (omega arith) (rw (next_continues c) refl)
-            | false ↦ elim (ltb c 65536) as (λ b. Bytes c (cond b ((224 + c / 4096) ∷ next (c / 64) ∷ next c ∷ [])
+            | true ↦ λ two. far_bytes c (192 + c / 64) (next c ∷ []) e (omega arith) (λ _. omega (arith, ltb-true c 2048 two)) (rw (next_continues c) refl)
+            | false ↦ λ _. elim (ltb c 65536) as (λ b. ltb c 65536 ≡ b → Bytes c (cond b ((224 + c / 4096) ∷ next (c / 64) ∷ next c ∷ [])
                 ((240 + c / 262144) ∷ next (c / 4096) ∷ next (c / 64) ∷ next c ∷ []))) [
-                  | true ↦ far_bytes c (224 + c / 4096) (next (c / 64) ∷ next c ∷ []) e (omega arith)
+                  | true ↦ λ three. far_bytes c (224 + c / 4096) (next (c / 64) ∷ next c ∷ []) e (omega arith) (λ _. omega (arith, ltb-true c 65536 three))
                       (rw (next_continues (c / 64), next_continues c) refl)
-                  | false ↦ far_bytes c (240 + c / 262144) (next (c / 4096) ∷ next (c / 64) ∷ next c ∷ []) e (omega arith)
+                  | false ↦ λ _. far_bytes c (240 + c / 262144) (next (c / 4096) ∷ next (c / 64) ∷ next c ∷ []) e (omega arith) (λ u. omega (arith, u))
                       (rw (next_continues (c / 4096), next_continues (c / 64), next_continues c) refl)
-                ]
-          ]
+                ] refl
+          ] refl
     ] refl
 
 -- no character begins with a byte that continues one

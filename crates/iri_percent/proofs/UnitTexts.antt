@@ -2,8 +2,7 @@
 use Rattle.iri_percent.proofs.Common.{◌≡◌, ℕ, zero, suc, ◌*◌, ◌-◌, ◌<◌, ◌≤◌, true, false, cond, ◌&&◌, List, [], ◌∷◌, ◌++◌, Option, Some}
 use Rattle.iri_percent.proofs.Common.{None, length, take, drop, refl, sym, ◌∙◌, ap, subst, arith, take-append-drop, eqb-true, ◌==◌}
 use Rattle.iri_percent.proofs.Common.{is_ascii_hexdigit, len_utf8, len_utf8_bounds, drop_at, both, TextUnit, Plain, Stray, is_triplet}
-use Rattle.iri_percent.proofs.Common.{octets, first_char, triplet_unit, byte_unit, first_unit, unit_text, units_from, units}
-use Rattle.iri_percent.proofs.Common.{length-append}
+use Rattle.iri_percent.proofs.Common.{octets, first_char, triplet_unit, byte_unit, first_unit, unit_text, units_from, units, length-append}
 use Rattle.iri_percent.proofs.Common.{flat_map}
 
 -- a unit that is a prefix of the text, and isn't empty

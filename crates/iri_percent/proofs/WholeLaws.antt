@@ -1,18 +1,17 @@
 -- Each part of a reference has whole triplets.
-use Rattle.iri_percent.proofs.Common.{◌≡◌, ℕ, Bool, true, false, cond, ◌||◌, List, [], ◌∷◌, ◌++◌, refl, sym, ◌∙◌, ap, arith}
-use Rattle.iri_percent.proofs.Common.{◌==◌, chars, is_utf8, encode, encodes, encodes-chars, IsUtf8-from_is_utf8, Tests, IsSpec}
-use Rattle.iri_percent.proofs.Common.{reg_name_char, userinfo_char, pchar, path_char, query_char, fragment_char, is_ascii_reg_name}
-use Rattle.iri_percent.proofs.Common.{is_ascii_userinfo, is_ascii_pchar, is_ascii_path, is_ascii_query, is_ascii_unreserved, is_sub_delim}
-use Rattle.iri_percent.proofs.Common.{is_userinfo, is_path, is_path_segment, is_query, is_fragment, lacks, both, by_test, all-lacks}
-use Rattle.iri_percent.proofs.Common.{is_host, is_reg_name, over, text_over, IsOver, two_digits, whole_triplets}
-use Rattle.iri_percent.proofs.UnitLaws.{encodes_triplet}
+use Rattle.iri_percent.proofs.Common.{◌≡◌, ℕ, Bool, true, false, cond, ◌||◌, List, [], ◌∷◌, ◌++◌, refl, sym, ◌∙◌, ap, arith, ◌==◌, chars}
+use Rattle.iri_percent.proofs.Common.{is_utf8, encode, encodes, encodes-chars, IsUtf8-from_is_utf8, Tests, IsSpec, reg_name_char}
+use Rattle.iri_percent.proofs.Common.{userinfo_char, pchar, path_char, query_char, fragment_char, is_ascii_reg_name, is_ascii_userinfo}
+use Rattle.iri_percent.proofs.Common.{is_ascii_pchar, is_ascii_path, is_ascii_query, is_ascii_unreserved, is_sub_delim, is_userinfo}
+use Rattle.iri_percent.proofs.Common.{is_path, is_path_segment, is_query, is_fragment, lacks, both, by_test, all-lacks, is_host}
+use Rattle.iri_percent.proofs.Common.{is_reg_name, over, text_over, IsOver, two_digits, whole_triplets}
+use Rattle.iri_percent.proofs.UnitLaws.{encodes_triplet, lacks_first}
 use Rattle.iri_grammar.specs.IpLiteral.{is_ip_literal}
 use Rattle.iri_grammar.proofs.LiteralChars.{is_literal_char, ip_literal-chars}
 use Rattle.iri_grammar.specs.Over.{done, plain, triplet}
 use Rattle.iri_grammar.proofs.OverLaws.{units-from_over}
 use Rattle.iri_percent.proofs.Reading.{whole_plain, whole_triplet}
 use Rattle.iri_percent.proofs.Stability.{encode_percent, whole_plains}
-use Rattle.iri_percent.proofs.UnitLaws.{lacks_first}
 
 whole_nil : whole_triplets [] ≡ true
 unfolding whole_triplets

@@ -13,13 +13,13 @@ use Rattle.iri_percent.specs.declared.context.Context.TheVariants.{UserOrPasswor
 of_uri : (encoded (keeps uri_tests PathSegment) (encode 0x3B1 ++ codes "/<alpha>?#") ≡ codes "%CE%B1%2F%3Calpha%3E%3F%23")
     × (encoded (keeps uri_tests UserOrPassword) (codes "a:b@c") ≡ codes "a%3Ab%40c")
     × (encoded (keeps uri_tests Any) (codes ":/?#[]@ !$&'()*+,;=") ≡ codes ":/?#[]@%20!$&'()*+,;=")
-unfolding encoded chars encode pchar userinfo_char any_char is_ascii_pchar is_ascii_userinfo is_ascii_any is_ascii_reg_name is_ascii_unreserved
-    is_sub_delim is_gen_delim
+unfolding encoded chars encode pchar userinfo_char any_char is_ascii_pchar is_ascii_userinfo is_ascii_any is_ascii_reg_name
+    is_ascii_unreserved is_sub_delim is_gen_delim
 of_uri = (refl, refl, refl)
 
 -- in the query of an IRI a character past ASCII stands (RFC 3987 section 2.2); a percent is never kept (RFC 3986 section 2.4)
 of_iri : (encoded (keeps iri_tests Query) (encode 0x3B1 ++ codes "/<alpha>?#") ≡ encode 0x3B1 ++ codes "/%3Calpha%3E?%23")
     × (encoded (keeps iri_tests Unreserved) (codes "100%25") ≡ codes "100%2525")
-unfolding encoded chars encode query_char unreserved is_ascii_query is_ascii_pchar is_ascii_reg_name is_ascii_unreserved is_sub_delim is_ucschar
-    is_ucschar_plane is_iprivate
+unfolding encoded chars encode query_char unreserved is_ascii_query is_ascii_pchar is_ascii_reg_name is_ascii_unreserved is_sub_delim
+    is_ucschar is_ucschar_plane is_iprivate
 of_iri = (refl, refl)

@@ -33,7 +33,8 @@ unfolding normal char_units_from first_char chars encode unreserved is_ascii_unr
 of_iri = (refl, refl, refl, refl)
 
 -- a host past ASCII keeps its letters
-hosts : (normal_authority uri_tests (codes "u%3a:P@H%2d:") ≡ codes "u%3A:P@h-") × (normal_host uri_tests (codes "%C3%89X.COM") ≡ codes "%C3%89X.COM")
+hosts : (normal_authority uri_tests (codes "u%3a:P@H%2d:") ≡ codes "u%3A:P@h-")
+    × (normal_host uri_tests (codes "%C3%89X.COM") ≡ codes "%C3%89X.COM")
 unfolding normal_authority authority_parts recompose_authority normal_host is_ascii_host normal char_units_from first_char chars encode
     unreserved is_ascii_unreserved
 hosts = (refl, refl)

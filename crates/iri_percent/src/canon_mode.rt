@@ -14,9 +14,9 @@ ghost use Rattle.iri_percent.specs.SchemeRules.{default_port, dropped_port, is_e
 /// ```
 #[derive(Clone, Copy, PartialEq, Eq, Debug)]
 pub enum CanonMode {
-    /// Those of every scheme (RFC 3986 section 6.2.2): a default port stays. An empty port goes (section 6.2.3).
+    /// The rules of every scheme (RFC 3986 section 6.2.2): a default port stays. An empty port goes (section 6.2.3).
     Default,
-    /// Those of five schemes as well (section 6.2.3): the default port goes, and beside an authority an empty path becomes `/`.
+    /// The rules of five schemes as well (section 6.2.3): the default port goes, and beside an authority an empty path becomes `/`.
     Scheme,
 }
 

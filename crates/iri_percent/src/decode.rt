@@ -96,7 +96,7 @@ impl<'a> PercentDecodedWhatwgBytes<'a> {
     }
 
     /// The bytes as they were given, exactly where no `%` is followed by two hex digits: they are then what they decode
-    /// to. It takes no memory.
+    /// to. It allocates nothing.
     ///
     /// ```
     /// use iri::percent_encode::decode::decode_whatwg_bytes;
@@ -164,7 +164,7 @@ impl<'a> PercentDecodedWhatwgBytes<'a> {
         }
     }
 
-    /// The fragments that the decoding is put together from. It takes no memory.
+    /// The fragments that the decoding is put together from. It allocates nothing.
     ///
     /// ```
     /// use iri::percent_encode::decode::{DecodedFragment, decode_whatwg_bytes};

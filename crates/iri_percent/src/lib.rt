@@ -7,7 +7,7 @@
 //! [`MappedToUri`] shows a view mapped to a URI; [`ToUri`] and [`IntoUri`] have the calls on views and owned texts of IRIs.
 //! `laws` has what holds of all texts.
 //!
-//! Proved: each shows exactly its definition, and takes no memory. A percent-encoded octet is decoded, a stray `%` stays,
+//! Proved: each shows exactly its definition, and allocates nothing. A percent-encoded octet is decoded, a stray `%` stays,
 //! and the fragments, joined, are the decoded bytes. A mapped text is a text of the same kind of URIs; a text that couldn't
 //! be mapped after an allocation failure is left as it was or handed back, and one in ASCII keeps its capacity.
 //!

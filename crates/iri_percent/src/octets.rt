@@ -15,6 +15,7 @@ static VALUES: [u8; 256] = *b"\
     @@@@@@@@@@@@@@@@@@@@@@@@@@@@@@@@\
     @@@@@@@@@@@@@@@@@@@@@@@@@@@@@@@@";
 
+#[tactic(auto, using(crate::proofs::HexTable::digit_here, crate::proofs::HexTable::none_here))]
 fn hex_value(digit: u8) -> Option<u8>
     ensures { MatchOption result (is_ascii_hexdigit digit ≡ false)
         (λ v. (is_ascii_hexdigit digit ≡ true) × (v ≡ digit_value digit) × (v < 16)) }
@@ -35,6 +36,7 @@ static CAPITALS: [u8; 256] = *b"\
     ................................";
 
 // The capital form of a hex digit, by a table: an unpredictable branch costs more.
+#[tactic(auto, using(crate::proofs::HexTable::capital_here))]
 #[inline(always)]
 pub(crate) fn capital(digit: u8) -> u8
     requires { is_ascii_hexdigit digit ≡ true }
@@ -43,6 +45,7 @@ pub(crate) fn capital(digit: u8) -> u8
     CAPITALS[usize::from(digit)]
 }
 
+#[tactic(auto, using(crate::proofs::HexTable::value_here))]
 #[inline(always)]
 fn value_of_digit(digit: u8) -> u8
     requires { is_ascii_hexdigit digit ≡ true }

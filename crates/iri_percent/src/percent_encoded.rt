@@ -16,7 +16,7 @@ use std::marker::PhantomData;
 /// its place of a reference of `S` stays, and every other one, `%` among them, becomes the percent-encoded octets of its
 /// UTF-8, with capital hex digits. So what is decoded again is the raw text.
 ///
-/// It takes no memory, and the value may put its text in any pieces.
+/// It allocates nothing, and the value may put its text in any pieces.
 ///
 /// ```
 /// use iri::format::ToStringFallible;

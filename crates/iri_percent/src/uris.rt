@@ -30,7 +30,7 @@ pub trait ToUri: Show {
     fn encode_to_uri(self) -> Self::Mapped
         ensures { Self.Mapped.text result ≡ mapped (Self.text self) };
 
-    /// The same text as a URI, exactly where it is in ASCII. It takes no memory.
+    /// Gives the text as a URI, exactly where it is in ASCII. It allocates nothing.
     ///
     /// ```
     /// use iri::prelude::ToUri;
@@ -71,7 +71,7 @@ pub trait IntoUri: Show + Sized {
     /// How many bytes the text can have before it needs more memory.
     ghost capacity: { Self → ℕ };
 
-    /// The same of the URI.
+    /// How many bytes the URI can have before it needs more memory.
     ghost uri_capacity: { Self.Uri → ℕ };
 
     /// Maps the text in place; it stays an IRI, and is in ASCII. Where it was in ASCII it stays as it is, with its
@@ -112,7 +112,7 @@ pub trait IntoUri: Show + Sized {
             (λ iri. (iri ≡ self) × IsNotAscii (Self.text self)) }
         ensures capacity { IfOk result (λ uri. IsAscii (Self.text self) → uri_capacity uri ≡ capacity self) };
 
-    /// The same text as a URI, where it is in ASCII, with its capacity. It takes no memory.
+    /// Gives the text as a URI, where it is in ASCII, with its capacity. It allocates nothing.
     ///
     /// # Errors
     ///

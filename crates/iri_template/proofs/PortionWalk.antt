@@ -3,10 +3,9 @@ use Rattle.iri_template.proofs.Common.{◌≡◌, ℕ, ◌+◌, ◌*◌, true, f
 use Rattle.iri_template.proofs.Common.{subst, arith, append_assoc, append-nil, Result, Ok, Err, AreSinkLaws, fault, Portion, portions_fault}
 use Rattle.iri_template.proofs.Common.{portions_text, calls_in, Telling, later, WhereTold, MovesBy, StopsAt, IsRefused, EndsAs, CallsUpTo}
 use Rattle.iri_template.proofs.Common.{Error, WriteFailed, ExpressionNotClosed, InvalidCharacter, InvalidExpression, InvalidPercentEncoding}
-use Rattle.iri_template.proofs.Common.{InvalidUtf8, UnexpectedValueType, UnsupportedOperator, Memory}
+use Rattle.iri_template.proofs.Common.{InvalidUtf8, UnexpectedValueType, UnsupportedOperator, Memory, first}
 use Rattle.std.specs.Prelude.{⊤}
 use Rattle.std.proofs.Common.{IfErr}
-use Rattle.iri_template.proofs.Common.{first}
 use Rattle.std.proofs.Math.Path.{fun_ext}
 use Rattle.iri_template.specs.declared.error.ErrorKind.{ErrorKind}
 

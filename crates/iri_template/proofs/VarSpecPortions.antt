@@ -1,10 +1,9 @@
 -- A walk over varspecs without a fault, where values may change: the portions of those that are left.
 use Rattle.iri_template.proofs.Common.{◌≡◌, ℕ, ◌+◌, ◌-◌, ◌*◌, Bool, true, false, cond, ◌||◌, List, [], ◌∷◌, Option, None, Some, length, map}
 use Rattle.iri_template.proofs.Common.{refl, sym, ◌∙◌, ap, subst, arith, Ok, Err, Bor, Tests, before, after, pieces, now_of, AreSinkLaws}
-use Rattle.iri_template.proofs.Common.{row_of, value_texts, fault, moved, varspec_fault, has_some, varspecs_left, Portion}
-use Rattle.iri_template.proofs.Common.{varspec_portions, portions_fault, calls_in, varspec_of, varspec_text, Telling, later, WhereTold}
-use Rattle.iri_template.proofs.Common.{MovesBy, is_mistyped, EndsAs, CallsUpTo, Error, UnexpectedValueType}
-use Rattle.iri_template.proofs.Common.{Operator, Typecheck, Expand}
+use Rattle.iri_template.proofs.Common.{row_of, value_texts, fault, moved, varspec_fault, has_some, varspecs_left, Portion, varspec_portions}
+use Rattle.iri_template.proofs.Common.{portions_fault, calls_in, varspec_of, varspec_text, Telling, later, WhereTold, MovesBy, is_mistyped}
+use Rattle.iri_template.proofs.Common.{EndsAs, CallsUpTo, Error, UnexpectedValueType, Operator, Typecheck, Expand}
 use Rattle.iri_template.specs.Template.{VarSpec as TemplateVarSpec}
 use Rattle.iri_template.specs.VarSpecs.{held, IsHeld}
 use Rattle.iri_template.specs.Portions.{varspec_portion}

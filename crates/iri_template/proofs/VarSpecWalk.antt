@@ -3,9 +3,8 @@ use Rattle.iri_template.proofs.Common.{◌≡◌, ℕ, ◌+◌, ◌-◌, true, f
 use Rattle.iri_template.proofs.Common.{◌∙◌, ap, arith, length-append, [], before, after, delimited, joined, from_any, pieces, is_varname}
 use Rattle.iri_template.proofs.Common.{ends_name, name_of, varspec_of, pieces_of, fault, moved, first, unless, name_fault, modifier_fault}
 use Rattle.iri_template.proofs.Common.{varspec_fault, varspecs_fault, text_fault, Error, InvalidExpression, UnexpectedValueType, Bor}
-use Rattle.iri_template.proofs.Common.{now_of, varspecs_left, Piece, literal, triplet, expression, operator_text, varspec_text}
-use Rattle.iri_template.proofs.Common.{piece_text, ShownValue, undefined, is_mistyped, varspecs_type_fault}
-use Rattle.iri_template.proofs.Common.{type_fault_from, type_fault, untold}
+use Rattle.iri_template.proofs.Common.{now_of, varspecs_left, Piece, literal, triplet, expression, operator_text, varspec_text, piece_text}
+use Rattle.iri_template.proofs.Common.{ShownValue, undefined, is_mistyped, varspecs_type_fault, type_fault_from, type_fault, untold}
 use Rattle.iri_grammar.specs.inside.PiecesLaws.{more_pieces}
 use Rattle.iri_grammar.proofs.PiecesLaws.{pieces_cut}
 use Rattle.iri_template.proofs.FaultLemmas.{moved_moved, unmoved, varspecs_moved, moved_none, first_first, first_none}

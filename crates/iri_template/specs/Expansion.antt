@@ -11,7 +11,7 @@ use Rattle.iri_template.specs.Template.{VarSpec, Piece, literal, triplet, expres
 use Rattle.iri_template.specs.VarSpecs.{held}
 use Rattle.iri_template.specs.ShownValues.{ShownValue, undefined, string, list, pairs}
 use Rattle.iri_template.specs.declared.varspec.Modifier.{Modifier}
-use Rattle.iri_template.specs.declared.varspec.Modifier.TheVariants.{Whole, Explode, Prefix}
+use Rattle.iri_template.specs.declared.varspec.Modifier.TheVariants.{Explode, Prefix}
 use Rattle.iri_template.specs.declared.operator.Operator.{Operator}
 use Rattle.iri_template.specs.declared.operator.Operator.TheVariants.{Simple, Reserved, Fragment, Label, PathSegment, PathParameter}
 use Rattle.iri_template.specs.declared.operator.Operator.TheVariants.{FormQuery, FormContinuation}
@@ -82,15 +82,13 @@ in_one row name (t ∷ ts) = named_text row name (joined comma (t ∷ ts)) ∷ [
 
 -- the members are told one by one
 abbrev pub explodes : Modifier → Bool
-explodes Whole = false
 explodes Explode = true
-explodes (Prefix n) = false
+explodes m = false
 
 -- how many characters or units of a string are meant
 abbrev pub prefix_of : Modifier → Option ℕ
-prefix_of Whole = None
-prefix_of Explode = None
 prefix_of (Prefix n) = Some n
+prefix_of m = None
 
 abbrev pub shown_pair : Tests → Bool → List ℕ × List ℕ → List ℕ × List ℕ
 shown_pair s allow p = (shown_text s allow None p.0, shown_text s allow None p.1)

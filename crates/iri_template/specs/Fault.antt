@@ -2,12 +2,11 @@
 use Rattle.std.specs.Prelude.{◌≡◌, ℕ, zero, suc, ◌+◌, ◌-◌, Bool, cond, ◌&&◌, ◌||◌, ◌==◌, nat_lt, List, [], ◌∷◌, length, Option, Some, None}
 use Rattle.std.specs.Prelude.{Result, MatchResult}
 use Rattle.std.specs.Char.{is_ascii_digit, is_ascii_hexdigit}
-use Rattle.std.specs.Str.{is_utf8}
+use Rattle.std.specs.Str.{is_utf8, chars}
 use Rattle.std.specs.Str.Lossy.{utf8_valid_len}
 use Rattle.iri_grammar.specs.Cut.{tail, lacks, from_any}
 use Rattle.iri_grammar.specs.Pieces.{pieces}
 use Rattle.iri_grammar.specs.Runs.{run_of}
-use Rattle.std.specs.Str.{chars}
 use Rattle.iri_template.specs.Names.{is_varname}
 use Rattle.iri_template.specs.Template.{literal_char, operator_text}
 use Rattle.iri_template.specs.Reading.{ends_name, name_of, operator_of, after_operator, body_of, first_of, piece_len}

@@ -25,8 +25,8 @@ pub record Portion : Type 0 where
   pub calls : ℕ
 
 -- ---- varspecs
--- One that is looked at first, and whose value is told to be written where its type was right then. `written` says whether its expression has a
--- text before it.
+-- One that is looked at first, and whose value is told to be written where its type was right then. `written` says whether its expression has
+-- a text before it.
 abbrev pub varspec_portion : Tests → Operator → ℕ → Bool → List ℕ → Modifier → Bool → ShownValue → Portion
 varspec_portion s operator at written name modifier mistyped told = record {
   location = at;
@@ -39,7 +39,8 @@ varspec_portion s operator at written name modifier mistyped told = record {
 abbrev pub varspec_portions : Tests → Operator → Telling → ℕ → Bool → List VarSpec → List Portion
 varspec_portions s operator tells at written [] = []
 varspec_portions s operator tells at written (v ∷ vs) =
-    varspec_portion s operator at written v.name (held v.modifier) (is_mistyped (held v.modifier) (tells 0 v.name Typecheck)) (tells 1 v.name Expand)
+    varspec_portion s operator at written v.name (held v.modifier) (is_mistyped (held v.modifier) (tells 0 v.name Typecheck))
+    (tells 1 v.name Expand)
     ∷ varspec_portions s operator (later 2 tells) (at + length (varspec_text v) + 1)
     (written || has_some (value_texts s (row_of operator) v.name (held v.modifier) (tells 1 v.name Expand))) vs
 

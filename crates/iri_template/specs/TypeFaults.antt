@@ -1,7 +1,6 @@
 -- Values that a varspec with a prefix has no use for (RFC 6570 section 2.4.1).
 use Rattle.std.specs.Prelude.{ℕ, ◌+◌, Bool, false, cond, List, [], ◌∷◌, length, Option, None}
-use Rattle.iri_template.specs.Template.{VarSpec, Piece, literal, triplet, expression, operator_text, varspec_text}
-use Rattle.iri_template.specs.Template.{piece_text}
+use Rattle.iri_template.specs.Template.{VarSpec, Piece, literal, triplet, expression, operator_text, varspec_text, piece_text}
 use Rattle.iri_template.specs.VarSpecs.{held}
 use Rattle.iri_template.specs.Fault.{fault, first, template_fault}
 use Rattle.iri_template.specs.Reading.{pieces_of}
@@ -9,13 +8,12 @@ use Rattle.iri_template.specs.ShownValues.{ShownValue, has_members}
 use Rattle.iri_template.specs.declared.error.Error.{Error}
 use Rattle.iri_template.specs.declared.error.ErrorKind.TheVariants.{UnexpectedValueType}
 use Rattle.iri_template.specs.declared.varspec.Modifier.{Modifier}
-use Rattle.iri_template.specs.declared.varspec.Modifier.TheVariants.{Whole, Explode, Prefix}
+use Rattle.iri_template.specs.declared.varspec.Modifier.TheVariants.{Prefix}
 
 -- a prefix for a list or an associative array that isn't empty
 abbrev pub is_mistyped : Modifier → ShownValue → Bool
-is_mistyped Whole v = false
-is_mistyped Explode v = false
 is_mistyped (Prefix n) v = has_members v
+is_mistyped m v = false
 
 -- the first of these varspecs with such a value, where so many bytes stand before them; a comma stands between each two
 abbrev pub varspecs_type_fault : (List ℕ → ShownValue) → ℕ → List VarSpec → Option Error

@@ -1,8 +1,7 @@
 -- The first characters of a text, encoded.
-use Rattle.std.specs.Prelude.{ℕ, ◌-◌, ◌==◌, cond, List, []}
+use Rattle.std.specs.Prelude.{ℕ, ◌-◌, ◌==◌, cond, List, [], take}
 use Rattle.std.specs.List.{flat_map}
 use Rattle.std.specs.Str.{chars}
-use Rattle.std.specs.Prelude.{take}
 use Rattle.iri_grammar.specs.Classes.{Tests, unreserved}
 use Rattle.iri_percent.specs.Encoding.{encoded_char}
 

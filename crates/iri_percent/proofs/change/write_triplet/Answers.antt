@@ -19,10 +19,9 @@ after_triplet-requires g c = (digits c.args.text.now c.requires.0 c.requires.1 c
 pub returns-in-Some-clause-writes : goal.returns-in-Some-clause-writes
 returns-in-Some-clause-writes g c =
     let s = g.S.Spec.tests in
-    let t = c.args.text.now in
     let o = c.octet_of_digits-octet.result in
-    let r : Writes s c.args.lower t c.args.buf.now c.write_char.new.buf c.args.at (3 * len_utf8 c.in-Some.c) c.write_char.result =
-    writes_char s c.args.lower t c.args.buf.now c.write_char.new.buf c.args.at c.write_char.result o c.in-Some.c
+    let r : Writes s c.args.lower c.args.text.now c.args.buf.now c.write_char.new.buf c.args.at (3 * len_utf8 c.in-Some.c) c.write_char.result =
+    writes_char s c.args.lower c.args.text.now c.args.buf.now c.write_char.new.buf c.args.at c.write_char.result o c.in-Some.c
     c.requires.0 c.requires.1 c.requires.2 c.octet_of_digits-octet.ensures c.if-octet-ge192.true
     (c.in-Some.ensures ∙ ap (λ x. decoded s (o ∷ octets x)) c.after_triplet.ensures) c.write_char.ensures.text in
     rw c.len_utf8.ensures.value r

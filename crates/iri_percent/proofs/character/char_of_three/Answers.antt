@@ -13,8 +13,7 @@ returns-in_err-b c = c.from_residual-in_err-b.ensures
 pub returns : goal.returns
 returns c =
     let a = c.in_ok-a.a in
-    let b = c.in_ok-b.b in
-    c.char_from.ensures ∙ ap (λ n. char_from ((n * 64 + a) * 64 + b) 2048) c.from.ensures
-    ∙ three_octets c.args.lead a b (octets c.in_ok-b.field-0-1.now) c.requires.0 c.requires.1 c.in_ok-a.ensures.1 c.in_ok-b.ensures.1
+    c.char_from.ensures ∙ ap (λ n. char_from ((n * 64 + a) * 64 + c.in_ok-b.b) 2048) c.from.ensures
+    ∙ three_octets c.args.lead a c.in_ok-b.b (octets c.in_ok-b.field-0-1.now) c.requires.0 c.requires.1 c.in_ok-a.ensures.1 c.in_ok-b.ensures.1
     ∙ ap (λ os. first_char (c.args.lead ∷ (128 + a) ∷ os)) (sym c.in_ok-b.ensures.0)
     ∙ ap (λ os. first_char (c.args.lead ∷ os)) (sym c.in_ok-a.ensures.0)

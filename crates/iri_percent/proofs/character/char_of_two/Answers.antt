@@ -7,7 +7,6 @@ returns-in_err-a c = c.from_residual.ensures ∙ ends_at_one c.args.lead (octets
 
 pub returns : goal.returns
 returns c =
-    let a = c.in_ok-a.a in
-    c.char_from.ensures ∙ ap (λ n. char_from (n * 64 + a) 128) c.from.ensures
-    ∙ two_octets c.args.lead a (octets c.in_ok-a.field-0-1.now) c.requires.0 c.requires.1 c.in_ok-a.ensures.1
+    c.char_from.ensures ∙ ap (λ n. char_from (n * 64 + c.in_ok-a.a) 128) c.from.ensures
+    ∙ two_octets c.args.lead c.in_ok-a.a (octets c.in_ok-a.field-0-1.now) c.requires.0 c.requires.1 c.in_ok-a.ensures.1
     ∙ ap (λ os. first_char (c.args.lead ∷ os)) (sym c.in_ok-a.ensures.0)

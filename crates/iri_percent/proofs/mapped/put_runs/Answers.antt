@@ -42,16 +42,14 @@ loop-rest-preserved g c =
 
 pub loop-rest-smaller : goal.loop-rest-smaller
 loop-rest-smaller g c =
-    let rest = c.loop-rest.rest.now in
-    shorter_by rest c.split_run.result.1.now c.split_run-in-loop-rest.result.1.now
-    (omega (arith, eqb-false (length rest) 0 (sym c.is_empty.ensures ∙ c.loop-rest-test.true)))
+    shorter_by c.loop-rest.rest.now c.split_run.result.1.now c.split_run-in-loop-rest.result.1.now
+    (omega (arith, eqb-false (length c.loop-rest.rest.now) 0 (sym c.is_empty.ensures ∙ c.loop-rest-test.true)))
     c.split_run.ensures.rest c.split_run-in-loop-rest.ensures.rest
 
 pub returns : goal.returns
 returns g c =
     let i = c.loop-rest.invariant in
-    let rest = c.loop-rest.rest.now in
-    let none = mapped-none rest (eqb-true (length rest) 0 (sym c.is_empty.ensures ∙ c.loop-rest-test.false)) in
+    let none = mapped-none c.loop-rest.rest.now (eqb-true (length c.loop-rest.rest.now) 0 (sym c.is_empty.ensures ∙ c.loop-rest-test.false)) in
     subst (λ l. Shows g.W.TextSink.puts g.W.TextSink.halts g.W.TextSink.stops c.args.sink.now l c.loop-rest.sink (Ok tt))
     (sym (i.same ∙ ap (λ l. i.done ++ l) none ∙ append-nil i.done))
     (shows_all i.shown)

@@ -17,7 +17,6 @@ changes-init g c =
 
 pub changes-preserved : goal.changes-preserved
 changes-preserved g c =
-    let i = c.changes.invariant in
     let t = c.args.text.now in
     let r = c.changes.run in
     let change = c.write_change-change in
@@ -28,8 +27,8 @@ changes-preserved g c =
     record {
       gathered = so_far (subst (λ x. Becomes g.S.Spec.tests c.args.lower t c.args.at (r.read + change.result.read) x) is
           (joined g.S.Spec.tests c.args.lower t _ c.args.at r.read change.result.read (take r.written c.changes.buf) k.text
-          (take_rest t (c.args.at + r.read)) i.gathered k.becomes));
-      utf8 = subst IsUtf8 is (IsUtf8-append (take r.written c.changes.buf) k.text i.utf8 k.utf8);
+          (take_rest t (c.args.at + r.read)) c.changes.invariant.gathered k.becomes));
+      utf8 = subst IsUtf8 is (IsUtf8-append (take r.written c.changes.buf) k.text c.changes.invariant.utf8 k.utf8);
       room = next.0;
       inside = next.1;
       candidate = next.2;
@@ -37,16 +36,14 @@ changes-preserved g c =
 
 pub returns-then-not-has_next-clause-utf8 : goal.returns-then-not-has_next-clause-utf8
 returns-then-not-has_next-clause-utf8 g c =
-    let i = c.changes.invariant in
     let k = c.write_change-change.ensures.writes in
-    subst IsUtf8 (sym k.put) (IsUtf8-append (take c.changes.run.written c.changes.buf) k.text i.utf8 k.utf8)
+    subst IsUtf8 (sym k.put) (IsUtf8-append (take c.changes.run.written c.changes.buf) k.text c.changes.invariant.utf8 k.utf8)
 
 pub returns-then-not-has_next-clause-becomes : goal.returns-then-not-has_next-clause-becomes
 returns-then-not-has_next-clause-becomes g c =
-    let i = c.changes.invariant in
     let t = c.args.text.now in
     let r = c.changes.run in
     let k = c.write_change-change.ensures.writes in
     subst (λ x. Becomes g.S.Spec.tests c.args.lower t c.args.at (r.read + c.write_change-change.result.read) x) (sym k.put)
     (joined g.S.Spec.tests c.args.lower t _ c.args.at r.read c.write_change-change.result.read (take r.written c.changes.buf) k.text
-    (take_rest t (c.args.at + r.read)) i.gathered k.becomes)
+    (take_rest t (c.args.at + r.read)) c.changes.invariant.gathered k.becomes)

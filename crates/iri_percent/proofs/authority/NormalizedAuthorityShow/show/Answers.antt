@@ -11,7 +11,6 @@ show_span-requires g c = subst (FitsAuthority g.S.Spec.tests) (sym c.of-span.ens
 
 pub returns : goal.returns
 returns g c =
-    let a = c.args.self.now in
     subst (λ t. Shows g.W.TextSink.puts g.W.TextSink.halts g.W.TextSink.stops c.args.sink.now t c.show_span.new.sink c.show_span.result)
-    (authority_in g.S.Spec.tests (now_of a.dropped_port) a.authority.now (span_parts c.of-span.result) c.of-span.ensures)
+    (authority_in g.S.Spec.tests (now_of c.args.self.now.dropped_port) c.args.self.now.authority.now (span_parts c.of-span.result) c.of-span.ensures)
     c.show_span.ensures

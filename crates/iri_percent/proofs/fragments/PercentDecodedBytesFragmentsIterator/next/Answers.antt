@@ -4,6 +4,5 @@ use Rattle.iri_percent.proofs.fragments.PercentDecodedBytesFragmentsIterator.nex
 
 pub returns-then-is_empty-clause-steps : goal.returns-then-is_empty-clause-steps
 returns-then-is_empty-clause-steps c =
-    let t = c.args.self.now.rest.now in
-    let none = none-left t (eqb-true (length t) 0 (sym c.is_empty.ensures ∙ c.if-is_empty.true)) in
+    let none = none-left c.args.self.now.rest.now (eqb-true (length c.args.self.now.rest.now) 0 (sym c.is_empty.ensures ∙ c.if-is_empty.true)) in
     ((none, none), refl)
