@@ -13,3 +13,4 @@ pub mod RegisterAt
 pub mod StatelessAt
 pub mod RobotsSaid
 pub mod RobotsAt
+pub mod SinkTexts

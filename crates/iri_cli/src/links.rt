@@ -1,27 +1,16 @@
 // The answers of `links`.
-ghost use Rattle.std.specs.Prelude.{◌≡◌, OnOk, string_bytes};
 ghost use Rattle.iri_text.specs.Sink.{PutsAll, sink_state};
-ghost use Rattle.iri_normal.specs.Answers.{good_answer};
 ghost use Rattle.iri_cli.specs.links.Answers.{field_refusal};
 
 use crate::canon::base_of;
 use crate::run::answers::{AnswerError, Answers, BaseError};
 use crate::run::puts::{put_bad, told};
+use crate::run::shown::put_good;
 use iri_grammar::spec::Spec;
 use iri_link::{LinkError, LinkKind, read_links_against};
 use iri_normal::resolver::FixedBaseResolver;
-use iri_text::{Failed, Show, Sink, try_append_to_string, write_to_slice};
-use std::alloc::{AllocError, Global};
-
-// Writes a good answer with a shown text in place of what a string holds.
-fn write_good<T: Show>(dest: &mut String, shown: &T) -> Result<(), AllocError>
-    ensures { OnOk result (string_bytes dest.new ≡ good_answer (T.text shown.now)) }
-{
-    dest.clear();
-    dest.push_str("ok ")?;
-    try_append_to_string(dest, shown)?;
-    dest.push('\n')
-}
+use iri_text::{Failed, Sink, write_to_slice};
+use std::alloc::Global;
 
 // Puts the answer to a line that has a fault. It takes no memory.
 fn put_fault<O: Sink>(sink: &mut O, kind: LinkKind, place: usize) -> Result<(), Failed>
@@ -41,8 +30,6 @@ fn put_fault<O: Sink>(sink: &mut O, kind: LinkKind, place: usize) -> Result<(), 
 #[derive(Drop)]
 pub struct Links {
     alloc: Global,
-    // The last answer.
-    answer: String,
 }
 
 impl<S: Spec> Answers<S> for Links {
@@ -62,10 +49,7 @@ impl<S: Spec> Answers<S> for Links {
 
     fn open(alloc: Global, base: &mut Vec<u8>, _output: Vec<u8>) -> Result<Self, BaseError> {
         match base_of::<S>(base) {
-            Ok(_) => Ok(Links {
-                alloc,
-                answer: String::new(alloc),
-            }),
+            Ok(_) => Ok(Links { alloc }),
             Err(words) => Err(BaseError::Refused(words)),
         }
     }
@@ -77,10 +61,7 @@ impl<S: Spec> Answers<S> for Links {
         sink: &mut O,
     ) -> Result<bool, AnswerError> {
         match read_links_against(self.alloc, resolver, line) {
-            Ok(links) => match write_good(&mut self.answer, &links) {
-                Ok(()) => told(true, sink.put_all(self.answer.as_bytes())),
-                Err(_) => Err(AnswerError::Memory),
-            },
+            Ok(links) => told(true, put_good(sink, &links)),
             Err(LinkError::Fault(kind, place)) => told(false, put_fault(sink, kind, place)),
             Err(LinkError::Memory) => Err(AnswerError::Memory),
         }

@@ -22,6 +22,8 @@ pub(crate) mod buffers;
 pub(crate) mod end;
 pub(crate) mod opening;
 pub(crate) mod puts;
+pub(crate) mod shown;
+pub(crate) mod sink_text;
 pub mod to_writer;
 pub mod words;
 
