@@ -1,7 +1,8 @@
 // Calls that change a part of a reference, or build a text from parts.
 ghost use Rattle.iri_calls.specs.Building.{built_outcome};
-ghost use Rattle.iri_calls.specs.Edits.{cut_outcome, fragment_outcome, host_outcome, masked_outcome, password_outcome, removed_outcome};
+ghost use Rattle.iri_calls.specs.Edits.{cut_in, fragment_in, host_in, masked_in, password_in, removed_in};
 ghost use Rattle.iri_calls.specs.Outcome.{Answered};
+ghost use Rattle.iri_calls.specs.Outcomes.{in_grammar};
 ghost use Rattle.std.specs.Prelude.{false, true};
 
 use iri_calls::building::{self, Part};
@@ -15,7 +16,7 @@ pub extern "C" fn irikit_mask_password(
     out: &mut [u8],
     detail: &mut usize,
 ) -> u8
-    ensures { Answered (masked_outcome grammar text.now) out.old out.new detail.new result }
+    ensures { Answered (in_grammar grammar (masked_in text.now)) out.old out.new detail.new result }
 {
     edits::irikit_mask_password(grammar, text, out, detail)
 }
@@ -28,7 +29,7 @@ pub extern "C" fn irikit_remove_password(
     out: &mut [u8],
     detail: &mut usize,
 ) -> u8
-    ensures { Answered (removed_outcome grammar text.now) out.old out.new detail.new result }
+    ensures { Answered (in_grammar grammar (removed_in text.now)) out.old out.new detail.new result }
 {
     edits::irikit_remove_password(grammar, text, out, detail)
 }
@@ -42,7 +43,7 @@ pub extern "C" fn irikit_replace_password(
     out: &mut [u8],
     detail: &mut usize,
 ) -> u8
-    ensures { Answered (password_outcome grammar text.now password.now) out.old out.new detail.new result }
+    ensures { Answered (in_grammar grammar (password_in text.now password.now)) out.old out.new detail.new result }
 {
     edits::irikit_replace_password(grammar, text, password, out, detail)
 }
@@ -55,7 +56,7 @@ pub extern "C" fn irikit_remove_fragment(
     out: &mut [u8],
     detail: &mut usize,
 ) -> u8
-    ensures { Answered (cut_outcome grammar text.now) out.old out.new detail.new result }
+    ensures { Answered (in_grammar grammar (cut_in text.now)) out.old out.new detail.new result }
 {
     edits::irikit_remove_fragment(grammar, text, out, detail)
 }
@@ -69,7 +70,7 @@ pub extern "C" fn irikit_set_fragment(
     out: &mut [u8],
     detail: &mut usize,
 ) -> u8
-    ensures { Answered (fragment_outcome grammar text.now fragment.now) out.old out.new detail.new result }
+    ensures { Answered (in_grammar grammar (fragment_in text.now fragment.now)) out.old out.new detail.new result }
 {
     edits::irikit_set_fragment(grammar, text, fragment, out, detail)
 }
@@ -83,12 +84,12 @@ pub extern "C" fn irikit_replace_host(
     out: &mut [u8],
     detail: &mut usize,
 ) -> u8
-    ensures { Answered (host_outcome grammar false text.now host.now) out.old out.new detail.new result }
+    ensures { Answered (in_grammar grammar (host_in false text.now host.now)) out.old out.new detail.new result }
 {
     hosts::irikit_replace_host(grammar, text, host, out, detail)
 }
 
-/// The same where the host is a registered name.
+/// A reference with another host in place of a registered name.
 #[unsafe(no_mangle)]
 pub extern "C" fn irikit_replace_reg_name(
     grammar: u32,
@@ -97,7 +98,7 @@ pub extern "C" fn irikit_replace_reg_name(
     out: &mut [u8],
     detail: &mut usize,
 ) -> u8
-    ensures { Answered (host_outcome grammar true text.now host.now) out.old out.new detail.new result }
+    ensures { Answered (in_grammar grammar (host_in true text.now host.now)) out.old out.new detail.new result }
 {
     hosts::irikit_replace_reg_name(grammar, text, host, out, detail)
 }

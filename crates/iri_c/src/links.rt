@@ -1,8 +1,8 @@
 // Calls on references against a base, one or many.
 ghost use Rattle.iri_calls.specs.Lines.{Batched};
 ghost use Rattle.iri_calls.specs.Outcome.{Answered};
-ghost use Rattle.iri_calls.specs.Outcomes.{canonical_outcome};
-ghost use Rattle.iri_calls.specs.Resolutions.{resolved_outcome, target_outcome};
+ghost use Rattle.iri_calls.specs.Outcomes.{canonical_outcome, in_grammar};
+ghost use Rattle.iri_calls.specs.Resolutions.{resolved_in, target_in};
 
 use iri_calls::{canonical, lines, resolve, target};
 
@@ -30,7 +30,7 @@ pub extern "C" fn irikit_resolve(
     out: &mut [u8],
     detail: &mut usize,
 ) -> u8
-    ensures { Answered (resolved_outcome grammar base.now reference.now) out.old out.new detail.new result }
+    ensures { Answered (in_grammar grammar (resolved_in base.now reference.now)) out.old out.new detail.new result }
 {
     resolve::irikit_resolve(grammar, base, reference, out, detail)
 }
@@ -44,7 +44,7 @@ pub extern "C" fn irikit_target(
     out: &mut [u8],
     detail: &mut usize,
 ) -> u8
-    ensures { Answered (target_outcome grammar base.now reference.now) out.old out.new detail.new result }
+    ensures { Answered (in_grammar grammar (target_in base.now reference.now)) out.old out.new detail.new result }
 {
     target::irikit_target(grammar, base, reference, out, detail)
 }

@@ -3,7 +3,7 @@ ghost use Rattle.iri_calls.specs.Encodings.{encoded_outcome};
 ghost use Rattle.iri_calls.specs.FaultParts.{PartFound};
 ghost use Rattle.iri_calls.specs.Outcome.{Answered, Returned};
 ghost use Rattle.iri_calls.specs.Outcome.Outcome.{text};
-ghost use Rattle.iri_calls.specs.Outcomes.{NormalJudged, fault_words, mapped_outcome, validated_outcome};
+ghost use Rattle.iri_calls.specs.Outcomes.{NormalJudged, fault_words, in_grammar, mapped_outcome, validated_in};
 ghost use Rattle.iri_calls.specs.Resolutions.{normalized_outcome, steps_outcome};
 ghost use Rattle.iri_calls.specs.Slots.{SplitWritten};
 ghost use Rattle.iri_percent.specs.Decoding.{decoding};
@@ -14,7 +14,7 @@ use iri_calls::{decoding, encoding, fault, fault_part, mapping, normal, steps, v
 /// Whether a whole text is of a kind.
 #[unsafe(no_mangle)]
 pub extern "C" fn irikit_validate(grammar: u32, kind: u32, text: &[u8], detail: &mut usize) -> u8
-    ensures { Returned (validated_outcome grammar kind text.now) detail.new result }
+    ensures { Returned (in_grammar grammar (validated_in kind text.now)) detail.new result }
 {
     validation::irikit_validate(grammar, kind, text, detail)
 }

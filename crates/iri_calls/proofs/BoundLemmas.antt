@@ -4,7 +4,8 @@ use Rattle.iri_calls.proofs.Common.{ap, arith, length-append, flat_map, IsUtf8, 
 use Rattle.iri_calls.proofs.Common.{bytes_fault, split_of, reference_fault, iri_fault, absolute_fault, missing_scheme_fault, ErrorKind}
 use Rattle.iri_calls.proofs.Common.{InvalidScheme, InvalidUserInfo, InvalidHost, InvalidPath, InvalidQuery, InvalidFragment}
 use Rattle.iri_calls.proofs.Common.{UnexpectedFragment, UnexpectedRelative, InvalidUtf8, recompose_split, no_cr, answer_by, answer_in}
-use Rattle.iri_calls.proofs.Common.{canonical_in, no_fault, line_answer, grammar_of, Outcome, in_grammar, unless_fault}
+use Rattle.iri_calls.proofs.Common.{canonical_in, no_fault, encoded_as, line_answer, BAD_BASE, BAD_REFERENCE, Outcome, text, in_grammar}
+use Rattle.iri_calls.proofs.Common.{unless_fault}
 use Rattle.std.proofs.Common.{nat_eq, nat_lt, max}
 use Rattle.std.specs.Char.{encode_utf8}
 use Rattle.std.specs.Str.{chars, encode_utf8_all}
@@ -17,7 +18,6 @@ use Rattle.iri_grammar.proofs.FaultLaws.{absolute-law, reference-law, neither, s
 use Rattle.iri_percent.specs.Encoding.{encoded, encoded_char, keeps}
 use Rattle.iri_percent.specs.Mapping.{mapped, triplet, triplets}
 use Rattle.iri_percent.specs.declared.canon_mode.CanonMode.{CanonMode}
-use Rattle.iri_percent.specs.declared.context.Context.{Context}
 use Rattle.iri_normal.specs.Normalized.{written_text}
 use Rattle.iri_normal.specs.Target.{target, takes_base_path}
 use Rattle.iri_normal.specs.declared.mode.Mode.{Mode}
@@ -25,34 +25,37 @@ use Rattle.iri_normal.proofs.CanonLemmas.{fault_none}
 use Rattle.iri_normal.proofs.LengthLaws.{length-canonical_in, length-form, length-plain_form, length-target}
 use Rattle.iri_text.proofs.LinesLemmas.{no_cr-shorter}
 use Rattle.iri_calls.specs.Bounds.{HasAtMost}
-use Rattle.iri_calls.specs.Encodings.{encoded_for}
-use Rattle.iri_calls.specs.Outcomes.{in_mode}
-use Rattle.iri_calls.specs.Resolutions.{in_form, resolved, target_text}
+use Rattle.iri_calls.specs.Encodings.{place_numbered}
+use Rattle.iri_calls.specs.Outcomes.{where_known, against_base}
+use Rattle.iri_calls.specs.Resolutions.{resolved, target_text}
 use Rattle.iri_calls.specs.declared.grammar.TheConstants.{URI, IRI}
 
 -- ---- whatever a call's numbers are, and where nothing is refused
 pub in_each_grammar : (most grammar : ℕ) (f : Tests → Outcome) → ((s : Tests) → IsSpec s → HasAtMost most (f s))
-    → HasAtMost most (in_grammar (grammar_of grammar) f)
+    → HasAtMost most (in_grammar grammar f)
 in_each_grammar most grammar f h =
-    elim (nat_eq grammar URI) as (λ b. HasAtMost most (in_grammar (cond b (Some uri_tests) (cond (nat_eq grammar IRI) (Some iri_tests) None)) f)) [
+    elim (nat_eq grammar URI) as (λ b. HasAtMost most (where_known (cond b (Some uri_tests) (cond (nat_eq grammar IRI) (Some iri_tests) None)) f)) [
       | true ↦ h uri_tests uri_is_spec
-      | false ↦ elim (nat_eq grammar IRI) as (λ b. HasAtMost most (in_grammar (cond b (Some iri_tests) None) f))
+      | false ↦ elim (nat_eq grammar IRI) as (λ b. HasAtMost most (where_known (cond b (Some iri_tests) None) f))
           [ true ↦ h iri_tests iri_is_spec | false ↦ tt ]
     ]
 
-pub in_each_mode : (most : ℕ) (o : Option CanonMode) (f : CanonMode → Outcome) → ((m : CanonMode) → HasAtMost most (f m))
-    → HasAtMost most (in_mode o f)
-in_each_mode most None f h = tt
-in_each_mode most (Some m) f h = h m
-
-pub in_each_form : (most : ℕ) (o : Option Mode) (f : Mode → Outcome) → ((m : Mode) → HasAtMost most (f m)) → HasAtMost most (in_form o f)
-in_each_form most None f h = tt
-in_each_form most (Some m) f h = h m
+pub in_each : {A : Type 0} (most : ℕ) (o : Option A) (f : A → Outcome) → ((x : A) → HasAtMost most (f x)) → HasAtMost most (where_known o f)
+in_each most None f h = tt
+in_each most (Some x) f h = h x
 
 pub where_valid : (most whose : ℕ) (o : Option ErrorKind) (next : Outcome) → (o ≡ None → HasAtMost most next)
     → HasAtMost most (unless_fault whose o next)
 where_valid most whose None next h = h refl
 where_valid most whose (Some kind) next h = tt
+
+pub where_against : (most : ℕ) (s : Tests) (base reference : List ℕ) (next : Outcome)
+    → (bytes_fault (absolute_fault s) base ≡ None → bytes_fault (reference_fault s) reference ≡ None → HasAtMost most next)
+    → HasAtMost most (against_base base reference s next)
+where_against most s base reference next h =
+    let of_reference = bytes_fault (reference_fault s) reference in
+    where_valid most BAD_BASE (bytes_fault (absolute_fault s) base) (unless_fault BAD_REFERENCE of_reference next)
+    (λ b. where_valid most BAD_REFERENCE of_reference next (h b))
 
 -- ---- normal forms, targets and canonical texts
 pub short_form : (s : Tests) (mode : Mode) (t : List ℕ) → IsSpec s → bytes_fault (iri_fault s) t ≡ None
@@ -113,11 +116,11 @@ is_valid : (b : Bool) (o : Option ErrorKind) → cond b o (Some InvalidUtf8) ≡
 is_valid true o e = refl
 is_valid false o e = cc
 
-pub short_encoding : (s : Tests) (o : Option Context) (t : List ℕ) → bytes_fault no_fault t ≡ None
-    → HasAtMost (3 * length t) (encoded_for o t s)
-short_encoding s None t e = tt
-short_encoding s (Some place) t e =
-    short_encoded (keeps s place) t (IsUtf8-from_is_utf8 t (is_valid (is_utf8 t) None e))
+pub short_encoding : (s : Tests) (place : ℕ) (t : List ℕ) → bytes_fault no_fault t ≡ None
+    → HasAtMost (3 * length t) (encoded_as place t s)
+short_encoding s place t e =
+    in_each (3 * length t) (place_numbered place) (λ p. text (encoded (keeps s p) t))
+    (λ p. short_encoded (keeps s p) t (IsUtf8-from_is_utf8 t (is_valid (is_utf8 t) None e)))
 
 -- ---- the answer of a line
 short_words : (kind : ErrorKind) → length (description kind) ≤ 59

@@ -27,10 +27,10 @@ pub use Rattle.iri_types.proofs.Lemmas.{text_fault, no_text_fault}
 unfoldable pub use Rattle.iri_calls.specs.Buffers.{over}
 pub use Rattle.iri_calls.specs.Building.{given_by}
 unfoldable pub use Rattle.iri_calls.specs.Building.{given_from}
-pub use Rattle.iri_calls.specs.Encodings.{no_fault, encoded_by}
+pub use Rattle.iri_calls.specs.Encodings.{no_fault, encoded_as}
 pub use Rattle.iri_calls.specs.Lines.{line_answer}
 unfoldable pub use Rattle.iri_calls.specs.Lines.{batch}
-pub use Rattle.iri_calls.specs.Numbers.{grammar_of, bad_text, bad_base, bad_reference}
+pub use Rattle.iri_calls.specs.declared.status.TheConstants.{BAD_TEXT, BAD_BASE, BAD_REFERENCE}
 pub use Rattle.iri_calls.specs.Outcome.{Outcome, Answered}
 pub use Rattle.iri_calls.specs.Outcome.Outcome.{text}
 pub use Rattle.iri_calls.specs.Outcomes.{in_grammar, unless_fault}

@@ -24,16 +24,7 @@ use Rattle.iri_calls.specs.FaultParts.{IsFaulty, before_colon, faulty_slot, is_i
 use Rattle.iri_calls.specs.Slots.{place, within_authority}
 use Rattle.iri_calls.proofs.SlotLemmas.{after-delimiter, of-scheme, of-authority, of-userinfo}
 
--- ---- which part is faulty
-pub data Cause (s : Tests) (g : List ℕ → Option ErrorKind) (p : Parts) (kind : ErrorKind) : Type 0 where
-  userinfo : (a u : List ℕ) (there : p.authority ≡ Some a) (within : (authority_parts a).userinfo ≡ Some u)
-      (outside : is_userinfo s u ≡ false) (is : kind ≡ InvalidUserInfo) → Cause s g p kind
-  host : (a : List ℕ) (there : p.authority ≡ Some a) (outside : is_host s (authority_parts a).host ≡ false) (is : kind ≡ InvalidHost)
-      → Cause s g p kind
-  path : (outside : (is_path s p.path && colon_allowed p) ≡ false) (is : kind ≡ InvalidPath) → Cause s g p kind
-  query : (q : List ℕ) (there : p.query ≡ Some q) (outside : is_query s q ≡ false) (is : kind ≡ InvalidQuery) → Cause s g p kind
-  fragment : (f : List ℕ) (there : p.fragment ≡ Some f) (faulty : g f ≡ Some kind) → Cause s g p kind
-
+-- ---- which of several is the fault
 one_of : (a b : Option ErrorKind) (k : ErrorKind) → first a b ≡ Some k → (a ≡ Some k) ⊎ (b ≡ Some k)
 one_of None b k h = inr h
 one_of (Some e) b k h = inl h
@@ -50,47 +41,6 @@ in-part : (f : List ℕ → Option ErrorKind) (o : Option (List ℕ)) (k : Error
     → (x : List ℕ) × (o ≡ Some x) × (f x ≡ Some k)
 in-part f None k h = cc
 in-part f (Some x) k h = (x, refl, h)
-
-module _ (s : Tests) (g : List ℕ → Option ErrorKind) (p : Parts) (k : ErrorKind) where
-  in_authority : (a : List ℕ) → p.authority ≡ Some a → authority_fault s a ≡ Some k → Cause s g p k
-  in_authority a e h =
-      elim (one_of (part_fault (userinfo_fault s) (authority_parts a).userinfo) (unless (is_host s (authority_parts a).host) InvalidHost) k h) [
-        | inl of_userinfo ↦
-            let x = in-part (userinfo_fault s) (authority_parts a).userinfo k of_userinfo in
-            let f = failed (is_userinfo s x.0) InvalidUserInfo k x.2 in
-            userinfo a x.0 e x.1 f.0 f.1
-        | inr of_host ↦ let f = failed (is_host s (authority_parts a).host) InvalidHost k of_host in host a e f.0 f.1
-      ]
-
-  in_query : part_fault (query_fault s) p.query ≡ Some k → Cause s g p k
-  in_query h =
-      let x = in-part (query_fault s) p.query k h in
-      let f = failed (is_query s x.0) InvalidQuery k x.2 in
-      query x.0 x.1 f.0 f.1
-
-  past_authority : first (unless (is_path s p.path && colon_allowed p) InvalidPath) (part_fault (query_fault s) p.query) ≡ Some k → Cause s g p k
-  past_authority h =
-      elim (one_of (unless (is_path s p.path && colon_allowed p) InvalidPath) (part_fault (query_fault s) p.query) k h) [
-        | inl of_path ↦ let f = failed (is_path s p.path && colon_allowed p) InvalidPath k of_path in path f.0 f.1
-        | inr of_query ↦ in_query of_query
-      ]
-
-  before_fragment : fault_before_fragment s p ≡ Some k → Cause s g p k
-  unfolding fault_before_fragment
-  before_fragment h =
-      elim (one_of (part_fault (authority_fault s) p.authority)
-      (first (unless (is_path s p.path && colon_allowed p) InvalidPath) (part_fault (query_fault s) p.query)) k h) [
-        | inl of_authority ↦ let x = in-part (authority_fault s) p.authority k of_authority in in_authority x.0 x.1 x.2
-        | inr later ↦ past_authority later
-      ]
-
-  pub cause : parts_fault s g p ≡ Some k → Cause s g p k
-  unfolding parts_fault
-  cause h =
-      elim (one_of (fault_before_fragment s p) (part_fault g p.fragment) k h) [
-        | inl before ↦ before_fragment before
-        | inr of_fragment ↦ let x = in-part g p.fragment k of_fragment in fragment x.0 x.1 x.2
-      ]
 
 -- ---- where the parts stand
 -- these bytes stand in a slot
@@ -237,75 +187,101 @@ rules-broken None None true x h =
     subst (λ l. (not (starts_with_slashes x) && l) ≡ false) (sym h) (and-false (not (starts_with_slashes x)))
 
 module _ (s : Tests) (t : List ℕ) (p : Parts) (whole : recompose p ≡ t) where
+  -- the part that a fault names is faulty
+  abbrev NamesFaulty : ErrorKind → Type 0
+  NamesFaulty kind = IsFaulty s kind t p (named_slot kind t (slots_of p))
+
   faulty_at : (kind : ErrorKind) (slot : Slot) (x : List ℕ) → Holds t slot x → is_in_production s kind p x ≡ false → IsFaulty s kind t p slot
   faulty_at kind slot x h e = record { within = h.within; faulty = ap (is_in_production s kind p) h.bytes ∙ e }
 
-  -- what a fault of a fragment is
-  OfFragment : ErrorKind → List ℕ → Type 0
-  OfFragment kind f = ((kind ≡ InvalidFragment) × (is_fragment s f ≡ false)) ⊎ (kind ≡ UnexpectedFragment)
+  outside : (kind k : ErrorKind) (x : List ℕ) → kind ≡ k → Holds t (named_slot k t (slots_of p)) x → is_in_production s k p x ≡ false
+      → NamesFaulty kind
+  outside kind k x is h e = subst NamesFaulty (sym is) (faulty_at k (named_slot k t (slots_of p)) x h e)
 
-  of_cause : (g : List ℕ → Option ErrorKind) (kind : ErrorKind) → ((f : List ℕ) → g f ≡ Some kind → OfFragment kind f)
-      → Cause s g p kind → IsFaulty s kind t p (named_slot kind t (slots_of p))
-  unfolding OfFragment
-  of_cause g kind of_fragment (userinfo a u there within outside is) =
-      subst (λ k. IsFaulty s k t p (named_slot k t (slots_of p))) (sym is)
-      (faulty_at InvalidUserInfo (slots_of p).within.userinfo u (userinfo_stands t p whole a u there within) outside)
-  of_cause g kind of_fragment (host a there outside is) =
-      subst (λ k. IsFaulty s k t p (named_slot k t (slots_of p))) (sym is)
-      (faulty_at InvalidHost (slots_of p).within.host (authority_parts a).host (host_stands t p whole a there) outside)
-  of_cause g kind of_fragment (path outside is) =
-      subst (λ k. IsFaulty s k t p (named_slot k t (slots_of p))) (sym is)
-      (faulty_at InvalidPath (slots_of p).path p.path (path_stands t p whole)
-      (rules-broken p.scheme p.authority (is_path s p.path) p.path outside))
-  of_cause g kind of_fragment (query q there outside is) =
-      subst (λ k. IsFaulty s k t p (named_slot k t (slots_of p))) (sym is)
-      (faulty_at InvalidQuery (slots_of p).query q (query_stands t p whole q there) outside)
-  of_cause g kind of_fragment (fragment f there faulty) =
-      elim (of_fragment f faulty) [
-        | inl invalid ↦
-            subst (λ k. IsFaulty s k t p (named_slot k t (slots_of p))) (sym invalid.0)
-            (faulty_at InvalidFragment (slots_of p).fragment f (fragment_stands t p whole f there) invalid.1)
-        | inr unexpected ↦
-            subst (λ k. IsFaulty s k t p (named_slot k t (slots_of p))) (sym unexpected)
-            (faulty_at UnexpectedFragment (slots_of p).fragment f (fragment_stands t p whole f there) refl)
-      ]
+  module _ (k : ErrorKind) where
+    in_authority : (a : List ℕ) → p.authority ≡ Some a → authority_fault s a ≡ Some k → NamesFaulty k
+    in_authority a e h =
+        elim (one_of (part_fault (userinfo_fault s) (authority_parts a).userinfo) (unless (is_host s (authority_parts a).host) InvalidHost) k h) [
+          | inl of_userinfo ↦
+              let x = in-part (userinfo_fault s) (authority_parts a).userinfo k of_userinfo in
+              let f = failed (is_userinfo s x.0) InvalidUserInfo k x.2 in
+              outside k InvalidUserInfo x.0 f.1 (userinfo_stands t p whole a x.0 e x.1) f.0
+          | inr of_host ↦
+              let f = failed (is_host s (authority_parts a).host) InvalidHost k of_host in
+              outside k InvalidHost (authority_parts a).host f.1 (host_stands t p whole a e) f.0
+        ]
 
-  pub of_parts : (kind : ErrorKind) → parts_fault s (fragment_fault s) p ≡ Some kind → IsFaulty s kind t p (named_slot kind t (slots_of p))
-  unfolding OfFragment
-  of_parts kind h =
-      of_cause (fragment_fault s) kind (λ f faulty. let x = failed (is_fragment s f) InvalidFragment kind faulty in inl (x.1, x.0))
-      (cause s (fragment_fault s) p kind h)
+    in_query : part_fault (query_fault s) p.query ≡ Some k → NamesFaulty k
+    in_query h =
+        let x = in-part (query_fault s) p.query k h in
+        let f = failed (is_query s x.0) InvalidQuery k x.2 in
+        outside k InvalidQuery x.0 f.1 (query_stands t p whole x.0 x.1) f.0
 
-  pub of_parts_without_fragment : (kind : ErrorKind) → parts_fault s (λ _. Some UnexpectedFragment) p ≡ Some kind
-      → IsFaulty s kind t p (named_slot kind t (slots_of p))
-  unfolding OfFragment
-  of_parts_without_fragment kind h =
-      of_cause (λ _. Some UnexpectedFragment) kind (λ f faulty. inr (sym (ap (λ o. kind_or o UnexpectedFragment) faulty)))
-      (cause s (λ _. Some UnexpectedFragment) p kind h)
+    past_authority : first (unless (is_path s p.path && colon_allowed p) InvalidPath) (part_fault (query_fault s) p.query) ≡ Some k → NamesFaulty k
+    past_authority h =
+        elim (one_of (unless (is_path s p.path && colon_allowed p) InvalidPath) (part_fault (query_fault s) p.query) k h) [
+          | inl of_path ↦
+              let f = failed (is_path s p.path && colon_allowed p) InvalidPath k of_path in
+              outside k InvalidPath p.path f.1 (path_stands t p whole) (rules-broken p.scheme p.authority (is_path s p.path) p.path f.0)
+          | inr of_query ↦ in_query of_query
+        ]
 
-  -- where a scheme must stand
-  pub of_scheme : (kind : ErrorKind) → missing_scheme_fault t ≡ Some kind → IsFaulty s kind t p (named_slot kind t (slots_of p))
-  of_scheme kind h = at (lacks colon t) refl h
-    where
-      unexpected : Some UnexpectedRelative ≡ Some kind → IsFaulty s kind t p (named_slot kind t (slots_of p))
-      unexpected e =
-          subst (λ k. IsFaulty s k t p (named_slot k t (slots_of p))) (ap (λ o. kind_or o kind) e)
-          (record { within = omega arith; faulty = refl })
+    before_fragment : fault_before_fragment s p ≡ Some k → NamesFaulty k
+    unfolding fault_before_fragment
+    before_fragment h =
+        elim (one_of (part_fault (authority_fault s) p.authority)
+        (first (unless (is_path s p.path && colon_allowed p) InvalidPath) (part_fault (query_fault s) p.query)) k h) [
+          | inl of_authority ↦ let x = in-part (authority_fault s) p.authority k of_authority in in_authority x.0 x.1 x.2
+          | inr later ↦ past_authority later
+        ]
 
-      invalid : lacks colon t ≡ false → scheme_fault (before colon t) ≡ Some kind → IsFaulty s kind t p (named_slot kind t (slots_of p))
-      invalid l e =
-          let f = failed (is_scheme (before colon t)) InvalidScheme kind e in
-          let x = before colon t in
-          let there : before_colon t ≡ Some x = rw l refl in
-          subst (λ k. IsFaulty s k t p (named_slot k t (slots_of p))) (sym f.1)
-          (subst (λ o. IsFaulty s InvalidScheme t p (place 0 0 o)) (sym there)
-          (faulty_at InvalidScheme (record { offset = 0; len = length x }) x
-          (holds t [] x (from colon t) (record { offset = 0; len = length x }) (joined_from colon t) refl refl) f.0))
+    -- where a fault of the fragment is one of these
+    with_fragment : (g : List ℕ → Option ErrorKind)
+        → ((f : List ℕ) → g f ≡ Some k → ((k ≡ InvalidFragment) × (is_fragment s f ≡ false)) ⊎ (k ≡ UnexpectedFragment))
+        → parts_fault s g p ≡ Some k → NamesFaulty k
+    unfolding parts_fault
+    with_fragment g of_fragment h =
+        elim (one_of (fault_before_fragment s p) (part_fault g p.fragment) k h) [
+          | inl before ↦ before_fragment before
+          | inr later ↦
+              let x = in-part g p.fragment k later in
+              let there = fragment_stands t p whole x.0 x.1 in
+              elim (of_fragment x.0 x.2) [
+                | inl invalid ↦ outside k InvalidFragment x.0 invalid.0 there invalid.1
+                | inr unexpected ↦ outside k UnexpectedFragment x.0 unexpected there refl
+              ]
+        ]
 
-      at : (b : Bool) → lacks colon t ≡ b → cond b (Some UnexpectedRelative) (scheme_fault (before colon t)) ≡ Some kind
-          → IsFaulty s kind t p (named_slot kind t (slots_of p))
-      at true l e = unexpected e
-      at false l e = invalid l e
+    pub of_parts : parts_fault s (fragment_fault s) p ≡ Some k → NamesFaulty k
+    of_parts =
+        with_fragment (fragment_fault s) (λ f faulty. let x = failed (is_fragment s f) InvalidFragment k faulty in inl (x.1, x.0))
+
+    pub of_parts_without_fragment : parts_fault s (λ _. Some UnexpectedFragment) p ≡ Some k → NamesFaulty k
+    of_parts_without_fragment =
+        with_fragment (λ _. Some UnexpectedFragment) (λ f faulty. inr (sym (ap (λ o. kind_or o UnexpectedFragment) faulty)))
+
+    -- where a scheme must stand
+    of_scheme : missing_scheme_fault t ≡ Some k → NamesFaulty k
+    of_scheme h = at (lacks colon t) refl h
+      where
+        invalid : lacks colon t ≡ false → scheme_fault (before colon t) ≡ Some k → NamesFaulty k
+        invalid l e =
+            let f = failed (is_scheme (before colon t)) InvalidScheme k e in
+            let x = before colon t in
+            let there : before_colon t ≡ Some x = rw l refl in
+            subst NamesFaulty (sym f.1)
+            (subst (λ o. IsFaulty s InvalidScheme t p (place 0 0 o)) (sym there)
+            (faulty_at InvalidScheme (record { offset = 0; len = length x }) x
+            (holds t [] x (from colon t) (record { offset = 0; len = length x }) (joined_from colon t) refl refl) f.0))
+
+        at : (b : Bool) → lacks colon t ≡ b → cond b (Some UnexpectedRelative) (scheme_fault (before colon t)) ≡ Some k → NamesFaulty k
+        at true l e = subst NamesFaulty (ap (λ o. kind_or o k) e) (record { within = omega arith; faulty = refl })
+        at false l e = invalid l e
+
+    pub of_first : (g : List ℕ → Option ErrorKind) → (parts_fault s g p ≡ Some k → NamesFaulty k)
+        → first (missing_scheme_fault t) (parts_fault s g p) ≡ Some k → NamesFaulty k
+    of_first g later h =
+        elim (one_of (missing_scheme_fault t) (parts_fault s g p) k h) [ inl missing ↦ of_scheme missing | inr of_parts ↦ later of_parts ]
 
 pub of_bytes : (s : Tests) (f : List ℕ → Option ErrorKind) (t : List ℕ) (p : Parts) (kind : ErrorKind)
     → (f t ≡ Some kind → IsFaulty s kind t p (named_slot kind t (slots_of p))) → bytes_fault f t ≡ Some kind
@@ -316,10 +292,3 @@ of_bytes s f t p kind law h = at (is_utf8 t) refl h
         → IsFaulty s kind t p (cond b (named_slot kind t (slots_of p)) (past t))
     at true e h = law h
     at false e h = subst (λ k. IsFaulty s k t p (past t)) (ap (λ o. kind_or o kind) h) (not_utf8 s t p e)
-
-pub of_first : (s : Tests) (t : List ℕ) (p : Parts) (g : List ℕ → Option ErrorKind) (kind : ErrorKind) → recompose p ≡ t
-    → (parts_fault s g p ≡ Some kind → IsFaulty s kind t p (named_slot kind t (slots_of p)))
-    → first (missing_scheme_fault t) (parts_fault s g p) ≡ Some kind → IsFaulty s kind t p (named_slot kind t (slots_of p))
-of_first s t p g kind whole later h =
-    elim (one_of (missing_scheme_fault t) (parts_fault s g p) kind h)
-    [ inl missing ↦ of_scheme s t p whole kind missing | inr of_parts ↦ later of_parts ]

@@ -12,7 +12,7 @@ use Rattle.iri_calls.specs.Lines.{later}
 use Rattle.iri_calls.specs.inside.BufferText.{BufferPuts}
 use Rattle.iri_calls.specs.inside.PlacedLaws.{over_at-none, over_at-both, over_at-long, length-over_at, over_at_start}
 use Rattle.iri_calls.specs.declared.buffer.BufferSink.{BufferSink}
-use Rattle.iri_calls.specs.Numbers.{ok, short}
+use Rattle.iri_calls.specs.declared.status.TheConstants.{OK, SHORT}
 use Rattle.iri_calls.specs.declared.lines.Batch.{Batch}
 
 get_or-prefix : (xs : List ℕ) (i j : ℕ) → j < i → i ≤ length xs → get_or (take i xs) j 0 ≡ get_or xs j 0
@@ -40,12 +40,12 @@ ended-at text i h n e =
     ap ended cut ∙ ended-lf (λ line. line) (take i text) (drop (i + 1) text) n
 
 module _ (answer : List ℕ → List ℕ) where
-  pub batch-none : (room : ℕ) → batch answer room [] ≡ record { consumed = 0; written = 0; status = ok }
+  pub batch-none : (room : ℕ) → batch answer room [] ≡ record { consumed = 0; written = 0; status = OK }
   unfolding batch
   batch-none room = refl
 
   pub batch-short : (room : ℕ) (line : List ℕ) (lines : List (List ℕ)) → room < length (answer line)
-      → batch answer room (line ∷ lines) ≡ record { consumed = 0; written = 0; status = short }
+      → batch answer room (line ∷ lines) ≡ record { consumed = 0; written = 0; status = SHORT }
   unfolding batch
   batch-short room line lines h = grind (arith, nat_tests)
 
@@ -101,9 +101,9 @@ module _ (answer : List ℕ → List ℕ) (input : List ℕ) (start : BufferSink
 
   module _ (rest : List ℕ) (written : ℕ) (now : BufferSink) (g : Going answer input start rest written now) where
     pub going_end : ended rest ≡ []
-        → record { consumed = length input - length rest; written = written; status = ok } ≡ batch answer (length start.buf.now) (ended input)
+        → record { consumed = length input - length rest; written = written; status = OK } ≡ batch answer (length start.buf.now) (ended input)
     going_end e =
-        sym (later-done (length input - length rest) written ok)
+        sym (later-done (length input - length rest) written OK)
         ∙ ap (later (length input - length rest) written) (sym (ap (batch answer (length start.buf.now - written)) e
         ∙ batch-none answer (length start.buf.now - written)))
         ∙ g.counts
@@ -114,10 +114,10 @@ module _ (answer : List ℕ → List ℕ) (input : List ℕ) (start : BufferSink
 
     module _ (raw after : List ℕ) (is : ended rest ≡ raw ∷ ended after) where
       pub going_short : length start.buf.now < written + length (answer raw)
-          → record { consumed = length input - length rest; written = written; status = short }
+          → record { consumed = length input - length rest; written = written; status = SHORT }
           ≡ batch answer (length start.buf.now) (ended input)
       going_short h =
-          sym (later-done (length input - length rest) written short)
+          sym (later-done (length input - length rest) written SHORT)
           ∙ ap (later (length input - length rest) written) (sym (ap (batch answer (length start.buf.now - written)) is
           ∙ batch-short answer (length start.buf.now - written) raw (ended after) (omega (arith, g.fits, h))))
           ∙ g.counts

@@ -9,7 +9,7 @@ use Rattle.iri_grammar.specs.Fault.{unless}
 use Rattle.iri_grammar.specs.Parts.{recompose}
 use Rattle.iri_grammar.specs.declared.error.ErrorKind.{ErrorKind}
 use Rattle.iri_grammar.specs.declared.error.ErrorKind.TheVariants.{InvalidUtf8}
-use Rattle.iri_calls.specs.Numbers.{bad_part, unknown, grammar_of}
+use Rattle.iri_calls.specs.declared.status.TheConstants.{BAD_PART, UNKNOWN}
 use Rattle.iri_calls.specs.Outcome.{Outcome}
 use Rattle.iri_calls.specs.Outcome.Outcome.{text, plain}
 use Rattle.iri_calls.specs.Outcomes.{unless_fault, in_grammar}
@@ -46,7 +46,7 @@ given_by ps = given_from nothing_given ps
 
 -- the recomposition of what is given, or its first fault, by what the kind refuses
 abbrev pub built_by : Tests → (Bool → Bool → Option ErrorKind) → Given → Outcome
-built_by s refusal g = unless_fault bad_part (built_fault s refusal g) (text (recompose (given_parts g)))
+built_by s refusal g = unless_fault BAD_PART (built_fault s refusal g) (text (recompose (given_parts g)))
 
 -- by the numbers of the kinds: a `URI-reference`, a `URI`, an `absolute-URI` or a `relative-ref`
 abbrev pub built_in : ℕ → Given → Tests → Outcome
@@ -54,13 +54,10 @@ built_in kind g s =
     cond (nat_eq kind REFERENCE) (built_by s reference_refusal g)
     (cond (nat_eq kind WITH_SCHEME) (built_by s iri_refusal g)
     (cond (nat_eq kind ABSOLUTE) (built_by s absolute_refusal g)
-    (cond (nat_eq kind RELATIVE) (built_by s relative_refusal g) (plain unknown))))
-
-abbrev pub built_as : ℕ → ℕ → List Part → Outcome
-built_as grammar kind ps = in_grammar (grammar_of grammar) (built_in kind (given_by ps))
+    (cond (nat_eq kind RELATIVE) (built_by s relative_refusal g) (plain UNKNOWN))))
 
 -- a number that stands for no part comes before all else, then a text that isn't UTF-8
 abbrev pub built_outcome : ℕ → ℕ → List Part → Outcome
 built_outcome grammar kind ps =
-    cond (list_all is_part ps) (unless_fault bad_part (unless (list_all is_text ps) InvalidUtf8) (built_as grammar kind ps))
-    (plain unknown)
+    cond (list_all is_part ps) (unless_fault BAD_PART (unless (list_all is_text ps) InvalidUtf8) (in_grammar grammar (built_in kind (given_by ps))))
+    (plain UNKNOWN)

@@ -5,64 +5,41 @@ use Rattle.iri_edit.specs.Host.{host_of_text, is_replaced, with_host}
 use Rattle.iri_edit.specs.Password.{masked, with_password, without_password}
 use Rattle.iri_grammar.specs.Classes.{Tests}
 use Rattle.iri_grammar.specs.Fault.{bytes_fault, fragment_fault, host_fault}
-use Rattle.iri_grammar.specs.WholeFault.{reference_fault}
 use Rattle.iri_calls.specs.Encodings.{no_fault}
-use Rattle.iri_calls.specs.Numbers.{bad_text, bad_part, no_host, grammar_of}
+use Rattle.iri_calls.specs.declared.status.TheConstants.{BAD_PART, NO_HOST}
 use Rattle.iri_calls.specs.Outcome.{Outcome}
 use Rattle.iri_calls.specs.Outcome.Outcome.{text, plain}
-use Rattle.iri_calls.specs.Outcomes.{unless_fault, in_grammar}
-
--- what follows where a text is a reference
-abbrev pub of_reference : List ℕ → Tests → Outcome → Outcome
-of_reference t s next = unless_fault bad_text (bytes_fault (reference_fault s) t) next
+use Rattle.iri_calls.specs.Outcomes.{of_reference, unless_fault}
 
 -- a reference without its password
 abbrev pub masked_in : List ℕ → Tests → Outcome
 masked_in t s = of_reference t s (text (masked t))
 
-abbrev pub masked_outcome : ℕ → List ℕ → Outcome
-masked_outcome grammar t = in_grammar (grammar_of grammar) (masked_in t)
-
 -- a reference without its password and the colon before it
 abbrev pub removed_in : List ℕ → Tests → Outcome
 removed_in t s = of_reference t s (text (without_password t))
 
-abbrev pub removed_outcome : ℕ → List ℕ → Outcome
-removed_outcome grammar t = in_grammar (grammar_of grammar) (removed_in t)
-
 -- a reference with another text, in UTF-8, in place of its password: the reference is judged first
 abbrev pub password_in : List ℕ → List ℕ → Tests → Outcome
-password_in t w s = of_reference t s (unless_fault bad_part (bytes_fault no_fault w) (text (with_password t w)))
-
-abbrev pub password_outcome : ℕ → List ℕ → List ℕ → Outcome
-password_outcome grammar t w = in_grammar (grammar_of grammar) (password_in t w)
+password_in t w s = of_reference t s (unless_fault BAD_PART (bytes_fault no_fault w) (text (with_password t w)))
 
 -- a reference without its fragment
 abbrev pub cut_in : List ℕ → Tests → Outcome
 cut_in t s = of_reference t s (text (with_fragment t None))
 
-abbrev pub cut_outcome : ℕ → List ℕ → Outcome
-cut_outcome grammar t = in_grammar (grammar_of grammar) (cut_in t)
-
 -- a reference with another fragment: the reference is judged first
 abbrev pub fragment_in : List ℕ → List ℕ → Tests → Outcome
 fragment_in t f s =
-    of_reference t s (unless_fault bad_part (bytes_fault (fragment_fault s) f) (text (with_fragment t (Some f))))
-
-abbrev pub fragment_outcome : ℕ → List ℕ → List ℕ → Outcome
-fragment_outcome grammar t f = in_grammar (grammar_of grammar) (fragment_in t f)
+    of_reference t s (unless_fault BAD_PART (bytes_fault (fragment_fault s) f) (text (with_fragment t (Some f))))
 
 -- the text with another host, where it is replaced
 abbrev pub where_replaced : Bool → List ℕ → Outcome
 where_replaced true t = text t
-where_replaced false t = plain no_host
+where_replaced false t = plain NO_HOST
 
 -- a reference with another host, of names alone or of any host: the reference is judged first, then the new host, then whether
 -- there is a host to replace
 abbrev pub host_in : Bool → List ℕ → List ℕ → Tests → Outcome
 host_in names_only t h s =
-    of_reference t s (unless_fault bad_part (bytes_fault (host_fault s) h)
+    of_reference t s (unless_fault BAD_PART (bytes_fault (host_fault s) h)
     (where_replaced (is_replaced s names_only h (host_of_text t)) (with_host t h)))
-
-abbrev pub host_outcome : ℕ → Bool → List ℕ → List ℕ → Outcome
-host_outcome grammar names_only t h = in_grammar (grammar_of grammar) (host_in names_only t h)

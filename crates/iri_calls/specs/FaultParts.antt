@@ -1,5 +1,5 @@
 -- Where the part of a text stands that has its first fault, in bytes.
-use Rattle.std.specs.Prelude.{◌≡◌, ◌≤◌, ◌+◌, ◌-◌, ◌||◌, ◌&&◌, ℕ, Bool, false, cond, nat_eq, List, length, Option, Some, None}
+use Rattle.std.specs.Prelude.{◌≡◌, ◌≤◌, ◌+◌, ◌-◌, ◌||◌, ◌&&◌, ℕ, Bool, false, cond, nat_eq, List, length, Option, Some, None, MatchOption}
 use Rattle.std.specs.Str.{is_utf8}
 use Rattle.std.specs.Str.Lossy.{utf8_valid_len}
 use Rattle.iri_grammar.specs.Characters.{colon}
@@ -13,7 +13,8 @@ use Rattle.iri_grammar.specs.declared.error.ErrorKind.{ErrorKind}
 use Rattle.iri_grammar.specs.declared.error.ErrorKind.TheVariants.{InvalidScheme, InvalidUserInfo, InvalidHost, InvalidRegName}
 use Rattle.iri_grammar.specs.declared.error.ErrorKind.TheVariants.{InvalidPort, InvalidPath, InvalidQuery, InvalidFragment}
 use Rattle.iri_grammar.specs.declared.error.ErrorKind.TheVariants.{UnexpectedFragment, UnexpectedRelative, InvalidUtf8}
-use Rattle.iri_calls.specs.Numbers.{ok, unknown, fault_numbered}
+use Rattle.iri_calls.specs.Numbers.{fault_numbered}
+use Rattle.iri_calls.specs.declared.status.TheConstants.{OK, UNKNOWN}
 use Rattle.iri_calls.specs.Outcome.{Returned}
 use Rattle.iri_calls.specs.Outcome.Outcome.{plain}
 use Rattle.iri_calls.specs.Slots.{bytes_at, nowhere, place, slots_of}
@@ -40,7 +41,7 @@ named_slot UnexpectedFragment t s = s.fragment
 named_slot UnexpectedRelative t s = record { offset = 0; len = 0 }
 named_slot InvalidUtf8 t s = nowhere
 
--- the same of bytes: where they aren't UTF-8 it is what follows the longest front that is
+-- that part of bytes: where they aren't UTF-8 it is what follows the longest front that is
 abbrev pub faulty_slot : ErrorKind → List ℕ → Parts → Slot
 faulty_slot kind t p =
     cond (is_utf8 t) (named_slot kind t (slots_of p)) (record { offset = utf8_valid_len t; len = length t - utf8_valid_len t })
@@ -52,13 +53,11 @@ split_numbered kind =
     (cond (nat_eq kind RELATIVE) (Some relative_split_of) None)
 
 -- the part is written, or no fault or no kind has the number, and the slot stays
-abbrev pub PartFoundBy : Option ErrorKind → Option (List ℕ → Parts) → List ℕ → Slot → Slot → ℕ → ℕ → Type 0
-PartFoundBy (Some fault) (Some split) t old new detail status = (new ≡ faulty_slot fault t (split t)) × Returned (plain ok) detail status
-PartFoundBy (Some fault) None t old new detail status = (new ≡ old) × Returned (plain unknown) detail status
-PartFoundBy None split t old new detail status = (new ≡ old) × Returned (plain unknown) detail status
-
 abbrev pub PartFound : ℕ → ℕ → List ℕ → Slot → Slot → ℕ → ℕ → Type 0
-PartFound kind fault t old new detail status = PartFoundBy (fault_numbered fault) (split_numbered kind) t old new detail status
+PartFound kind fault t old new detail status =
+    let none : Type 0 = (new ≡ old) × Returned (plain UNKNOWN) detail status in
+    MatchOption (fault_numbered fault) none (λ f. MatchOption (split_numbered kind) none
+    (λ split. (new ≡ faulty_slot f t (split t)) × Returned (plain OK) detail status))
 
 -- whether bytes are what a kind of fault asks where they are its part among these parts; no fragment is where none may stand
 abbrev pub is_in_production : Tests → ErrorKind → Parts → List ℕ → Bool

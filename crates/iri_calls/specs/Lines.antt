@@ -1,15 +1,15 @@
 -- The lines of a text, and the answers to as many of them as have room together.
-use Rattle.std.specs.Prelude.{◌≡◌, ◌+◌, ◌-◌, ℕ, cond, nat_lt, length, List, [], ◌∷◌, Option, Some, None}
+use Rattle.std.specs.Prelude.{◌≡◌, ◌+◌, ◌-◌, ℕ, cond, nat_lt, length, List, [], ◌∷◌, MatchOption}
 use Rattle.std.specs.List.{flat_map}
 use Rattle.iri_grammar.specs.Classes.{Tests}
 use Rattle.iri_grammar.specs.Fault.{bytes_fault}
 use Rattle.iri_grammar.specs.WholeFault.{absolute_fault}
-use Rattle.iri_grammar.specs.declared.error.ErrorKind.{ErrorKind}
 use Rattle.iri_text.specs.Lines.{ended, no_cr}
 use Rattle.iri_percent.specs.declared.canon_mode.CanonMode.{CanonMode}
 use Rattle.iri_normal.specs.Answers.{answer_in}
 use Rattle.iri_calls.specs.Buffers.{over}
-use Rattle.iri_calls.specs.Numbers.{ok, short, bad_base, unknown, grammar_of, mode_numbered}
+use Rattle.iri_calls.specs.Numbers.{grammar_of, mode_numbered}
+use Rattle.iri_calls.specs.declared.status.TheConstants.{OK, SHORT, BAD_BASE, UNKNOWN}
 use Rattle.iri_calls.specs.Outcome.{Returned}
 use Rattle.iri_calls.specs.Outcome.Outcome.{fault, plain}
 use Rattle.iri_calls.specs.declared.lines.Batch.{Batch}
@@ -24,9 +24,9 @@ later consumed written b = record { consumed = consumed + b.consumed; written = 
 
 -- the lines whose answers have room together, from the first on: how many bytes they and their LFs have, and their answers
 unfoldable pub batch : (List ℕ → List ℕ) → ℕ → List (List ℕ) → Batch
-batch answer room [] = record { consumed = 0; written = 0; status = ok }
+batch answer room [] = record { consumed = 0; written = 0; status = OK }
 batch answer room (line ∷ lines) =
-    cond (nat_lt room (length (answer line))) (record { consumed = 0; written = 0; status = short })
+    cond (nat_lt room (length (answer line))) (record { consumed = 0; written = 0; status = SHORT })
     (later (length line + 1) (length (answer line)) (batch answer (room - length (answer line)) lines))
 
 -- what was done is returned
@@ -34,23 +34,15 @@ abbrev pub BatchReturned : Batch → ℕ → ℕ → ℕ → Type 0
 BatchReturned b consumed detail status = (consumed ≡ b.consumed) × (detail ≡ b.written) × (status ≡ b.status)
 
 -- The answers to all lines stand over the start of the buffer, as far as there is room. The detail is how many bytes of them stand whole.
-abbrev pub BatchedBy : Option ErrorKind → (List ℕ → List ℕ) → List ℕ → List ℕ → List ℕ → ℕ → ℕ → ℕ → Type 0
-BatchedBy None answer lines old new consumed detail status =
-    (new ≡ over (flat_map answer (ended lines)) old) × BatchReturned (batch answer (length old) (ended lines)) consumed detail status
-BatchedBy (Some kind) answer lines old new consumed detail status =
-    (new ≡ old) × (consumed ≡ 0) × Returned (fault bad_base kind) detail status
-
 abbrev pub BatchedIn : Tests → CanonMode → List ℕ → List ℕ → List ℕ → List ℕ → ℕ → ℕ → ℕ → Type 0
 BatchedIn s mode base lines old new consumed detail status =
-    BatchedBy (bytes_fault (absolute_fault s) base) (line_answer s mode base) lines old new consumed detail status
-
-abbrev pub BatchedOf : Option Tests → Option CanonMode → List ℕ → List ℕ → List ℕ → List ℕ → ℕ → ℕ → ℕ → Type 0
-BatchedOf (Some s) (Some mode) base lines old new consumed detail status = BatchedIn s mode base lines old new consumed detail status
-BatchedOf (Some s) None base lines old new consumed detail status =
-    (new ≡ old) × (consumed ≡ 0) × Returned (plain unknown) detail status
-BatchedOf None mode base lines old new consumed detail status =
-    (new ≡ old) × (consumed ≡ 0) × Returned (plain unknown) detail status
+    let answer : List ℕ → List ℕ = line_answer s mode base in
+    MatchOption (bytes_fault (absolute_fault s) base)
+    ((new ≡ over (flat_map answer (ended lines)) old) × BatchReturned (batch answer (length old) (ended lines)) consumed detail status)
+    (λ kind. (new ≡ old) × (consumed ≡ 0) × Returned (fault BAD_BASE kind) detail status)
 
 abbrev pub Batched : ℕ → ℕ → List ℕ → List ℕ → List ℕ → List ℕ → ℕ → ℕ → ℕ → Type 0
 Batched grammar mode base lines old new consumed detail status =
-    BatchedOf (grammar_of grammar) (mode_numbered mode) base lines old new consumed detail status
+    let none : Type 0 = (new ≡ old) × (consumed ≡ 0) × Returned (plain UNKNOWN) detail status in
+    MatchOption (grammar_of grammar) none
+    (λ s. MatchOption (mode_numbered mode) none (λ m. BatchedIn s m base lines old new consumed detail status))

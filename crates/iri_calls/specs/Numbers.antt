@@ -13,38 +13,6 @@ use Rattle.iri_grammar.specs.declared.error.ErrorKind.TheVariants.{UnexpectedFra
 use Rattle.iri_calls.specs.declared.fault.TheConstants.{INVALID_SCHEME, INVALID_USERINFO, INVALID_HOST, INVALID_REG_NAME, INVALID_PORT, INVALID_PATH}
 use Rattle.iri_calls.specs.declared.fault.TheConstants.{INVALID_QUERY, INVALID_FRAGMENT, UNEXPECTED_FRAGMENT, UNEXPECTED_RELATIVE, INVALID_UTF8}
 use Rattle.iri_calls.specs.declared.grammar.TheConstants.{URI, IRI, NORMAL, BY_SCHEME, PRESERVING}
-use Rattle.iri_calls.specs.declared.status.TheConstants.{OK, SHORT, NOT_NORMAL, BAD_TEXT, BAD_BASE, BAD_REFERENCE, UNKNOWN, BAD_VARIABLE, BAD_PART, NO_HOST}
-
--- the statuses
-abbrev pub ok : ℕ
-ok = OK
-
-abbrev pub short : ℕ
-short = SHORT
-
-abbrev pub not_normal : ℕ
-not_normal = NOT_NORMAL
-
-abbrev pub bad_text : ℕ
-bad_text = BAD_TEXT
-
-abbrev pub bad_base : ℕ
-bad_base = BAD_BASE
-
-abbrev pub bad_reference : ℕ
-bad_reference = BAD_REFERENCE
-
-abbrev pub unknown : ℕ
-unknown = UNKNOWN
-
-abbrev pub bad_variable : ℕ
-bad_variable = BAD_VARIABLE
-
-abbrev pub bad_part : ℕ
-bad_part = BAD_PART
-
-abbrev pub no_host : ℕ
-no_host = NO_HOST
 
 -- the grammars: URIs and IRIs
 abbrev pub grammar_of : ℕ → Option Tests

@@ -1,13 +1,13 @@
 -- Where the parts of a text stand, in bytes.
-use Rattle.std.specs.Prelude.{◌≡◌, ◌+◌, ◌^◌, ◌-◌, ℕ, List, length, take, drop, Option, Some, None}
+use Rattle.std.specs.Prelude.{◌≡◌, ◌+◌, ◌^◌, ◌-◌, ℕ, List, length, take, drop, Option, Some, None, MatchOption}
 use Rattle.iri_grammar.specs.Authority.{AuthorityParts, authority_parts}
 use Rattle.iri_grammar.specs.Classes.{Tests}
 use Rattle.iri_grammar.specs.Fault.{bytes_fault}
 use Rattle.iri_grammar.specs.Parts.{Parts}
 use Rattle.iri_grammar.specs.Split.{split_of}
 use Rattle.iri_grammar.specs.WholeFault.{reference_fault}
-use Rattle.iri_grammar.specs.declared.error.ErrorKind.{ErrorKind}
-use Rattle.iri_calls.specs.Numbers.{ok, bad_text, unknown, grammar_of}
+use Rattle.iri_calls.specs.Numbers.{grammar_of}
+use Rattle.iri_calls.specs.declared.status.TheConstants.{OK, BAD_TEXT, UNKNOWN}
 use Rattle.iri_calls.specs.Outcome.{Returned}
 use Rattle.iri_calls.specs.Outcome.Outcome.{fault, plain}
 use Rattle.iri_calls.specs.declared.parts.AuthoritySlots.{AuthoritySlots}
@@ -74,16 +74,11 @@ abbrev pub slots_of : Parts → Slots
 slots_of p = slots_in p (within_authority (width 1 p.scheme) p.authority)
 
 -- the slots are those of the text's split; or the text is refused, and they stay
-abbrev pub SplitWrittenBy : Option ErrorKind → List ℕ → Slots → Slots → ℕ → ℕ → Type 0
-SplitWrittenBy None t old new detail status = (new ≡ slots_of (split_of t)) × Returned (plain ok) detail status
-SplitWrittenBy (Some kind) t old new detail status = (new ≡ old) × Returned (fault bad_text kind) detail status
-
 abbrev pub SplitWrittenIn : List ℕ → Slots → Slots → ℕ → ℕ → Tests → Type 0
-SplitWrittenIn t old new detail status s = SplitWrittenBy (bytes_fault (reference_fault s) t) t old new detail status
-
-abbrev pub SplitWrittenOf : Option Tests → List ℕ → Slots → Slots → ℕ → ℕ → Type 0
-SplitWrittenOf None t old new detail status = (new ≡ old) × Returned (plain unknown) detail status
-SplitWrittenOf (Some s) t old new detail status = SplitWrittenIn t old new detail status s
+SplitWrittenIn t old new detail status s =
+    MatchOption (bytes_fault (reference_fault s) t) ((new ≡ slots_of (split_of t)) × Returned (plain OK) detail status)
+    (λ kind. (new ≡ old) × Returned (fault BAD_TEXT kind) detail status)
 
 abbrev pub SplitWritten : ℕ → List ℕ → Slots → Slots → ℕ → ℕ → Type 0
-SplitWritten grammar t old new detail status = SplitWrittenOf (grammar_of grammar) t old new detail status
+SplitWritten grammar t old new detail status =
+    MatchOption (grammar_of grammar) ((new ≡ old) × Returned (plain UNKNOWN) detail status) (SplitWrittenIn t old new detail status)

@@ -81,7 +81,7 @@ impl<'b> TextSink for BufferSink<'b> {
     }
 }
 
-/// Writes the text of a value over the start of a buffer, as far as there is room, and says how many bytes the whole text has.
+/// Writes the text of a value over the start of a buffer, as far as there is room, and returns how many bytes the whole text has.
 #[tactic(auto, using(crate::specs::inside::PlacedLaws::over_at_start))]
 pub fn write_text<T: Show>(buf: &mut [u8], value: &T) -> usize
     ensures bytes { buf.new ≡ over (T.text value.now) buf.old }
@@ -94,8 +94,8 @@ pub fn write_text<T: Show>(buf: &mut [u8], value: &T) -> usize
     }
 }
 
-/// Writes the text of a value over the start of a buffer as far as there is room, tells how many bytes it has, and returns whether
-/// it had room.
+/// Writes the text of a value over the start of a buffer as far as there is room, and its length in bytes to `detail`; returns
+/// `OK`, or `SHORT` where it has no room.
 pub fn answer_text<T: Show>(out: &mut [u8], value: &T, detail: &mut usize) -> u8
     ensures { Answered (text (T.text value.now)) out.old out.new detail.new result }
 {

@@ -2,8 +2,9 @@
 ghost use Rattle.std.specs.Prelude.{◌≡◌};
 ghost use Rattle.std.specs.List.{list_all};
 ghost use Rattle.iri_edit.specs.Builders.{given};
-ghost use Rattle.iri_calls.specs.Building.{built_as, built_by, built_in, built_outcome, given_by, is_part, is_text, set};
+ghost use Rattle.iri_calls.specs.Building.{built_by, built_in, built_outcome, given_by, is_part, is_text, set};
 ghost use Rattle.iri_calls.specs.Outcome.{Answered};
+ghost use Rattle.iri_calls.specs.Outcomes.{in_grammar};
 
 use crate::buffer::answer_text;
 use crate::fault::{answer, answer_fault};
@@ -99,7 +100,7 @@ fn build_as<S: Spec, K: BuildKind>(builder: &Builder<'_>, out: &mut [u8], detail
     }
 }
 
-// The same of the kind of this number.
+// The text of the kind of this number that a builder makes.
 fn build_in<S: Spec>(kind: u32, builder: &Builder<'_>, out: &mut [u8], detail: &mut usize) -> u8
     ensures { Answered (built_in kind (given builder.now) S.tests) out.old out.new detail.new result }
 {
@@ -114,7 +115,7 @@ fn build_in<S: Spec>(kind: u32, builder: &Builder<'_>, out: &mut [u8], detail: &
 
 // The text that parts make.
 fn build_text(grammar: u32, kind: u32, parts: &[Part<'_>], out: &mut [u8], detail: &mut usize) -> u8
-    ensures { Answered (built_as grammar kind parts.now) out.old out.new detail.new result }
+    ensures { Answered (in_grammar grammar (built_in kind (given_by parts.now))) out.old out.new detail.new result }
 {
     let builder = builder_of(parts);
     match grammar {

@@ -42,7 +42,7 @@ fn canonical_as<S: Spec>(
     out: &mut [u8],
     detail: &mut usize,
 ) -> u8
-    ensures { Answered (canonical_as S.tests mode base.now reference.now) out.old out.new detail.new result }
+    ensures { Answered (canonical_as mode base.now reference.now S.tests) out.old out.new detail.new result }
 {
     let base = match SplitView::<S, Absolute>::absolute_from_bytes(base) {
         Ok(base) => base,

@@ -1,8 +1,8 @@
 // References with one part changed (RFC 3986 sections 3.2.1, 3.5 and 7.5).
 ghost use Rattle.std.specs.Prelude.{◌≡◌};
-ghost use Rattle.iri_calls.specs.Edits.{masked_in, masked_outcome, cut_in, cut_outcome, fragment_in, fragment_outcome};
-ghost use Rattle.iri_calls.specs.Edits.{password_in, password_outcome, removed_in, removed_outcome};
+ghost use Rattle.iri_calls.specs.Edits.{cut_in, fragment_in, masked_in, password_in, removed_in};
 ghost use Rattle.iri_calls.specs.Outcome.{Answered};
+ghost use Rattle.iri_calls.specs.Outcomes.{in_grammar};
 ghost use Rattle.iri_grammar.specs.Cut.{before};
 ghost use Rattle.iri_types.specs.Texts.{text};
 
@@ -30,7 +30,7 @@ fn mask_in<S: Spec>(text: &[u8], out: &mut [u8], detail: &mut usize) -> u8
 
 /// A reference without its password.
 pub fn irikit_mask_password(grammar: u32, text: &[u8], out: &mut [u8], detail: &mut usize) -> u8
-    ensures { Answered (masked_outcome grammar text.now) out.old out.new detail.new result }
+    ensures { Answered (in_grammar grammar (masked_in text.now)) out.old out.new detail.new result }
 {
     match grammar {
         URI => mask_in::<UriSpec>(text, out, detail),
@@ -51,7 +51,7 @@ fn remove_password_in<S: Spec>(text: &[u8], out: &mut [u8], detail: &mut usize) 
 
 /// A reference without its password and the colon before it.
 pub fn irikit_remove_password(grammar: u32, text: &[u8], out: &mut [u8], detail: &mut usize) -> u8
-    ensures { Answered (removed_outcome grammar text.now) out.old out.new detail.new result }
+    ensures { Answered (in_grammar grammar (removed_in text.now)) out.old out.new detail.new result }
 {
     match grammar {
         URI => remove_password_in::<UriSpec>(text, out, detail),
@@ -91,7 +91,7 @@ pub fn irikit_replace_password(
     out: &mut [u8],
     detail: &mut usize,
 ) -> u8
-    ensures { Answered (password_outcome grammar text.now password.now) out.old out.new detail.new result }
+    ensures { Answered (in_grammar grammar (password_in text.now password.now)) out.old out.new detail.new result }
 {
     match grammar {
         URI => replace_password_in::<UriSpec>(text, password, out, detail),
@@ -119,7 +119,7 @@ fn remove_fragment_in<S: Spec>(text: &[u8], out: &mut [u8], detail: &mut usize) 
 
 /// A reference without its fragment.
 pub fn irikit_remove_fragment(grammar: u32, text: &[u8], out: &mut [u8], detail: &mut usize) -> u8
-    ensures { Answered (cut_outcome grammar text.now) out.old out.new detail.new result }
+    ensures { Answered (in_grammar grammar (cut_in text.now)) out.old out.new detail.new result }
 {
     match grammar {
         URI => remove_fragment_in::<UriSpec>(text, out, detail),
@@ -171,7 +171,7 @@ pub fn irikit_set_fragment(
     out: &mut [u8],
     detail: &mut usize,
 ) -> u8
-    ensures { Answered (fragment_outcome grammar text.now fragment.now) out.old out.new detail.new result }
+    ensures { Answered (in_grammar grammar (fragment_in text.now fragment.now)) out.old out.new detail.new result }
 {
     match grammar {
         URI => set_fragment_in::<UriSpec>(text, fragment, out, detail),

@@ -1,6 +1,7 @@
 // Raw texts percent-encoded for their place in a reference (RFC 3986 sections 2.1 and 2.4).
-ghost use Rattle.iri_calls.specs.Encodings.{encoded_as, encoded_by, encoded_outcome};
+ghost use Rattle.iri_calls.specs.Encodings.{encoded_as, encoded_outcome};
 ghost use Rattle.iri_calls.specs.Outcome.{Answered};
+ghost use Rattle.iri_calls.specs.Outcomes.{in_grammar};
 
 use crate::buffer::answer_text;
 use crate::fault::{answer, answer_fault};
@@ -54,7 +55,7 @@ fn encode_in<S: Spec>(place: u32, raw: &str, out: &mut [u8], detail: &mut usize)
 
 // A text encoded by these numbers.
 fn encode_text(grammar: u32, place: u32, raw: &str, out: &mut [u8], detail: &mut usize) -> u8
-    ensures { Answered (encoded_by grammar place raw.now) out.old out.new detail.new result }
+    ensures { Answered (in_grammar grammar (encoded_as place raw.now)) out.old out.new detail.new result }
 {
     match grammar {
         URI => encode_in::<UriSpec>(place, raw, out, detail),

@@ -50,7 +50,7 @@ fn number_of(kind: ErrorKind) -> usize
     }
 }
 
-/// Tells a kind of fault, and returns the status.
+/// Writes the number of a kind of fault, and returns the status.
 pub(crate) fn answer_fault(status: u8, kind: ErrorKind, detail: &mut usize) -> u8
     ensures detail { detail.new ≡ fault_number kind }
     ensures status { result ≡ status }
@@ -59,8 +59,8 @@ pub(crate) fn answer_fault(status: u8, kind: ErrorKind, detail: &mut usize) -> u
     status
 }
 
-/// Tells nothing, and returns the status.
-pub(crate) fn answer(status: u8, detail: &mut usize) -> u8
+/// Writes 0, and returns the status.
+pub fn answer(status: u8, detail: &mut usize) -> u8
     ensures detail { detail.new ≡ 0 }
     ensures status { result ≡ status }
 {

@@ -123,7 +123,7 @@ fn slot_in_reference(kind: ErrorKind, text: &[u8]) -> Slot
     }
 }
 
-// The same in one that is read as a relative reference.
+// Where the part stands that has this kind of fault, in a text that is read as a relative reference.
 fn slot_in_relative(kind: ErrorKind, text: &[u8]) -> Slot
     ensures { result ≡ faulty_slot kind text.now (relative_split_of text.now) }
 {

@@ -3,8 +3,9 @@ ghost use Rattle.std.specs.Prelude.{◌≡◌, MatchResult, None, Some, false, t
 ghost use Rattle.iri_edit.specs.ShownHost.{HostShown};
 ghost use Rattle.iri_grammar.specs.Fault.{bytes_fault, host_fault};
 ghost use Rattle.iri_types.specs.Texts.{text};
-ghost use Rattle.iri_calls.specs.Edits.{host_in, host_outcome};
+ghost use Rattle.iri_calls.specs.Edits.{host_in};
 ghost use Rattle.iri_calls.specs.Outcome.{Answered};
+ghost use Rattle.iri_calls.specs.Outcomes.{in_grammar};
 
 use crate::buffer::answer_text;
 use crate::fault::{answer, answer_fault};
@@ -77,7 +78,7 @@ pub fn irikit_replace_host(
     out: &mut [u8],
     detail: &mut usize,
 ) -> u8
-    ensures { Answered (host_outcome grammar false text.now host.now) out.old out.new detail.new result }
+    ensures { Answered (in_grammar grammar (host_in false text.now host.now)) out.old out.new detail.new result }
 {
     match grammar {
         URI => replace_host_in::<UriSpec>(false, text, host, out, detail),
@@ -86,7 +87,7 @@ pub fn irikit_replace_host(
     }
 }
 
-/// The same where the host is a registered name.
+/// A reference with another host in place of a registered name.
 pub fn irikit_replace_reg_name(
     grammar: u32,
     text: &[u8],
@@ -94,7 +95,7 @@ pub fn irikit_replace_reg_name(
     out: &mut [u8],
     detail: &mut usize,
 ) -> u8
-    ensures { Answered (host_outcome grammar true text.now host.now) out.old out.new detail.new result }
+    ensures { Answered (in_grammar grammar (host_in true text.now host.now)) out.old out.new detail.new result }
 {
     match grammar {
         URI => replace_host_in::<UriSpec>(true, text, host, out, detail),

@@ -11,8 +11,8 @@ ghost use Rattle.iri_calls.specs.Bounds.{HasAtMost};
 ghost use Rattle.iri_calls.specs.Encodings.{encoded_outcome};
 ghost use Rattle.iri_calls.specs.FaultParts.{IsFaulty, faulty_slot};
 ghost use Rattle.iri_calls.specs.Lines.{line_answer};
-ghost use Rattle.iri_calls.specs.Outcomes.{canonical_outcome, mapped_outcome};
-ghost use Rattle.iri_calls.specs.Resolutions.{normalized_outcome, resolved_outcome, target_outcome};
+ghost use Rattle.iri_calls.specs.Outcomes.{canonical_outcome, in_grammar, mapped_outcome};
+ghost use Rattle.iri_calls.specs.Resolutions.{normalized_outcome, resolved_in, target_in};
 
 use iri_grammar::spec::Spec;
 
@@ -30,13 +30,13 @@ pub fn canonical_texts_are_short()
 /// What `irikit_resolve` writes has at most 3 bytes more than base and reference together.
 pub fn resolved_texts_are_short()
     ensures { (grammar : ℕ) (base reference : List ℕ)
-        → HasAtMost (length base + length reference + 3) (resolved_outcome grammar base reference) }
+        → HasAtMost (length base + length reference + 3) (in_grammar grammar (resolved_in base reference)) }
 {}
 
 /// What `irikit_target` writes has at most one byte more than base and reference together.
 pub fn targets_are_short()
     ensures { (grammar : ℕ) (base reference : List ℕ)
-        → HasAtMost (length base + length reference + 1) (target_outcome grammar base reference) }
+        → HasAtMost (length base + length reference + 1) (in_grammar grammar (target_in base reference)) }
 {}
 
 /// What `irikit_map_to_uri` writes has at most three times as many bytes as its text.

@@ -1,7 +1,7 @@
 //! The calls for C and for what calls C: canonical texts of one reference or many lines, resolution, normal forms and the steps to
 //! them, tests, splits, faulty parts, mappings, encodings, edits and templates over slices. Each has the name of the function for C that
 //! `iri_c` exports with the same contract, where a slice crosses as a pointer and a length; `include/irikit.h` has the declarations and
-//! the numbers. Nothing here takes memory or keeps anything.
+//! the numbers. Nothing here allocates or keeps anything.
 //!
 //! Proved: each call answers by its outcome (`Answered`), which is a function of what is passed: an unknown number, the first fault
 //! and whose it is, or a text. A text is written over the start of the caller's buffer as far as there is room, what comes after it
@@ -9,7 +9,7 @@
 //! below. Of many lines those count whose answers have room together (`Batched`).
 #![tactic(auto)]
 
-mod buffer;
+pub mod buffer;
 pub mod building;
 pub mod canonical;
 pub mod decoding;

@@ -50,7 +50,7 @@ fn is_in_form<S: Spec>(form: Form, view: RiStr<'_, S>) -> bool
     }
 }
 
-// The same of bytes in one grammar.
+// Whether bytes are a `URI` of one grammar in a form.
 fn is_normalized_as<S: Spec>(form: Form, text: &[u8], detail: &mut usize) -> u8
     ensures { NormalJudgedIn S.tests (form_mode form) text.now detail.new result }
 {

@@ -1,6 +1,7 @@
 // References resolved against a base (RFC 3986 section 5.2), without a normal form.
 ghost use Rattle.iri_calls.specs.Outcome.{Answered};
-ghost use Rattle.iri_calls.specs.Resolutions.{resolved_in, resolved_outcome};
+ghost use Rattle.iri_calls.specs.Outcomes.{in_grammar};
+ghost use Rattle.iri_calls.specs.Resolutions.{resolved_in};
 
 use crate::buffer::answer_text;
 use crate::fault::{answer, answer_fault};
@@ -36,7 +37,7 @@ pub fn irikit_resolve(
     out: &mut [u8],
     detail: &mut usize,
 ) -> u8
-    ensures { Answered (resolved_outcome grammar base.now reference.now) out.old out.new detail.new result }
+    ensures { Answered (in_grammar grammar (resolved_in base.now reference.now)) out.old out.new detail.new result }
 {
     match grammar {
         URI => resolve_in::<UriSpec>(base, reference, out, detail),

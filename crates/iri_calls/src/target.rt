@@ -1,6 +1,7 @@
 // Targets of references, as they stand (RFC 3986 section 5.2.2).
 ghost use Rattle.iri_calls.specs.Outcome.{Answered};
-ghost use Rattle.iri_calls.specs.Resolutions.{target_in, target_outcome};
+ghost use Rattle.iri_calls.specs.Outcomes.{in_grammar};
+ghost use Rattle.iri_calls.specs.Resolutions.{target_in};
 
 use crate::buffer::answer_text;
 use crate::fault::{answer, answer_fault};
@@ -61,7 +62,7 @@ pub fn irikit_target(
     out: &mut [u8],
     detail: &mut usize,
 ) -> u8
-    ensures { Answered (target_outcome grammar base.now reference.now) out.old out.new detail.new result }
+    ensures { Answered (in_grammar grammar (target_in base.now reference.now)) out.old out.new detail.new result }
 {
     match grammar {
         URI => write_target::<UriSpec>(base, reference, out, detail),

@@ -1,7 +1,7 @@
 // Tests of whole texts (RFC 3986 section 4).
 ghost use Rattle.iri_grammar.specs.Fault.{bytes_fault};
 ghost use Rattle.iri_calls.specs.Outcome.{Returned};
-ghost use Rattle.iri_calls.specs.Outcomes.{validated, validated_in, validated_outcome};
+ghost use Rattle.iri_calls.specs.Outcomes.{in_grammar, validated, validated_in};
 
 use crate::fault::{answer, answer_fault};
 use crate::grammar::{IRI, URI};
@@ -47,7 +47,7 @@ fn validate_in<S: Spec>(kind: u32, text: &[u8], detail: &mut usize) -> u8
 
 /// Whether a whole text is of a kind.
 pub fn irikit_validate(grammar: u32, kind: u32, text: &[u8], detail: &mut usize) -> u8
-    ensures { Returned (validated_outcome grammar kind text.now) detail.new result }
+    ensures { Returned (in_grammar grammar (validated_in kind text.now)) detail.new result }
 {
     match grammar {
         URI => validate_in::<UriSpec>(kind, text, detail),

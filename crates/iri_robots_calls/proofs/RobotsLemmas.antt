@@ -10,7 +10,7 @@ use Rattle.iri_grammar.specs.Classes.{Tests}
 use Rattle.iri_grammar.specs.Fault.{bytes_fault}
 use Rattle.iri_grammar.specs.Split.{split_of}
 use Rattle.iri_grammar.specs.WholeFault.{iri_fault}
-use Rattle.iri_calls.specs.Numbers.{bad_text, grammar_of}
+use Rattle.iri_calls.specs.declared.status.TheConstants.{BAD_TEXT}
 use Rattle.iri_calls.specs.Outcome.Outcome.{plain}
 use Rattle.iri_calls.specs.Outcomes.{in_grammar, unless_fault}
 use Rattle.iri_robots.specs.Allowed.{IsAllowed}
@@ -37,7 +37,7 @@ pub judged : (s : Tests) (rules : List FileRule) (target t : List ℕ) (v : Verd
     → ((b : Bool) → (v ≡ Allow) ↔ (b ≡ true) → code ≡ allowed_status b) → detail ≡ 0 → status ≡ code
     → ReturnedOrMemory (judged_in rules target s) detail status
 judged s rules target t v detail status code f e k says z w =
-    subst (λ o. ReturnedOrMemory (unless_fault bad_text o (plain (allowed_status (is_allowed rules (subject (split_of target)))))) detail status) (sym f)
+    subst (λ o. ReturnedOrMemory (unless_fault BAD_TEXT o (plain (allowed_status (is_allowed rules (subject (split_of target)))))) detail status) (sym f)
     (inl (refl, z, w ∙ says (is_allowed rules t) (verdict_is rules t v k) ∙ ap (λ x. allowed_status (is_allowed rules x)) e))
 
 -- over the lines that are written of a file's rules
@@ -45,7 +45,7 @@ pub by_file : (grammar : ℕ) (lines target token file : List ℕ) (detail statu
     → list_all is_byte file ≡ true → lines ≡ rule_lines (rules_for token (file_records file))
     → ReturnedOrMemory (file_outcome grammar token file target) detail status
 by_file grammar lines target token file detail status h b e =
-    subst (λ rules. ReturnedOrMemory (in_grammar (grammar_of grammar) (judged_in rules target)) detail status)
+    subst (λ rules. ReturnedOrMemory (in_grammar grammar (judged_in rules target)) detail status)
     (ap rules_in e ∙ file_read_back token file b) h
 
 -- ---- tokens

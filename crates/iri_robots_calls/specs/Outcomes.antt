@@ -4,10 +4,11 @@ use Rattle.iri_grammar.specs.Classes.{Tests}
 use Rattle.iri_grammar.specs.Fault.{bytes_fault}
 use Rattle.iri_grammar.specs.Split.{split_of}
 use Rattle.iri_grammar.specs.WholeFault.{iri_fault}
-use Rattle.iri_calls.specs.Numbers.{ok, bad_text, grammar_of}
+use Rattle.iri_calls.specs.Numbers.{grammar_of}
+use Rattle.iri_calls.specs.declared.status.TheConstants.{OK}
 use Rattle.iri_calls.specs.Outcome.{Outcome, Answered}
 use Rattle.iri_calls.specs.Outcome.Outcome.{text, plain}
-use Rattle.iri_calls.specs.Outcomes.{in_grammar, unless_fault}
+use Rattle.iri_calls.specs.Outcomes.{in_grammar, of_uri}
 use Rattle.iri_robots.specs.Compared.{subject}
 use Rattle.iri_robots.specs.Decided.{is_allowed}
 use Rattle.iri_robots.specs.FileLines.{is_token}
@@ -30,17 +31,17 @@ rules_outcome token file = cond (is_token token) (text (rule_lines (rules_for to
 
 -- the status of what is allowed, and of what isn't
 abbrev pub allowed_status : Bool → ℕ
-allowed_status true = ok
+allowed_status true = OK
 allowed_status false = DISALLOWED
 
 -- what rules say of a target, where it is a `URI` of the grammar
 abbrev pub judged_in : List FileRule → List ℕ → Tests → Outcome
 judged_in rules target s =
-    unless_fault bad_text (bytes_fault (iri_fault s) target) (plain (allowed_status (is_allowed rules (subject (split_of target)))))
+    of_uri target s (plain (allowed_status (is_allowed rules (subject (split_of target)))))
 
 -- what the rules of lines say
 abbrev pub allowed_outcome : ℕ → List ℕ → List ℕ → Outcome
-allowed_outcome grammar lines target = in_grammar (grammar_of grammar) (judged_in (rules_in lines) target)
+allowed_outcome grammar lines target = in_grammar grammar (judged_in (rules_in lines) target)
 
 -- the number is that of a grammar, and the target is a `URI` of it
 abbrev pub IsTarget : ℕ → List ℕ → Type 0
@@ -48,4 +49,4 @@ IsTarget grammar target = (s : Tests) × ((grammar_of grammar ≡ Some s) × (by
 
 -- what a file says to the crawler of a token
 abbrev pub file_outcome : ℕ → List ℕ → List ℕ → List ℕ → Outcome
-file_outcome grammar token file target = in_grammar (grammar_of grammar) (judged_in (rules_for token (file_records file)) target)
+file_outcome grammar token file target = in_grammar grammar (judged_in (rules_for token (file_records file)) target)

@@ -3,10 +3,7 @@ ghost use Rattle.std.specs.Prelude.{◌≡◌, ◌↔◌, Bool, List, ℕ, None,
 ghost use Rattle.std.specs.List.{list_all};
 ghost use Rattle.iri_grammar.specs.Fault.{bytes_fault};
 ghost use Rattle.iri_grammar.specs.WholeFault.{iri_fault};
-ghost use Rattle.iri_calls.specs.Buffers.{over};
 ghost use Rattle.iri_calls.specs.Numbers.{grammar_of};
-ghost use Rattle.iri_calls.specs.Outcome.{Answered};
-ghost use Rattle.iri_calls.specs.Outcome.Outcome.{text};
 ghost use Rattle.iri_robots.specs.FileLines.{is_token};
 ghost use Rattle.iri_robots.specs.Files.{file_records, is_byte};
 ghost use Rattle.iri_robots.specs.Records.{rules_for};
@@ -14,40 +11,15 @@ ghost use Rattle.iri_robots.specs.RuleLines.{rule_lines, rules_in};
 ghost use Rattle.iri_robots_calls.specs.Outcomes.{AnsweredOrMemory, IsTarget, ReturnedOrMemory, allowed_outcome, allowed_status, file_outcome, judged_in, rules_outcome};
 
 use crate::status::{BAD_TOKEN, DISALLOWED, MEMORY};
+use iri_calls::buffer::answer_text;
+use iri_calls::fault::answer;
 use iri_calls::grammar::{IRI, URI};
-use iri_calls::status::{OK, SHORT, UNKNOWN};
+use iri_calls::status::{OK, UNKNOWN};
 use iri_calls::validation::{WITH_SCHEME, irikit_validate};
 use iri_grammar::spec::{IriSpec, Spec, UriSpec};
 use iri_robots::{RobotsError, Verdict, lines_verdict, rule_lines, subject_of};
 use iri_types::view::RiStr;
 use std::alloc::Global;
-
-// Writes bytes over the start of a buffer, as far as there is room.
-fn write_over(out: &mut [u8], bytes: &[u8])
-    ensures { out.new ≡ over bytes.now out.old }
-{
-    let room = bytes.len().min(out.len());
-    out[..room].copy_from_slice(&bytes[..room]);
-}
-
-// Answers lines: they are written as far as there is room, and the detail is their length.
-fn answer_lines(lines: &[u8], out: &mut [u8], detail: &mut usize) -> u8
-    ensures { Answered (text lines.now) out.old out.new detail.new result }
-{
-    let size = out.len();
-    write_over(out, lines);
-    *detail = lines.len();
-    if lines.len() <= size { OK } else { SHORT }
-}
-
-// Tells nothing, and returns the status.
-fn answer(status: u8, detail: &mut usize) -> u8
-    ensures detail { detail.new ≡ 0 }
-    ensures status { result ≡ status }
-{
-    *detail = 0;
-    status
-}
 
 /// The rules of a robots file for the crawler of a product token, as lines that `irikit_robots_allows` reads.
 pub fn irikit_robots_rules(
@@ -65,7 +37,7 @@ pub fn irikit_robots_rules(
         return answer(BAD_TOKEN, detail);
     };
     match rule_lines(alloc, token, file) {
-        Ok(lines) => answer_lines(lines.as_str().as_bytes(), out, detail),
+        Ok(lines) => answer_text(out, &lines.as_str(), detail),
         Err(RobotsError::Token) => answer(BAD_TOKEN, detail),
         Err(RobotsError::Memory(_)) => answer(MEMORY, detail),
     }

@@ -13,13 +13,13 @@ pub returns-clause-iri : goal.returns-clause-iri
 returns-clause-iri g c = λ t kind.
     let s = g.S.Spec.tests in
     of_bytes s (iri_fault s) t (split_of t) kind
-    (of_first s t (split_of t) (fragment_fault s) kind (recompose_split t) (of_parts s t (split_of t) (recompose_split t) kind))
+    (of_first s t (split_of t) (recompose_split t) kind (fragment_fault s) (of_parts s t (split_of t) (recompose_split t) kind))
 
 pub returns-clause-absolute : goal.returns-clause-absolute
 returns-clause-absolute g c = λ t kind.
     let s = g.S.Spec.tests in
     of_bytes s (absolute_fault s) t (split_of t) kind
-    (of_first s t (split_of t) (λ _. Some UnexpectedFragment) kind (recompose_split t)
+    (of_first s t (split_of t) (recompose_split t) kind (λ _. Some UnexpectedFragment)
     (of_parts_without_fragment s t (split_of t) (recompose_split t) kind))
 
 pub returns-clause-relative : goal.returns-clause-relative
