@@ -10,14 +10,19 @@
  * What it runs on: Linux with x86-64 or arm64, and glibc 2.17 or later. For x86-64 it is compiled for x86-64-v2 (processors of 2009 and
  * later): on another processor the loader, or the library as it is loaded, says so, and the process ends with 127.
  *
- * What each call does: it reads what is passed, writes to `out` and to what its comment names, takes no memory, keeps
- * nothing, and returns. (irikit_robots_rules, irikit_robots_allows and irikit_run take memory, and give all of it back.) So calls
- * may run in several threads at once, each with its own `out` and `detail`.
+ * What each call does: it reads what is passed, writes to `out` and to what its comment names, allocates nothing, keeps
+ * nothing, and returns. (irikit_robots_rules, irikit_robots_allows and irikit_run allocate, and free all of it.) So calls may run
+ * in several threads at once, each with its own `out` and `detail`.
+ *
+ * Stack, as measured on x86-64: a call needs at most 6 KiB; where it removes dot segments from a long path, 3 KiB more for each
+ * doubling of its length: 25 KiB for a path of 64 KiB, 36 KiB for a mebibyte, 54 KiB for 64 MiB. irikit_run needs 4 KiB more than
+ * that, and 124 KiB for the most deeply nested document of `docs`.
  *
  * Numbers: those of the enums below but statuses differ from each other, so that one in the place of another, as a mode for a
  * grammar, is answered as unknown. So is every other number.
  *
- * Statuses: each call but irikit_run and irikit_version returns one of irikit_status, and always writes `detail`:
+ * Statuses: each call but irikit_run and irikit_version returns one of irikit_status, and always writes `detail`, the number that
+ * goes with it:
  *
  *   IRIKIT_OK, IRIKIT_SHORT   where a text is written: its length in bytes; of a template's variables: how many there are.
  *                             Otherwise 0
@@ -30,8 +35,8 @@
  *
  * A text that is written stands at the start of `out`, and what comes after it stays as it was. Where it is longer than
  * `size`, `out` holds its first `size` bytes, the status is IRIKIT_SHORT, and `detail` is the size that is wanted: so a call
- * with size 0 measures. At every other status `out` stays as it was. What it is of many lines, and `out_len` of a run, is in their
- * comments.
+ * with size 0 measures. At every other status `out` stays as it was. irikit_canonical_lines and irikit_run say in their comments
+ * what they write of more than has room.
  */
 #ifndef IRIKIT_H
 #define IRIKIT_H
@@ -350,6 +355,8 @@ enum irikit_template_fault {
  * Returns: IRIKIT_BAD_VARIABLE: `*place` is the index of the first such variable, whatever grammar and template are; then
  * IRIKIT_UNKNOWN: grammar; IRIKIT_BAD_TEXT: `*detail` is the template's first fault, one of irikit_template_fault, and `*place` its
  * place in bytes; IRIKIT_SHORT; IRIKIT_OK.
+ * Time: since nothing is allocated, variables are looked through for each name of the template. So it grows with the names times
+ * `count`: 1,000 of each take 2 ms, 10,000 of each 75 ms.
  *
  *   struct irikit_text word = {"two words", 9};
  *   struct irikit_variable q = {{"q", 1}, IRIKIT_STRING, &word, 1};
@@ -512,7 +519,7 @@ uint8_t irikit_canonical_lines(uint32_t grammar, uint32_t mode, const char *base
  * those of `*` (section 2.2.1).
  *
  * Takes: the crawler's product token: one or more ASCII letters, `_` and `-`; the file, whose lines end in CR, LF or both, and may be
- * any bytes: a line that isn't UTF-8, or is no user-agent line and no rule, is ignored; a buffer. It takes memory.
+ * any bytes: a line that isn't UTF-8, or is no user-agent line and no rule, is ignored; a buffer. It allocates.
  * Writes: to `out`, the rules in the order of the file, each `allow PATTERN` or `disallow PATTERN` and an LF; patterns mapped to URIs
  * and in triplet normal form, as they are compared (section 2.2.2).
  * Returns: IRIKIT_OK; IRIKIT_SHORT; IRIKIT_BAD_TOKEN; IRIKIT_MEMORY.
@@ -526,7 +533,7 @@ uint8_t irikit_robots_rules(const char *token, size_t token_len, const char *fil
  * any text, and `$` at its end the end (section 2.2.3). That the target is of the site whose file it is, the caller sees to.
  *
  * Takes: the number of a grammar; rules, a line each, as irikit_robots_rules writes them; the target, a URI of the grammar: what
- * irikit_canonical writes for a link. It takes memory.
+ * irikit_canonical writes for a link. It allocates.
  * Writes: nothing but `*detail`.
  * Returns: IRIKIT_OK: they do; IRIKIT_DISALLOWED: they don't; IRIKIT_BAD_TEXT: the target is no URI; IRIKIT_UNKNOWN: grammar;
  * IRIKIT_MEMORY.
@@ -550,8 +557,8 @@ enum irikit_run_status {
 };
 
 /* What the program `irikit` does with words and an input: canon, expand, register, links, docs, robots, gen, `--help`,
- * `--version`. It takes memory, and has given all of it back when it returns. It looks at the words first: those that are no command,
- * `--help` and `--version` take none.
+ * `--version`. It allocates, and has freed all of it when it returns. It looks at the words first: for those that are no command, for
+ * `--help` and `--version` it allocates nothing.
  *
  * Takes: the words with one space between each two; the input; a buffer.
  * Writes: the output over the start of `out`; its length in bytes to `*out_len`, whatever the status is.
