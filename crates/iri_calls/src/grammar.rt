@@ -13,11 +13,11 @@ pub const IRI: u32 = 101;
 /// The normal form of RFC 3986 section 6.2.2, with an empty port removed (section 6.2.3).
 pub const NORMAL: u32 = 200;
 
-/// That, by scheme rules too (section 6.2.3): without the scheme's default port, and with `/` for an empty path beside
+/// The normal form by scheme rules too (section 6.2.3): without the scheme's default port, and with `/` for an empty path beside
 /// an authority.
 pub const BY_SCHEME: u32 = 201;
 
-/// That of section 6.2.2, but a path without authority that doesn't begin with a slash keeps its dot segments. It is a form of
+/// The normal form in which a path without authority that doesn't begin with a slash keeps its dot segments. It is a form of
 /// one text alone, and no mode of canonical texts.
 pub const PRESERVING: u32 = 202;
 

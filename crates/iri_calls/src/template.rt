@@ -27,7 +27,7 @@ pub const UNEXPECTED_VALUE_TYPE: usize = 705;
 
 pub const UNSUPPORTED_OPERATOR: usize = 706;
 
-// Two kinds that no call for C tells, since none writes to a sink that stops, or takes memory.
+// Two kinds that no call for C returns, since none writes to a sink that stops, or allocates.
 pub const WRITE_FAILED: usize = 707;
 
 pub const MEMORY: usize = 708;

@@ -1,4 +1,4 @@
-//! The library for C, of the calls that take memory: the exports alone of the calls of `iri_run_calls` and `iri_robots_calls`, whose
+//! The library for C, of the calls that allocate: the exports alone of the calls of `iri_run_calls` and `iri_robots_calls`, whose
 //! slices cross as a pointer and a length. `include/irikit.h` declares each of them.
 //!
 //! Proved: each export keeps the contract of the call of its name, word for word.

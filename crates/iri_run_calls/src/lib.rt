@@ -3,7 +3,7 @@
 //!
 //! Proved: `irikit_run` keeps the contract of the program's `run`, over a source that has the input and never fails, and a sink
 //! that has as much room as the buffer; or allocation failed before anything was read. That comes only for a command over lines and for
-//! `gen`: words that are no command, and those of a notice, take no memory.
+//! `gen`: for words that are no command, and those of a notice, nothing is allocated.
 //!
 //! Not proved: that memory is there.
 #![tactic(auto)]

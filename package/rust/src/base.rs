@@ -15,7 +15,7 @@ pub struct Base {
 }
 
 impl Base {
-    /// The same base, whose canonical texts follow the rules of http, https, ws, wss and ftp too (RFC 3986 section 6.2.3).
+    /// This base, whose canonical texts follow the rules of http, https, ws, wss and ftp too (RFC 3986 section 6.2.3).
     ///
     /// ```
     /// let base = irikit::Grammar::Uri.base("http://a/")?.by_scheme();

@@ -120,7 +120,7 @@ impl Error {
         }
     }
 
-    /// The same where the text is a template.
+    /// The refusal that a status, its detail and a place in a template stand for.
     pub(crate) fn of_template(status: u8, detail: usize, place: usize) -> Self {
         match status {
             ffi::IRIKIT_BAD_TEXT => Error::Template(TemplateFault(detail), place),

@@ -18,10 +18,10 @@ pub enum Grammar {
 pub enum Mode {
     /// RFC 3986 section 6.2.2, and an empty port removed (section 6.2.3).
     Normal = 200,
-    /// That, without the default port of http, https, ws, wss and ftp, and with `/` for an empty path beside an authority (section
-    /// 6.2.3).
+    /// `Normal`, without the default port of http, https, ws, wss and ftp, and with `/` for an empty path beside an authority
+    /// (section 6.2.3).
     ByScheme = 201,
-    /// As `Normal`, but a path without authority that doesn't begin with a slash keeps its dot segments.
+    /// `Normal`, but a path without authority that doesn't begin with a slash keeps its dot segments.
     Preserving = 202,
 }
 
@@ -214,7 +214,7 @@ impl Grammar {
         self.steps_in(text, Mode::Normal)
     }
 
-    /// The steps that lead a text with a scheme to its normal form by scheme rules (RFC 3986 section 6.2.3), as [`steps`](Self::steps).
+    /// The steps that lead a URI to its normal form by scheme rules (section 6.2.3).
     ///
     /// # Errors
     ///
@@ -333,7 +333,7 @@ impl Grammar {
     ///
     /// # Errors
     ///
-    /// Those of [`with_host`](Self::with_host), and [`Error::NoHost`] where the host is an IP literal or an IPv4 address.
+    /// As of [`with_host`](Self::with_host), and [`Error::NoHost`] where the host is an IP literal or an IPv4 address.
     pub fn with_reg_name(self, text: &str, name: &str) -> Result<String, Error> {
         let ((text, len), (host, host_len)) = (at(text), at(name));
         owned(len + host_len, |out, size, detail| unsafe {

@@ -27,7 +27,7 @@ macro_rules! texts {
                 $grammar.split(&self.0).expect(VALID)
             }
 
-            /// The text with another fragment, or with none (RFC 3986 section 3.5).
+            /// This text with another fragment, or with none (RFC 3986 section 3.5).
             ///
             /// # Errors
             ///
@@ -36,7 +36,7 @@ macro_rules! texts {
                 $grammar.with_fragment(&self.0, fragment).map(Self)
             }
 
-            /// The text with another host (RFC 3986 section 3.2.2), an IP literal with its brackets.
+            /// This text with another host (RFC 3986 section 3.2.2), an IP literal with its brackets.
             ///
             /// # Errors
             ///
@@ -45,7 +45,7 @@ macro_rules! texts {
                 $grammar.with_host(&self.0, host).map(Self)
             }
 
-            /// The text without its password and the colon before it (RFC 3986 section 3.2.1).
+            /// This text without its password and the colon before it (RFC 3986 section 3.2.1).
             #[must_use]
             pub fn without_password(&self) -> Self {
                 Self($grammar.without_password(&self.0).expect(VALID))
