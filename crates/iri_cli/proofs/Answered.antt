@@ -8,8 +8,8 @@ use Rattle.iri_cli.proofs.Common.{Decides, StopsShort, RanTo, Ran, Answering, An
 use Rattle.iri_text.specs.declared.streams.reader.LineFault.{LineFault}
 use Rattle.iri_text.proofs.Puts.{Appends-append, prefix-after, prefix-longer}
 use Rattle.iri_text.proofs.LinesLemmas.{no_cr-shorter}
-use Rattle.iri_cli.specs.run.Steps.{end_at}
-use Rattle.iri_cli.specs.run.Answering.{ClosesRun, end_of_error}
+use Rattle.iri_cli.specs.inside.Steps.{end_at}
+use Rattle.iri_cli.specs.inside.Answering.{ClosesRun, end_of_error}
 use Rattle.iri_cli.specs.declared.run.answers.AnswerError.TheVariants.{SinkFailed as AnswerFailed, Memory as AnswerMemory}
 use Rattle.iri_cli.specs.declared.run.end.End.TheVariants.{SinkFailed}
 use Rattle.iri_cli.proofs.Reading.{left_is, reads_line, reads_all, reads_some, reads_long, reads_over, goes_on, counts_more}
@@ -21,8 +21,8 @@ whole_prefix {xs = xs} p = record { prefix = xs; rest = []; split = append-nil x
 
 -- what was taken to the end is all
 pub taken_is : (lo ln : Option (List ℕ)) (x taken : List ℕ) → lo ≡ Some x → Consumes lo ln taken → IsAtEnd ln → x ≡ taken
-taken_is lo ln x taken told takes at_end =
-    let l = left_is ln x taken (subst (λ (s : Option (List ℕ)). Consumes s ln taken) told takes) in
+taken_is lo ln x taken known takes at_end =
+    let l = left_is ln x taken (subst (λ (s : Option (List ℕ)). Consumes s ln taken) known takes) in
     l.2 ∙ ap (λ (y : List ℕ). taken ++ y) (subst IsAtEnd l.1 at_end) ∙ append-nil taken
 
 -- the answers to these lines were written
@@ -134,9 +134,9 @@ module _ (stands_at : Answering → Type 0) (start : Answering) (reader0 old new
       where
         -- the whole output begins with the answers, this one among them
         output : (x : List ℕ) → before ≡ Some x → (more : List ℕ) × ((ending rules x).output ≡ (out ++ answer) ++ more)
-        output x told =
+        output x known =
             let h = first_read rules start.base taken before ln new (go.between ++ new.line ∷ [])
-            (reads_line rules before lm ln sm sn old new (start.base ∷ go.between) go.going (go.read before first) a) x told in
+            (reads_line rules before lm ln sm sn old new (start.base ∷ go.between) go.going (go.read before first) a) x known in
             (h.0, h.1 ∙ ap (λ (t : List ℕ). t ++ h.0) (one_more rules start.base taken go.between new.line))
 
         by_error : (e : AnswerError) → PutsAnswer rules.is_good km kn (rules.wants_memory start.base go.between new.line) answer (Err e)
@@ -150,9 +150,9 @@ module _ (stands_at : Answering → Type 0) (start : Answering) (reader0 old new
               whole = start.base ∷ go.between;
               line = new.line;
               wants = q.0;
-              first = λ x told.
+              first = λ x known.
                   let h = first_lines rules before ln new (start.base ∷ (go.between ++ new.line ∷ []))
-                  (reads_line rules before lm ln sm sn old new (start.base ∷ go.between) go.going (go.read before first) a) x told in
+                  (reads_line rules before lm ln sm sn old new (start.base ∷ go.between) go.going (go.read before first) a) x known in
                   (h.0, h.1 ∙ append_assoc (start.base ∷ go.between) (new.line ∷ []) h.0);
               base_taken = taken;
               writes = writes;
@@ -177,9 +177,9 @@ module _ (stands_at : Answering → Type 0) (start : Answering) (reader0 old new
 
         -- the whole output
         output : (x : List ℕ) → before ≡ Some x → (more : List ℕ) × ((ending rules x).output ≡ (out ++ text) ++ more)
-        output x told = (
+        output x known = (
           [],
-          ap (λ (t : List ℕ). (ending rules t).output) (taken_is before ln x all.taken told all.takes all.at_end)
+          ap (λ (t : List ℕ). (ending rules t).output) (taken_is before ln x all.taken known all.takes all.at_end)
               ∙ ap (λ (e : Ending). e.output) ends ∙ sym (append-nil (out ++ text)),
         )
 
@@ -254,5 +254,5 @@ pub fails_first : (start : Answering) (before left : Option (List ℕ)) (faults 
     → Rose ko.faults kn.faults → faults ≤ sn → ko.faults ≤ kn.faults → KeepsRoom ko.room_left kn.room_left [] ⊥
     → Ran start.rules (outside before faults ko) (outside left sn kn) SinkFailed
 fails_first start before left faults sn ko kn kept rose later sink room =
-    ran_by [] rose (λ x told. (_, refl)) (subst (λ (w : Option (List ℕ)). AppendsPrefix ko.written w []) (sym kept)
+    ran_by [] rose (λ x known. (_, refl)) (subst (λ (w : Option (List ℕ)). AppendsPrefix ko.written w []) (sym kept)
     (whole_prefix (Appends-none ko.written))) (room-so (λ h. absurd h) room) later sink

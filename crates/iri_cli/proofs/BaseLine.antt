@@ -1,21 +1,19 @@
 -- The base line.
-use Rattle.iri_cli.proofs.Common.{◌≡◌, ◌≢◌, ◌⊎◌, ℕ, ◌+◌, ◌-◌, ◌≤◌, List, [], ◌∷◌, ◌++◌, length, take, true, false, Option, None, Some, Ok}
+use Rattle.iri_cli.proofs.Common.{◌≡◌, ◌≢◌, ◌⊎◌, ℕ, ◌≤◌, List, [], ◌∷◌, ◌++◌, length, true, false, Option, None, Some, Ok}
 use Rattle.iri_cli.proofs.Common.{Err, refl, sym, ◌∙◌, ap, subst, arith, inl, inr, ⊎_elim, append_assoc, append-nil, Rose, Consumes}
 use Rattle.iri_cli.proofs.Common.{IsAtEnd, Appends, KeepsRoom, SinkState, LineState, Advances, Source, FaultLineTooLong}
-use Rattle.iri_cli.proofs.Common.{FaultInputTooLong, Appends-none, room-same, ended_lines, Rules, Ending, Passed, unless_refused}
+use Rattle.iri_cli.proofs.Common.{FaultInputTooLong, Appends-none, room-same, Rules, Ending, Passed, unless_refused}
 use Rattle.iri_cli.proofs.Common.{first_passed, completed, completed_lines, stopped, answered, IsBaseTaken, ending_by, ending, IsOpen}
 use Rattle.iri_cli.proofs.Common.{HasRead, ReadsSome, ReadsPast, IsGoing, outside, Decides, StopsShort, RanTo, Ran, End}
 use Rattle.iri_cli.proofs.Common.{BadBase}
-use Rattle.std.proofs.Math.Seq.{take-append-add}
 use Rattle.iri_text.specs.declared.streams.reader.LineFault.{LineFault}
 use Rattle.iri_cli.specs.run.Ending.{base_line}
 use Rattle.iri_cli.specs.run.Buffers.{IsNew}
-use Rattle.iri_cli.specs.run.Steps.{end_at, GivesBase, ReadsBase}
-use Rattle.iri_cli.specs.run.Answering.{RefusesBase}
+use Rattle.iri_cli.specs.inside.Steps.{end_at, GivesBase, ReadsBase}
+use Rattle.iri_cli.specs.inside.Answering.{RefusesBase}
 use Rattle.iri_cli.specs.declared.run.end.End.TheVariants.{SinkFailed}
 use Rattle.iri_cli.proofs.Reading.{left_is, read_none, reads_line, reads_all, reads_some, reads_long, reads_over, goes_on}
-use Rattle.iri_cli.proofs.LineSteps.{place_later}
-use Rattle.iri_cli.proofs.Ends.{ends_past_none, ran_by}
+use Rattle.iri_cli.proofs.Ends.{ended_before, ends_past_none, ran_by}
 use Rattle.iri_text.proofs.LinesLemmas.{no_cr-shorter}
 use Rattle.iri_cli.proofs.Answered.{whole_prefix, taken_is, not_sink}
 
@@ -63,7 +61,7 @@ module _ (rules : Rules) where
     -- The reader answered a fault.
     pub gives_fault : (base : List ℕ) (fault : LineFault) → Advances old new lo ln fo fn (Err fault)
         → ReadsBase rules lo ln fo fn new base (Err fault)
-    gives_fault base fault a sink = ran_by [] (by_fault fault a) (λ x told. (_, refl)) (whole_prefix (Appends-none sink.written))
+    gives_fault base fault a sink = ran_by [] (by_fault fault a) (λ x known. (_, refl)) (whole_prefix (Appends-none sink.written))
         (room-same sink.room_left [] (λ _. not_sink fault)) a.later (omega arith)
       where
         decided : (status : ℕ) → ReadsPast rules status lo ln [] → Decides rules status (outside lo fo sink) (outside ln fn sink)
@@ -107,12 +105,7 @@ module _ (rules : Rules) where
         by_passed : (p : Option Passed) → first_passed rules (given ++ y) ≡ p
             → ending_by rules (given ++ y) p ≡ record { status = 3; output = base_line words }
         by_passed None is = ap (completed_lines rules) (o.all y) ∙ refused_is _
-        by_passed (Some p) is =
-            let later : length given ≤ p.place = place_later rules (length given) 0 y p (sym (o.passes y) ∙ is) in
-            let place : p.place ≡ length given + (p.place - length given) = omega (arith, later) in
-            let prefix : take p.place (given ++ y) ≡ given ++ take (p.place - length given) y =
-            ap (λ (n : ℕ). take n (given ++ y)) place ∙ take-append-add given y (p.place - length given) in
-            ap (stopped rules p.status) (ap ended_lines prefix ∙ o.ended (take (p.place - length given) y)) ∙ refused_is _
+        by_passed (Some p) is = ap (stopped rules p.status) (ended_before rules given (base ∷ []) o y p is) ∙ refused_is _
 
     -- these bytes were taken, and have this ending however the source goes on; or they are all
     abbrev EndsOpen : Option (List ℕ) → Option (List ℕ) → Type 0
@@ -154,12 +147,12 @@ module _ (rules : Rules) where
             gives
 
         output : (x : List ℕ) → lo ≡ Some x → (more : List ℕ) × ((ending rules x).output ≡ base_line words ++ more)
-        output x told = (
+        output x known = (
           [],
           ⊎_elim
-              (λ e. let l = left_is ln x e.0 (subst (λ (s : Option (List ℕ)). Consumes s ln e.0) told e.1) in
+              (λ e. let l = left_is ln x e.0 (subst (λ (s : Option (List ℕ)). Consumes s ln e.0) known e.1) in
               ap (λ (n : Ending). n.output) (ap (ending rules) l.2 ∙ e.2 l.0))
-              (λ e. ap (λ (n : Ending). n.output) (ap (ending rules) (taken_is lo ln x e.0 told e.1 e.2) ∙ e.3)) ends
+              (λ e. ap (λ (n : Ending). n.output) (ap (ending rules) (taken_is lo ln x e.0 known e.1 e.2) ∙ e.3)) ends
               ∙ sym (append-nil (base_line words)),
         )
 

@@ -18,29 +18,29 @@ closes_nothing at k none = subst (λ t. PutsAll k k (Ok tt) t) (sym none) (puts_
 
 -- pieces that were put, and what is said of them
 pub puts_line : {ko kn : SinkState} (is_good : List ℕ → Bool) (wants good : Bool) (r : Result (Unit {0}) Failed) (text : List ℕ)
-    → PutsAll ko kn r text → good ≡ is_good text → PutsAnswer is_good ko kn wants text (told_of good r)
+    → PutsAll ko kn r text → good ≡ is_good text → PutsAnswer is_good ko kn wants text (said_good good r)
 puts_line is_good wants good (Ok x) text p e = (p.whole, p.same, e)
 puts_line is_good wants good (Err f) text p e = (p.prefix, p.cause, p.later)
 
 pub line_room : {ko kn : SinkState} (good : Bool) (r : Result (Unit {0}) Failed) (text : List ℕ)
-    → PutsAll ko kn r text → KeepsRoom ko.room_left kn.room_left text (told_of good r ≢ Err SinkFailed)
+    → PutsAll ko kn r text → KeepsRoom ko.room_left kn.room_left text (said_good good r ≢ Err SinkFailed)
 line_room good (Ok x) text p = room-so (λ _ h. cc h) p.room
 line_room good (Err f) text p = room-so (λ h. absurd (cc h)) p.room
 
--- the same of an answer that is told by a result
-pub told_line : {ko kn : SinkState} (good : Bool) (r : Result (Unit {0}) Failed) (text line : List ℕ)
-    (result : Result Bool AnswerError) → result ≡ told_of good r → good ≡ is_ok text → text ≡ line → PutsAll ko kn r text
+-- the same of an answer of which a result says it
+pub said_line : {ko kn : SinkState} (good : Bool) (r : Result (Unit {0}) Failed) (text line : List ℕ)
+    (result : Result Bool AnswerError) → result ≡ said_good good r → good ≡ is_ok text → text ≡ line → PutsAll ko kn r text
     → PutsAnswer is_ok ko kn false line result
-told_line {ko} {kn} good r text line result told e is p =
-    subst (λ x. PutsAnswer is_ok ko kn false line x) (sym told)
-    (subst (λ t. PutsAnswer is_ok ko kn false t (told_of good r)) is (puts_line is_ok false good r text p e))
+said_line {ko} {kn} good r text line result said e is p =
+    subst (λ x. PutsAnswer is_ok ko kn false line x) (sym said)
+    (subst (λ t. PutsAnswer is_ok ko kn false t (said_good good r)) is (puts_line is_ok false good r text p e))
 
-pub told_room : {ko kn : SinkState} (good : Bool) (r : Result (Unit {0}) Failed) (text line : List ℕ)
-    (result : Result Bool AnswerError) → result ≡ told_of good r → text ≡ line → PutsAll ko kn r text
+pub said_room : {ko kn : SinkState} (good : Bool) (r : Result (Unit {0}) Failed) (text line : List ℕ)
+    (result : Result Bool AnswerError) → result ≡ said_good good r → text ≡ line → PutsAll ko kn r text
     → KeepsRoom ko.room_left kn.room_left line (result ≢ Err SinkFailed)
-told_room {ko} {kn} good r text line result told is p =
-    subst (λ x. KeepsRoom ko.room_left kn.room_left line (x ≢ Err SinkFailed)) (sym told)
-    (subst (λ t. KeepsRoom ko.room_left kn.room_left t (told_of good r ≢ Err SinkFailed)) is (line_room good r text p))
+said_room {ko} {kn} good r text line result said is p =
+    subst (λ x. KeepsRoom ko.room_left kn.room_left line (x ≢ Err SinkFailed)) (sym said)
+    (subst (λ t. KeepsRoom ko.room_left kn.room_left t (said_good good r ≢ Err SinkFailed)) is (line_room good r text p))
 
 -- the buffer has room for an answer
 pub has_room : (s : Tests) (m : CanonMode) (base line text output : List ℕ) → IsSpec s → refusal s base ≡ None → bytes_fault (reference_fault s) line ≡ None
@@ -67,12 +67,13 @@ canon_opened s m line text output k is taken short room =
       },
     )
 
--- the answer to a line
-pub puts_answer : (rules : Rules) (ko kn : SinkState) (r : Result Bool AnswerError) (wants : Bool) (text : List ℕ)
-    → is_ok text ≡ rules.is_good text → PutsAnswer is_ok ko kn false text r → PutsAnswer rules.is_good ko kn wants text r
-puts_answer rules ko kn (Ok good) wants text e p = (p.0, p.1, p.2 ∙ e)
-puts_answer rules ko kn (Err SinkFailed) wants text e p = p
-puts_answer rules ko kn (Err Memory) wants text e p = let never = p.0 in cc
+-- an answer by a test that says the same of it, where memory is wanted as far as allocation failed
+pub puts_answer : (is_good other : List ℕ → Bool) (ko kn : SinkState) (r : Result Bool AnswerError) (wants needs : Bool) (text : List ℕ)
+    → is_good text ≡ other text → (r ≡ Err Memory → wants ≡ true → needs ≡ true)
+    → PutsAnswer is_good ko kn wants text r → PutsAnswer other ko kn needs text r
+puts_answer is_good other ko kn (Ok good) wants needs text e m p = (p.0, p.1, p.2 ∙ e)
+puts_answer is_good other ko kn (Err SinkFailed) wants needs text e m p = p
+puts_answer is_good other ko kn (Err Memory) wants needs text e m p = (m refl p.0, p.1, p.2)
 
 pub on_ok : {X : Type 0} (r : Result Bool AnswerError) → X → OnOk r X
 on_ok (Ok x) h = h
@@ -89,7 +90,8 @@ answers_line s m base line output new at ko kn r is grows p room =
     record {
       puts =
           let text = at.rules.answer at.base at.between line in
-          puts_answer at.rules ko kn r (at.rules.wants_memory at.base at.between line) text (ap (λ (rules : Rules). rules.is_good text) (sym is.rules))
+          puts_answer is_ok at.rules.is_good ko kn r false (at.rules.wants_memory at.base at.between line) text
+          (ap (λ (rules : Rules). rules.is_good text) (sym is.rules)) (λ _ h. absurd (cc h))
           (subst (λ t. PutsAnswer is_ok ko kn false t r) e p);
       next = on_ok r (record { rules = is.rules; same = is.same; taken = is.taken; short = is.short; room = omega (arith, grows, is.room) });
       room = subst (λ t. KeepsRoom ko.room_left kn.room_left t (r ≢ Err SinkFailed)) e room;

@@ -60,17 +60,17 @@ unfoldable pub use Rattle.iri_cli.specs.expand.Answers.{template_answer}
 pub use Rattle.iri_cli.specs.expand.Lines.{Values, with_value}
 pub use Rattle.iri_cli.specs.generator.References.{more_segments, gen_reference, gen_base, gen_text}
 pub use Rattle.iri_cli.specs.inside.Opening.{begun}
-pub use Rattle.iri_cli.specs.inside.Puts.{told_of}
+pub use Rattle.iri_cli.specs.inside.Puts.{said_good}
 pub use Rattle.iri_cli.specs.inside.RobotsAt.{IsRobotsAt}
 pub use Rattle.iri_cli.specs.register.Answers.{entry_lines, more_numbers, joined}
 pub use Rattle.iri_cli.specs.register.Lines.{line_of, command_of, commands_from}
 unfoldable pub use Rattle.iri_cli.specs.register.Lines.{entries_after}
 pub use Rattle.iri_cli.specs.robots.Answers.{answer_to, normal_base}
 pub use Rattle.iri_cli.specs.robots.Rules.{robots_rules}
-pub use Rattle.iri_cli.specs.run.Answering.{Answering, AnswersLine, PutsAnswer, IsReady}
+pub use Rattle.iri_cli.specs.inside.Answering.{Answering, AnswersLine, PutsAnswer, IsReady}
 pub use Rattle.iri_cli.specs.run.Ending.{Rules, Ending, answers, answered, IsBaseTaken, ending, Passed, unless_refused, first_passed}
 pub use Rattle.iri_cli.specs.run.Ending.{completed, completed_lines, stopped, ending_by, passed_from}
 pub use Rattle.iri_cli.specs.run.Limits.{longest_line, answer_room}
-pub use Rattle.iri_cli.specs.run.Read.{HasRead, ReadsAll, ReadsSome, ReadsPast, IsGoing, IsOpen}
+pub use Rattle.iri_cli.specs.inside.Read.{HasRead, ReadsAll, ReadsSome, ReadsPast, IsGoing, IsOpen}
 pub use Rattle.iri_cli.specs.run.Run.{outside, Finishes, Decides, StopsShort, RanTo, Ran, Outside, status_of, RunsLines, outside_state}
 pub use Rattle.iri_cli.specs.run.Words.{tests_of, rules_of}

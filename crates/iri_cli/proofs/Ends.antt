@@ -3,13 +3,14 @@ use Rattle.iri_cli.proofs.Common.{◌≡◌, ℕ, ◌+◌, ◌-◌, ◌≤◌, L
 use Rattle.iri_cli.proofs.Common.{refl, sym, ◌∙◌, ap, subst, arith, ⊎_elim, append_assoc, concat, list_all, append-nil, lines, Consumes}
 use Rattle.iri_cli.proofs.Common.{IsAtEnd, LineState, ended_lines, Rules, Ending, Passed, unless_refused, first_passed, answers, completed}
 use Rattle.iri_cli.proofs.Common.{completed_lines, stopped, ending_by, ending, IsOpen, HasRead, ReadsAll, ReadsPast}
-use Rattle.iri_cli.proofs.Common.{◌≢◌, AppendsPrefix, KeepsRoom, Outside, RanTo, Ran, End}
+use Rattle.iri_cli.proofs.Common.{◌⊎◌, inl, inr, ◌≢◌, AppendsPrefix, KeepsRoom, Outside, RanTo, Ran, End}
 use Rattle.iri_text.proofs.Puts.{prefix-longer, room-longer}
 use Rattle.iri_cli.specs.declared.run.end.End.TheVariants.{SinkFailed}
 use Rattle.std.proofs.Math.Bool.{and-true}
 use Rattle.std.proofs.lemmas.List.Folds.{concat-append, list_all-append}
 use Rattle.std.proofs.Math.Seq.{take-append-add}
 use Rattle.iri_cli.specs.run.Ending.{answers_after}
+use Rattle.iri_cli.specs.inside.Read.{IsClosed}
 use Rattle.iri_cli.proofs.LineSteps.{place_later}
 use Rattle.iri_cli.proofs.Reading.{left_is}
 
@@ -20,17 +21,41 @@ pub ran_by : {rules : Rules} {old new : Outside} {end : End} (text : List ℕ) �
     → old.source_faults ≤ new.source_faults → old.sink.faults ≤ new.sink.faults → Ran rules old new end
 ran_by {rules} {old} {new} {end} text to output prefix room source sink = record {
   to = to;
-  prefix = λ x told.
-      let h = output x told in
+  prefix = λ x known.
+      let h = output x known in
       subst (AppendsPrefix old.sink.written new.sink.written) (sym h.1) (prefix-longer h.0 prefix);
   source_later = source;
   sink_later = sink;
-  room = λ x told.
-      let h = output x told in
+  room = λ x known.
+      let h = output x known in
       subst (λ (t : List ℕ). KeepsRoom old.sink.room_left new.sink.room_left t (end ≢ SinkFailed)) (sym h.1) (room-longer h.0 room);
 }
 
 module _ (rules : Rules) where
+  -- an input of which lines were read: whole lines and others after them, or all of its lines
+  read_input : {lo ln : Option (List ℕ)} {reader : LineState} {whole : List (List ℕ)} {input : List ℕ} → (go : HasRead rules lo ln reader whole)
+      → lo ≡ Some input → (IsOpen rules go.given whole × (more : List ℕ) × (input ≡ go.given ++ more))
+      ⊎ (IsClosed rules go.given reader.held whole ln × (input ≡ go.given))
+  read_input {ln = ln} {reader} {input = input} go known =
+      let l = left_is ln input (go.given ++ reader.held)
+      (subst (λ (s : Option (List ℕ)). Consumes s ln (go.given ++ reader.held)) known go.takes) in
+      ⊎_elim (λ o. inl (o.1, reader.held ++ l.0, l.2 ∙ append_assoc go.given reader.held l.0))
+      (λ c. inr (
+        c.1,
+        l.2 ∙ ap (λ (t : List ℕ). (go.given ++ reader.held) ++ t) (subst IsAtEnd l.1 (c.1).at_end)
+            ∙ append-nil (go.given ++ reader.held) ∙ ap (λ (t : List ℕ). go.given ++ t) (c.1).nothing ∙ append-nil go.given,
+      )) go.place
+
+  -- the lines that an LF ends before a limit that is passed after whole lines
+  pub ended_before : (given : List ℕ) (whole : List (List ℕ)) → IsOpen rules given whole → (y : List ℕ) (p : Passed)
+      → first_passed rules (given ++ y) ≡ Some p
+      → ended_lines (take p.place (given ++ y)) ≡ whole ++ ended_lines (take (p.place - length given) y)
+  ended_before given whole o y p is =
+      let later : length given ≤ p.place = place_later rules (length given) 0 y p (sym (o.passes y) ∙ is) in
+      let place : p.place ≡ length given + (p.place - length given) = omega (arith, later) in
+      ap ended_lines (ap (λ (n : ℕ). take n (given ++ y)) place ∙ take-append-add given y (p.place - length given))
+      ∙ o.ended (take (p.place - length given) y)
+
   -- answers to more lines
   pub answers-append : (base : List ℕ) (between xs ys : List (List ℕ))
       → answers_after rules base between (xs ++ ys) ≡ answers_after rules base between xs ++ answers_after rules base (between ++ xs) ys
@@ -94,33 +119,18 @@ module _ (rules : Rules) where
         by_passed : (p : Option Passed) → first_passed rules (given ++ y) ≡ p → IsFirst rest (ending_by rules (given ++ y) p).output
         by_passed None is = subst (λ (t : List (List ℕ)). IsFirst rest (completed_lines rules t).output) (sym (o.all y))
             (first_completed rest (lines y))
-        by_passed (Some p) is =
-            let later : length given ≤ p.place = place_later rules (length given) 0 y p (sym (o.passes y) ∙ is) in
-            let place : p.place ≡ length given + (p.place - length given) = omega (arith, later) in
-            let prefix : take p.place (given ++ y) ≡ given ++ take (p.place - length given) y =
-            ap (λ (n : ℕ). take n (given ++ y)) place ∙ take-append-add given y (p.place - length given) in
-            subst (λ (t : List (List ℕ)). IsFirst rest (stopped rules p.status t).output)
-            (sym (ap ended_lines prefix ∙ o.ended (take (p.place - length given) y)))
-            (first_stopped p.status rest (ended_lines (take (p.place - length given) y)))
+        by_passed (Some p) is = subst (λ (t : List (List ℕ)). IsFirst rest (stopped rules p.status t).output)
+            (sym (ended_before given (base ∷ rest) o y p is)) (first_stopped p.status rest (ended_lines (take (p.place - length given) y)))
 
     -- of an input whose lines were read so far
     pub first_read : (lo ln : Option (List ℕ)) (reader : LineState) (rest : List (List ℕ)) → HasRead rules lo ln reader (base ∷ rest)
         → (input : List ℕ) → lo ≡ Some input → IsFirst rest (ending rules input).output
-    first_read lo ln reader rest go input told =
-        let l = left_is ln input (go.given ++ reader.held)
-        (subst (λ (s : Option (List ℕ)). Consumes s ln (go.given ++ reader.held)) told go.takes) in
-        ⊎_elim
-        (λ o. subst (λ (x : List ℕ). IsFirst rest (ending rules x).output) (sym (l.2 ∙ append_assoc go.given reader.held l.0))
-        (first_open go.given rest o.1 (reader.held ++ l.0)))
-        (λ c.
-        let all : input ≡ go.given =
-        l.2 ∙ ap (λ (t : List ℕ). (go.given ++ reader.held) ++ t) (subst IsAtEnd l.1 (c.1).at_end) ∙ append-nil (go.given ++ reader.held)
-        ∙ ap (λ (t : List ℕ). go.given ++ t) (c.1).nothing ∙ append-nil go.given in
-        subst (λ (x : List ℕ). IsFirst rest (ending rules x).output) (sym all)
-        (subst (λ (p : Option Passed). IsFirst rest (ending_by rules go.given p).output) (sym (c.1).passes)
+    first_read lo ln reader rest go input known =
+        ⊎_elim (λ o. subst (λ (x : List ℕ). IsFirst rest (ending rules x).output) (sym o.2) (first_open go.given rest o.0 o.1))
+        (λ c. subst (λ (x : List ℕ). IsFirst rest (ending rules x).output) (sym c.1)
+        (subst (λ (p : Option Passed). IsFirst rest (ending_by rules go.given p).output) (sym (c.0).passes)
         (subst (λ (t : List (List ℕ)). IsFirst rest (completed_lines rules t).output)
-        (sym ((c.1).all ∙ ap (λ (t : List (List ℕ)). base ∷ t) (sym (append-nil rest)))) (first_completed rest []))))
-        go.place
+        (sym ((c.0).all ∙ ap (λ (t : List (List ℕ)). base ∷ t) (sym (append-nil rest)))) (first_completed rest [])))) (read_input go known)
 
     -- the ending of a whole input
     pub ends_all : (lo ln : Option (List ℕ)) (rest : List (List ℕ)) → (r : ReadsAll rules lo ln (base ∷ rest))
@@ -145,14 +155,6 @@ module _ (rules : Rules) where
   -- the lines of an input that were read come first in it
   pub first_lines : (lo ln : Option (List ℕ)) (reader : LineState) (whole : List (List ℕ)) → HasRead rules lo ln reader whole
       → (input : List ℕ) → lo ≡ Some input → (more : List (List ℕ)) × (lines input ≡ whole ++ more)
-  first_lines lo ln reader whole go input told =
-      let l = left_is ln input (go.given ++ reader.held)
-      (subst (λ (s : Option (List ℕ)). Consumes s ln (go.given ++ reader.held)) told go.takes) in
-      ⊎_elim
-      (λ o. (lines (reader.held ++ l.0), ap lines (l.2 ∙ append_assoc go.given reader.held l.0) ∙ (o.1).all (reader.held ++ l.0)))
-      (λ c.
-      let all : input ≡ go.given =
-      l.2 ∙ ap (λ (t : List ℕ). (go.given ++ reader.held) ++ t) (subst IsAtEnd l.1 (c.1).at_end) ∙ append-nil (go.given ++ reader.held)
-      ∙ ap (λ (t : List ℕ). go.given ++ t) (c.1).nothing ∙ append-nil go.given in
-      ([], ap lines all ∙ (c.1).all ∙ sym (append-nil whole)))
-      go.place
+  first_lines lo ln reader whole go input known =
+      ⊎_elim (λ o. (lines o.1, ap lines o.2 ∙ (o.0).all o.1)) (λ c. ([], ap lines c.1 ∙ (c.0).all ∙ sym (append-nil whole)))
+      (read_input go known)

@@ -96,7 +96,8 @@ module _ (s : Tests) (base expansion : List ℕ) (output : ℕ) (values : Values
         → AnswersLine (IsExpandAt s base expansion_new output_new values) at line ko kn r
     answers_text expansion_new output_new r expansion_size output_grows same good p room = let text = answer_to s base values said in record {
       puts = subst (λ t. PutsAnswer at.rules.is_good ko kn (at.rules.wants_memory at.base at.between line) t r) (sym answer_is)
-          (puts_answer at.rules ko kn r _ text (sym good ∙ ap (λ (r : Rules). r.is_good text) (sym is.rules)) p);
+          (puts_answer is_ok at.rules.is_good ko kn r false _ text (sym good ∙ ap (λ (r : Rules). r.is_good text) (sym is.rules))
+          (λ _ h. absurd (cc h)) p);
       next = on_ok r (next_at expansion_new output_new values expansion_size output_grows same);
       room = subst (λ t. KeepsRoom ko.room_left kn.room_left t (r ≢ Err SinkFailed)) (sym answer_is) room;
     }

@@ -1,36 +1,33 @@
 -- No reference of `gen` has a fault: each segment of the table is over the characters of a registered name, which are of a path too.
 use Rattle.iri_cli.proofs.Common.{◌≡◌, ℕ, suc, ◌<◌, ◌^◌, Bool, true, false, not, ◌&&◌, ◌||◌, List, [], ◌∷◌, ◌++◌, Some, None, refl, ◌∙◌, ap}
-use Rattle.iri_cli.proofs.Common.{subst, arith, append-nil, ◌==◌, get_or, nat_lt, list_all, is_utf8, is_utf8-from_IsUtf8, nat_tests, Tests}
+use Rattle.iri_cli.proofs.Common.{subst, arith, append-nil, ◌==◌, get_or, nat_lt, list_all, is_utf8-from_IsUtf8, nat_tests, Tests}
 use Rattle.iri_cli.proofs.Common.{IsSpec, path_char, before, lacks, both, IsAbsolute, recompose, is_empty, starts_with_slash}
-use Rattle.iri_cli.proofs.Common.{starts_with_slashes, split_of, absolute_fault, reference_fault, absolute-law, of_bytes, reference-utf8}
+use Rattle.iri_cli.proofs.Common.{starts_with_slashes, absolute_fault, reference_fault, absolute-law, of_bytes, reference-utf8}
 use Rattle.iri_cli.proofs.Common.{refusal, more_segments, gen_reference, gen_base}
 use Rattle.std.proofs.Common.{zero, ◌/◌, ◌%◌}
-use Rattle.std.specs.Str.{IsAscii, chars}
-use lib.Utf8.{encode}
+use Rattle.std.specs.Str.{IsAscii}
 use Rattle.std.proofs.lemmas.Str.{IsAscii-append, IsUtf8-from_ascii, chars-IsAscii}
 use Rattle.std.specs.Prelude.{option_map}
 use Rattle.iri_grammar.specs.ErrorTexts.{description}
-use Rattle.iri_grammar.specs.Classes.{uri_tests, is_ascii_unreserved, is_sub_delim, is_ascii_reg_name, is_ascii_pchar, is_ascii_path}
-use Rattle.iri_grammar.specs.Classes.{is_ascii_query, reg_name_char, query_char}
+use Rattle.iri_grammar.specs.Classes.{uri_tests, is_ascii_reg_name, is_ascii_pchar, is_ascii_path}
+use Rattle.iri_grammar.specs.Classes.{reg_name_char}
 use Rattle.iri_grammar.proofs.ClassLaws.{class_has_no_percent}
 use Rattle.iri_grammar.specs.declared.class.Class.TheVariants.{RegName, Path}
-use Rattle.iri_grammar.specs.Over.{over, over_from, text_over, IsOver, done, plain, triplet}
+use Rattle.iri_grammar.specs.Over.{over, text_over, IsOver, done, plain, triplet}
 use Rattle.iri_grammar.proofs.OverLaws.{over-from_units, units-from_over}
 use Rattle.std.proofs.lemmas.Bool.{or_right}
 use Rattle.iri_grammar.proofs.CutLaws.{before-at}
-use Rattle.iri_grammar.specs.Components.{is_letter, is_scheme_char}
-use Rattle.iri_grammar.specs.Ipv6.{is_group}
 use Rattle.iri_grammar.specs.IpLiteral.{is_ip_literal}
 use Rattle.iri_grammar.specs.Host.{is_reg_name}
-use Rattle.iri_grammar.specs.Authority.{is_authority, authority_parts, recompose_authority}
+use Rattle.iri_grammar.specs.Authority.{is_authority, recompose_authority}
 use Rattle.iri_grammar.proofs.AuthorityLaws.{passes}
 use Rattle.iri_grammar.proofs.AuthorityTexts.{all_below}
 use Rattle.iri_grammar.proofs.MadeLaws.{made-reference}
-use Rattle.iri_grammar.specs.WholeFault.{fault_before_fragment, parts_fault}
 use Rattle.iri_grammar.proofs.UriLaws.{absolute-wider}
 use Rattle.iri_grammar.specs.inside.Laws.{uri_is_spec}
 use Rattle.iri_normal.proofs.TargetLaws.{slash_in_path}
 use Rattle.iri_normal.proofs.TripletHeads.{head-apart}
+use Rattle.iri_docs.specs.OnLiterals.{on_literals}
 use Rattle.iri_cli.specs.generator.References.{gen_segments, gen_segment}
 
 -- ---- the segments of the table
@@ -48,11 +45,11 @@ abbrev passes_all : List ℕ → Bool
 passes_all x = list_all is_low x && (over is_ascii_reg_name x && (lacks 47 x && lacks 58 x))
 
 table_passes : list_all passes_all gen_segments ≡ true
-unfolding over_from is_ascii_reg_name is_ascii_unreserved is_sub_delim
+unfolding on_literals
 table_passes = refl
 
 nothing_passes : passes_all [] ≡ true
-unfolding over_from
+unfolding on_literals
 nothing_passes = refl
 
 at_number : (p : List ℕ → Bool) (xs : List (List ℕ)) (n : ℕ) → p [] ≡ true → list_all p xs ≡ true → p (get_or xs n []) ≡ true
@@ -185,8 +182,7 @@ module _ (s : Tests) (k : IsSpec s) where
 
 -- ---- the base
 base_of_uris : absolute_fault uri_tests gen_base ≡ None
-unfolding split_of fault_before_fragment parts_fault authority_parts over_from chars is_utf8 encode is_letter is_scheme_char reg_name_char path_char
-    query_char is_ascii_query is_ascii_reg_name is_ascii_path is_ascii_pchar is_ascii_unreserved is_sub_delim is_group
+unfolding on_literals
 base_of_uris = refl
 
 pub base_taken : (s : Tests) → IsSpec s → refusal s gen_base ≡ None

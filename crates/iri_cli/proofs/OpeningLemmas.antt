@@ -5,7 +5,7 @@ use Rattle.iri_cli.proofs.Common.{Rules, begun, HasRead, IsGoing, outside, Ran, 
 use Rattle.iri_normal.proofs.CanonLemmas.{fault_none}
 use Rattle.iri_cli.specs.run.Buffers.{AreBuffers, IsNew}
 use Rattle.iri_cli.specs.inside.Opening.{BeginsAsCanon}
-use Rattle.iri_cli.specs.run.Steps.{GivesBase}
+use Rattle.iri_cli.specs.inside.Steps.{GivesBase}
 use Rattle.iri_cli.proofs.BytesLemmas.{refused_none}
 use Rattle.iri_cli.proofs.Answered.{whole_prefix}
 use Rattle.iri_cli.proofs.Ends.{first_lines, ran_by}
@@ -47,4 +47,4 @@ module _ (s : Tests) (rules : Rules) (begins : BeginsAsCanon s rules) where
             base_taken = tt;
             writes = Appends-none ko.written;
             sink = refl;
-          }) (λ x told. (_, refl)) (whole_prefix (Appends-none ko.written)) (room-same ko.room_left [] (λ _ h. cc h)) later (omega arith)
+          }) (λ x known. (_, refl)) (whole_prefix (Appends-none ko.written)) (room-same ko.room_left [] (λ _ h. cc h)) later (omega arith)

@@ -171,14 +171,7 @@ fewer b (s ∷ ss) =
     (written_segments (b ++ text) (ended_by ss))) + cond (v || any_dot_segment (ended_by ss)) 2 0
     ≤ length b + length (joined 47 (s ∷ ended_by ss))) [
       | true ↦ λ e. omega (arith, fewer (left (is_two_dots s) b) ss, length-left (is_two_dots s) b, more, some_byte s e)
-      | false ↦ λ _. omega (
-        arith,
-        fewer (b ++ text) ss,
-        length-append b text,
-        length-append s (closing (ended_by ss)),
-        ap length (closing-ended ss),
-        more,
-      )
+      | false ↦ λ _. omega (arith, fewer (b ++ text) ss, length-append {A = ℕ}, ap length (closing-ended ss))
     ] refl
 
 two_fewer : (f : List ℕ) → ends_at_slash f ≡ true → has_dot_segment f ≡ true → length (dots f) + 2 ≤ length f
@@ -223,11 +216,4 @@ directory_short (Some x) None path i h =
 pub path_short : (scheme a : Option (List ℕ)) (path : List ℕ) → IsSome scheme → path_rules scheme a path ≡ true
     → length (prepared_path (is_some a) path) ≤ length path
 path_short scheme a path i h =
-    let directory = directory_short scheme a path i h in
-    omega (
-      arith,
-      directory,
-      length-append (directory_of (is_some a) path) (last_segment path),
-      length-append (to_last_slash path) (last_segment path),
-      ap length (at_last_slash path).0,
-    )
+    omega (arith, directory_short scheme a path i h, length-append {A = ℕ}, ap length (at_last_slash path).0)

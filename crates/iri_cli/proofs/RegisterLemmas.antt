@@ -2,7 +2,7 @@
 use Rattle.iri_cli.proofs.Common.{◌≡◌, ◌≢◌, ℕ, suc, ◌+◌, ◌<◌, Bool, List, [], ◌∷◌, ◌++◌, length, take, drop, Some, Result, Ok, Err, refl}
 use Rattle.iri_cli.proofs.Common.{sym, ◌∙◌, ap, subst, arith, append_assoc, length-append, OnOk, decimal, get_or, append-nil, Tests}
 use Rattle.iri_cli.proofs.Common.{entry_lines, more_numbers, line_of, command_of, commands_from, entries_after, KeepsRoom, PutsAll}
-use Rattle.iri_cli.proofs.Common.{SinkState, Failed, Answering, AnswersLine, PutsAnswer, told_of, Rules, SinkFailed, begun}
+use Rattle.iri_cli.proofs.Common.{SinkState, Failed, Answering, AnswersLine, PutsAnswer, said_good, Rules, SinkFailed, begun}
 use Rattle.std.proofs.Common.{zero, add-one, slice_get}
 use Rattle.std.specs.Prelude.{unwrap_or}
 use Rattle.std.specs.List.{flat_map}
@@ -130,11 +130,11 @@ entries_left es i e =
 
 -- what is said of an answer, where it was put or the sink failed
 said_of : (rules : Rules) (ko kn : SinkState) (good : Bool) (r : Result (Unit {0}) Failed)
-    (wants : Bool) (text : List ℕ) → PutsAll ko kn r text → good ≡ rules.is_good text → PutsAnswer rules.is_good ko kn wants text (told_of good r)
+    (wants : Bool) (text : List ℕ) → PutsAll ko kn r text → good ≡ rules.is_good text → PutsAnswer rules.is_good ko kn wants text (said_good good r)
 said_of rules ko kn good (Ok x) wants text p e = (p.whole, p.same, e)
 said_of rules ko kn good (Err f) wants text p e = (p.prefix, p.cause, p.later)
 
-on_told : {X : Type 0} (good : Bool) (r : Result (Unit {0}) Failed) → X → OnOk (told_of good r) X
+on_told : {X : Type 0} (good : Bool) (r : Result (Unit {0}) Failed) → X → OnOk (said_good good r) X
 on_told good (Ok x) h = h
 on_told good (Err f) h = tt
 
@@ -167,15 +167,15 @@ pub answers_line : (s : Tests) (against : List ℕ) (kept new : Kept) (answered 
     → count ≡ answered + 1 → new.base ≡ kept.base
     → new.entries ≡ obeyed_by kept.entries (command_of s kept.base (answered + 2) (line_of line))
     → text ≡ answer_to s kept.base kept.entries (line_of line) → good ≡ is_not_bad text → PutsAll ko kn r text
-    → AnswersLine (IsRegisterAt s against new count) at line ko kn (told_of good r)
+    → AnswersLine (IsRegisterAt s against new count) at line ko kn (said_good good r)
 answers_line s against kept new answered count at line text ko kn good r is counted base entries answer good_is p =
     let e = answer_is s against kept answered at line text is answer in
     let test : good ≡ at.rules.is_good text = good_is ∙ ap (λ (rules : Rules). rules.is_good text) (sym is.rules) in
     record {
-      puts = subst (λ t. PutsAnswer at.rules.is_good ko kn (at.rules.wants_memory at.base at.between line) t (told_of good r)) e
+      puts = subst (λ t. PutsAnswer at.rules.is_good ko kn (at.rules.wants_memory at.base at.between line) t (said_good good r)) e
           (said_of at.rules ko kn good r (at.rules.wants_memory at.base at.between line) text p test);
       next = on_told good r (next_at s against kept new answered count at line is counted base entries);
-      room = subst (λ t. KeepsRoom ko.room_left kn.room_left t (told_of good r ≢ Err SinkFailed)) e (line_room good r text p);
+      room = subst (λ t. KeepsRoom ko.room_left kn.room_left t (said_good good r ≢ Err SinkFailed)) e (line_room good r text p);
     }
 
 -- an empty register stands after a base line

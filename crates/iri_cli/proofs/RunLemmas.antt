@@ -6,7 +6,7 @@ use Rattle.iri_cli.proofs.Common.{BadBase, SourceFailed, Memory, LineTooLong, In
 use Rattle.iri_text.proofs.Puts.{room-less}
 use Rattle.iri_text.specs.Sink.{HasRoom}
 use Rattle.iri_cli.specs.run.Run.{RunsOut, Runs, MayRunOut, WantsMemory}
-use Rattle.iri_cli.specs.run.Closes.{Closes}
+use Rattle.iri_cli.specs.inside.Closes.{Closes}
 use Rattle.iri_cli.specs.declared.run.end.End.TheVariants.{SinkFailed}
 use Rattle.iri_cli.proofs.Reading.{left_is}
 use Rattle.iri_cli.proofs.Answered.{taken_is}
@@ -17,43 +17,43 @@ module _ (rules : Rules) (old new : Outside) where
   Meets status x = (status ≡ (ending rules x).status) × Appends old.sink.written new.sink.written (ending rules x).output
 
   finished : (n : ℕ) → Finishes rules n old new → (x : List ℕ) → old.left ≡ Some x → Meets n x
-  finished n p x told =
-      let all = taken_is old.left new.left x p.taken told p.takes p.at_end in (
+  finished n p x known =
+      let all = taken_is old.left new.left x p.taken known p.takes p.at_end in (
         sym p.ends ∙ ap (λ (t : List ℕ). (ending rules t).status) (sym all),
         subst (λ (t : List ℕ). Appends old.sink.written new.sink.written (ending rules t).output) (sym all) p.writes,
       )
 
   decided : (n : ℕ) → Decides rules n old new → (x : List ℕ) → old.left ≡ Some x → Meets n x
-  decided n p x told =
-      let l = left_is new.left x p.taken (subst (λ (s : Option (List ℕ)). Consumes s new.left p.taken) told p.takes) in (
+  decided n p x known =
+      let l = left_is new.left x p.taken (subst (λ (s : Option (List ℕ)). Consumes s new.left p.taken) known p.takes) in (
         sym (p.ends l.0) ∙ ap (λ (t : List ℕ). (ending rules t).status) (sym l.2),
         subst (λ (t : List ℕ). Appends old.sink.written new.sink.written (ending rules t).output) (sym l.2) (p.writes l.0),
       )
 
   may_run_out : RunsOut rules old new → (x : List ℕ) → old.left ≡ Some x → MayRunOut rules x
-  may_run_out p x told =
-      let h = p.first x told in
+  may_run_out p x known =
+      let h = p.first x known in
       record { whole = p.whole; line = p.line; more = h.0; all = h.1; base_taken = p.base_taken; wants = p.wants }
 
   meets_or_runs_out : (e : End) → RanTo rules old new e → (x : List ℕ) → old.left ≡ Some x → ¬ (Rose old.source_faults new.source_faults)
       → e ≢ SinkFailed → Meets (status_of e) x ⊎ ((status_of e ≡ 6) × MayRunOut rules x)
-  meets_or_runs_out Done p x told f k = inl (finished 0 p x told)
-  meets_or_runs_out SomeBad p x told f k = inl (finished 1 p x told)
-  meets_or_runs_out BadBase p x told f k = inl (⊎_elim (λ q. decided 3 q x told) (λ q. finished 3 q x told) p)
-  meets_or_runs_out SourceFailed p x told f k = absurd (f p.source)
-  meets_or_runs_out SinkFailed p x told f k = absurd (k refl)
-  meets_or_runs_out Memory p x told f k = inr (refl, may_run_out p x told)
-  meets_or_runs_out LineTooLong p x told f k = inl (decided 7 p x told)
-  meets_or_runs_out InputTooLong p x told f k = inl (decided 8 p x told)
+  meets_or_runs_out Done p x known f k = inl (finished 0 p x known)
+  meets_or_runs_out SomeBad p x known f k = inl (finished 1 p x known)
+  meets_or_runs_out BadBase p x known f k = inl (⊎_elim (λ q. decided 3 q x known) (λ q. finished 3 q x known) p)
+  meets_or_runs_out SourceFailed p x known f k = absurd (f p.source)
+  meets_or_runs_out SinkFailed p x known f k = absurd (k refl)
+  meets_or_runs_out Memory p x known f k = inr (refl, may_run_out p x known)
+  meets_or_runs_out LineTooLong p x known f k = inl (decided 7 p x known)
+  meets_or_runs_out InputTooLong p x known f k = inl (decided 8 p x known)
 
   -- Where the source tells its bytes and doesn't fail, and the sink is known to have room, status and output are those of the ending, or
   -- allocation failed.
   pub completes_in_room : (status : ℕ) → Runs rules old new status → (x : List ℕ) → old.left ≡ Some x
       → ¬ (Rose old.source_faults new.source_faults) → HasRoom old.sink.room_left (length (ending rules x).output)
       → Meets status x ⊎ ((status ≡ 6) × MayRunOut rules x)
-  completes_in_room status r x told f k =
+  completes_in_room status r x known f k =
       subst (λ (n : ℕ). Meets n x ⊎ ((n ≡ 6) × MayRunOut rules x)) (sym r.status_is)
-      (meets_or_runs_out r.end r.ran.to x told f ((r.ran.room x told).holds k))
+      (meets_or_runs_out r.end r.ran.to x known f ((r.ran.room x known).holds k))
 
   ran_out : (e : End) → RanTo rules old new e → status_of e ≡ 6 → RunsOut rules old new
   ran_out Memory p h = p
@@ -83,8 +83,8 @@ pub closed : (rules : Rules) (lo ln : Option (List ℕ)) (so sn : ℕ) (ko km kn
 closed rules lo ln so sn ko km kn end last r c = ⊎_elim same broken c.ends
   where
     room : (x : List ℕ) → lo ≡ Some x → KeepsRoom ko.room_left kn.room_left (ending rules x).output (last ≢ SinkFailed)
-    room x told =
-        let k = r.room x told in
+    room x known =
+        let k = r.room x known in
         record {
           holds = λ h failed. k.holds h (sym ((c.room).holds
               (k.left 0 (room-less ko.room_left (length (ending rules x).output) (length (ending rules x).output + 0) (omega arith) h)))
@@ -93,7 +93,7 @@ closed rules lo ln so sn ko km kn end last r c = ⊎_elim same broken c.ends
         }
 
     prefix : (x : List ℕ) → lo ≡ Some x → AppendsPrefix ko.written kn.written (ending rules x).output
-    prefix x told = subst (λ (w : Option (List ℕ)). AppendsPrefix ko.written w (ending rules x).output) (sym c.kept) (r.prefix x told)
+    prefix x known = subst (λ (w : Option (List ℕ)). AppendsPrefix ko.written w (ending rules x).output) (sym c.kept) (r.prefix x known)
 
     writes : (bytes : List ℕ) → Appends ko.written km.written bytes → Appends ko.written kn.written bytes
     writes bytes p = subst (λ (w : Option (List ℕ)). Appends ko.written w bytes) (sym c.kept) p

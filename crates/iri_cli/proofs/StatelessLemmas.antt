@@ -20,7 +20,8 @@ module _ (answer : Tests → List ℕ → List ℕ → List ℕ) (takes_memory :
     answers_text ko kn r text text_is p room = record {
       puts =
           let whole = at.rules.answer at.base at.between line in
-          puts_answer at.rules ko kn r (at.rules.wants_memory at.base at.between line) whole (ap (λ (r : Rules). r.is_good whole) (sym is.rules))
+          puts_answer is_ok at.rules.is_good ko kn r false (at.rules.wants_memory at.base at.between line) whole
+          (ap (λ (r : Rules). r.is_good whole) (sym is.rules)) (λ _ h. absurd (cc h))
           (subst (λ t. PutsAnswer is_ok ko kn false t r) (text_is ∙ answer_is) p);
       next = on_ok r next_at;
       room = room_text (text_is ∙ answer_is) room;

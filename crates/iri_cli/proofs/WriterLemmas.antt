@@ -68,7 +68,7 @@ module _ (lo lm : Option (List ℕ)) (fo fm ko km kn status result : ℕ) (hands
     fails_lines later rose = inl (record {
       end = SinkFailed;
       status_is = refl;
-      ran = ran_by [] (omega (arith, later.1, rose.0)) (λ x told. (_, refl)) (untold_prefix []) (no_room []) later.0 (omega (arith, later.1, rose.1));
+      ran = ran_by [] (omega (arith, later.1, rose.0)) (λ x known. (_, refl)) (untold_prefix []) (no_room []) later.0 (omega (arith, later.1, rose.1));
     })
 
     same_later : mid ≡ old → (fo ≤ fm) × (ko ≤ km)

@@ -1,4 +1,8 @@
 -- What private contracts cite.
+pub mod Read
+pub mod Answering
+pub mod Steps
+pub mod Closes
 pub mod ExpandAt
 pub mod DocsAt
 pub mod Opening

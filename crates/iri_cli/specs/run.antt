@@ -4,8 +4,4 @@ pub mod Ending
 pub mod Words
 pub mod Run
 pub mod Buffers
-pub mod Read
-pub mod Steps
-pub mod Answering
-pub mod Closes
 pub mod Refused

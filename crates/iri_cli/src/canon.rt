@@ -10,7 +10,7 @@ ghost use Rattle.iri_normal.specs.Resolver.{base_text};
 ghost use Rattle.iri_cli.specs.canon.Answers.{refusal};
 ghost use Rattle.iri_normal.specs.Answers.{answer_in};
 ghost use Rattle.iri_cli.specs.canon.Rules.{is_ok};
-ghost use Rattle.iri_cli.specs.run.Answering.{PutsAnswer};
+ghost use Rattle.iri_cli.specs.inside.Answering.{PutsAnswer};
 ghost use Rattle.iri_cli.specs.declared.run.answers.AnswerError.TheVariants.{SinkFailed};
 ghost use Rattle.iri_text.specs.LineEnds.{line_feed};
 
@@ -20,7 +20,7 @@ pub(crate) mod prepared;
 use crate::canon::prepared::prepare_base;
 use crate::run::answers::{AnswerError, Answers, BaseError};
 use crate::run::buffers::room_for;
-use crate::run::puts::{put_bad, put_good_text, told};
+use crate::run::puts::{put_bad, put_good_text, say_good};
 use iri_grammar::spec::Spec;
 use iri_normal::canonical::show_canonical_in;
 use iri_normal::mode::CanonMode;
@@ -113,9 +113,9 @@ pub(crate) fn put_answer<S: Spec, O: Sink>(
     match SplitView::<S, Reference>::try_from_bytes(line) {
         Ok(reference) => {
             room_for(output, resolver.base().len() + line.len() + 4);
-            told(true, put_good(sink, output, mode, resolver, &reference))
+            say_good(true, put_good(sink, output, mode, resolver, &reference))
         }
-        Err(error) => told(false, put_bad(sink, error.kind().description())),
+        Err(error) => say_good(false, put_bad(sink, error.kind().description())),
     }
 }
 

@@ -6,7 +6,7 @@ ghost use Rattle.iri_text.specs.Sink.{PutsAll, sink_state};
 
 use crate::expand::{expansion_buffer, put_template};
 use crate::run::answers::{AnswerError, Answers, BaseError};
-use crate::run::puts::told;
+use crate::run::puts::say_good;
 use iri_docs::doc_error::DocError;
 use iri_docs::read::read_document;
 use iri_grammar::spec::Spec;
@@ -74,7 +74,7 @@ impl<S: Spec> Answers<S> for Docs {
             ),
             Err(error) => match error {
                 DocError::Memory => Err(AnswerError::Memory),
-                _ => told(false, put_refusal(sink, error)),
+                _ => say_good(false, put_refusal(sink, error)),
             },
         }
     }

@@ -8,7 +8,7 @@ ghost use Rattle.iri_normal.specs.Resolver.{base_text};
 ghost use Rattle.iri_cli.specs.run.Limits.{longest_line, answer_room};
 ghost use Rattle.iri_cli.specs.canon.Answers.{refusal};
 ghost use Rattle.iri_cli.specs.canon.Rules.{is_ok};
-ghost use Rattle.iri_cli.specs.run.Answering.{PutsAnswer};
+ghost use Rattle.iri_cli.specs.inside.Answering.{PutsAnswer};
 ghost use Rattle.iri_cli.specs.inside.Opening.{RefusesLine};
 ghost use Rattle.iri_cli.specs.expand.Answers.{expansion_answer, template_answer};
 ghost use Rattle.iri_docs.specs.Expanded.{expansion_limit, within_limit};
@@ -23,7 +23,7 @@ use crate::canon::{base_of, put_answer};
 use crate::expand::line::{Said, line_of};
 use crate::expand::variables::apply;
 use crate::run::answers::{AnswerError, Answers, BaseError};
-use crate::run::puts::{put_bad_line, put_number, told};
+use crate::run::puts::{put_bad_line, put_number, say_good};
 use iri_docs::expand::EXPANSION_LIMIT;
 use iri_grammar::spec::Spec;
 use iri_normal::mode::CanonMode;
@@ -77,7 +77,7 @@ fn put_expansion<S: Spec, O: Sink>(
             &resolver,
             text.as_bytes(),
         ),
-        Err(CapacityOverflowError) => told(false, sink.put_all(b"bad expansion too long\n")),
+        Err(CapacityOverflowError) => say_good(false, sink.put_all(b"bad expansion too long\n")),
     }
 }
 
@@ -104,7 +104,7 @@ pub(crate) fn put_template<'a, S: Spec, O: Sink>(
 {
     match Expanded::<'_, S, SimpleContext>::try_from_bytes(template, values) {
         Ok(expanded) => put_expansion(sink, output, expansion, resolver, &expanded),
-        Err(error) => told(false, put_refusal(sink, error)),
+        Err(error) => say_good(false, put_refusal(sink, error)),
     }
 }
 
@@ -176,7 +176,7 @@ impl<S: Spec> Answers<S> for Expand {
                 &self.values,
                 template,
             ),
-            Said::Bad => told(false, put_bad_line(sink)),
+            Said::Bad => say_good(false, put_bad_line(sink)),
         }
     }
 

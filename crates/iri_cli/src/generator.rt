@@ -1,5 +1,4 @@
-// The command `gen`: references that are made by a counter, and what is told of their canonical
-// texts.
+// The command `gen`: references that are made by a counter, and the totals of their canonical texts.
 ghost use Rattle.std.specs.Prelude.{◌≡◌, ◌≤◌, ◌<◌, ◌+◌, ◌*◌, ◌%◌, ◌^◌, ◌++◌, None, OnOk, IfOk, length, sum};
 ghost use Rattle.std.specs.Prelude.{◌≢◌, ◌⊎◌, string_bytes};
 ghost use Rattle.iri_text.specs.Sink.{KeepsRoom, sink_state};
@@ -118,7 +117,7 @@ fn sum_of(bytes: &[u8]) -> u128
     total
 }
 
-// What is told of the canonical texts of so many references.
+// The totals of the canonical texts of so many references.
 fn totals_of<S: Spec>(
     alloc: Global,
     resolver: FixedBaseResolver<'_, S>,
@@ -151,7 +150,7 @@ fn base_resolver<S: Spec>() -> FixedBaseResolver<'static, S>
     resolver_of::<S>(BASE.as_bytes())
 }
 
-// The three lines that tell of the canonical texts of so many references.
+// The three lines with the totals of the canonical texts of so many references.
 fn gen_lines<S: Spec>(alloc: Global, count: u32) -> Result<String, AllocError>
     requires { count ≤ most_references }
     ensures { IfOk result (λ t. string_bytes t ≡ gen_text S.tests count) }

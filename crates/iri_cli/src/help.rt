@@ -1,4 +1,4 @@
-//! What the program tells of itself.
+//! What the program writes of itself.
 ghost use Rattle.std.specs.Prelude.{◌≡◌, ◌≢◌, MatchOption};
 ghost use Rattle.iri_text.specs.Sink.{KeepsRoom, sink_state};
 ghost use Rattle.iri_cli.specs.help.Notices.{notice_text, PutsText};
@@ -8,7 +8,7 @@ ghost use Rattle.iri_cli.specs.declared.help.Notice.{Notice};
 use crate::run::end::{End, finish, status};
 use iri_text::{Failed, Sink};
 
-/// A text that the program tells of itself.
+/// A text that the program writes of itself.
 #[derive(Clone, Copy)]
 pub enum Notice {
     /// The commands, their answers and the statuses.

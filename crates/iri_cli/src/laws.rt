@@ -18,7 +18,7 @@ ghost use Rattle.iri_cli.specs.run.Run.{outside, MayRunOut, Runs};
 use iri_grammar::spec::Spec;
 use iri_normal::mode::CanonMode;
 
-/// Over plain bytes, and a sink over memory that is told no failing calls and has room for the
+/// Over plain bytes, and a sink over memory that has no failing calls and has room for the
 /// output of their ending, a run has that ending's status and writes its output, or allocation
 /// failed at a line that takes memory.
 pub fn run_over_memory()

@@ -20,7 +20,7 @@
 //!   expansion: both answer a line by the base and that line alone.
 //! - `robots` keeps the records of a robots file that lines feed, and tells of each link whether
 //!   they allow the crawler of a product token to fetch it (RFC 9309).
-//! - `gen` makes references by a counter, and tells how many bytes their canonical texts have and
+//! - `gen` makes references by a counter, and writes how many bytes their canonical texts have and
 //!   the sum of these bytes' values.
 //!
 //! Proved: the contracts of `run`, `run_to_writer`, `canon_lines` and `canon_lines_in`. Each status comes only by
@@ -33,7 +33,7 @@
 //! patterns of a robots file allow. `canon_lines` and `canon_lines_in` are given no allocator, and never answer that
 //! allocation failed; where it fails at a line of another command, that line takes memory by the
 //! command's rules, and the lines before it were answered. A sink that is known to have room for the
-//! output doesn't fail: over a `PlainSource` and a `MemorySink` that is told no failing calls and has
+//! output doesn't fail: over a `PlainSource` and a `MemorySink` that has no failing calls and has
 //! that room, status and output are those of `ending` alone, but that allocation may fail. The text of `gen` is that of
 //! specs/generator/References.antt, and those of `--help` and `--version` are constants of `help`.
 //!

@@ -18,7 +18,7 @@ pub(crate) mod line;
 use crate::register::line::{Asked, line_of};
 use crate::run::answers::{AnswerError, Answers, BaseError};
 use crate::run::opening::own_base;
-use crate::run::puts::{put_bad, put_bad_line, put_number, told};
+use crate::run::puts::{put_bad, put_bad_line, put_number, say_good};
 use iri_grammar::error::ErrorKind;
 use iri_grammar::spec::Spec;
 use iri_normal::resolver::FixedBaseResolver;
@@ -241,7 +241,7 @@ impl<S: Spec> Answers<S> for Registers<S> {
         ) {
             Ok(reply) => {
                 self.answered += 1;
-                told(is_good(reply), put_reply(sink, reply))
+                say_good(is_good(reply), put_reply(sink, reply))
             }
             Err(_) => Err(AnswerError::Memory),
         }

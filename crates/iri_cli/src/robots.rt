@@ -32,7 +32,7 @@ use crate::run::MEMORY;
 use crate::run::answers::{AnswerError, Answers, BaseError};
 use crate::run::buffers::CanonBuffers;
 use crate::run::opening::run_lines;
-use crate::run::puts::{put_bad, put_bad_line, put_line, told};
+use crate::run::puts::{put_bad, put_bad_line, put_line, say_good};
 use iri_grammar::spec::Spec;
 use iri_normal::resolver::FixedBaseResolver;
 use iri_robots::{Robots, RobotsError, Verdict, subject_of_split};
@@ -98,7 +98,7 @@ fn put_verdict<S: Spec, O: Sink>(
         ++ (text target.entry ++ line_feed ∷ [])) result }
 {
     match verdict_word(site, target) {
-        Ok(word) => told(true, put_line(sink, word, target.as_str())),
+        Ok(word) => say_good(true, put_line(sink, word, target.as_str())),
         Err(_) => Err(AnswerError::Memory),
     }
 }
@@ -139,7 +139,7 @@ fn put_answer<S: Spec, O: Sink>(
             Ok(()) => put_verdict(sink, site, RiStr::<S>::from_valid(buffer)),
             Err(_) => Err(AnswerError::Memory),
         },
-        Err(error) => told(false, put_bad(sink, error.kind().description())),
+        Err(error) => say_good(false, put_bad(sink, error.kind().description())),
     }
 }
 
@@ -194,7 +194,7 @@ impl<S: Spec> Answers<S> for Crawls {
             Said::Asks(reference) => {
                 put_answer(sink, resolver, &self.site, &mut self.target, reference)
             }
-            Said::Bad => told(false, put_bad_line(sink)),
+            Said::Bad => say_good(false, put_bad_line(sink)),
         }
     }
 

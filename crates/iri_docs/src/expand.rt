@@ -99,7 +99,8 @@ pub fn expand_document<S: Spec>(
     expand_document_against(alloc, &FixedBaseResolver::new(base), document)
 }
 
-/// The same against a resolver's base, which a program that expands many documents prepares once.
+/// The canonical text of the expansion of a document's template with its values, as [`expand_document`] has it, against
+/// the base of a resolver, which a program that expands many documents prepares once.
 ///
 /// # Errors
 ///

@@ -54,7 +54,7 @@ fn pairs_fault(object: &Map<String, Json>) -> Option<DocError>
     None
 }
 
-// The first fault of a value. No memory is taken.
+// The first fault of a value. It allocates nothing.
 pub(crate) fn value_fault(value: &Json) -> Option<DocError>
     ensures { result ≡ result_err (value_of (view value.now)) }
 {

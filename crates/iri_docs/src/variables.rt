@@ -19,7 +19,7 @@ use iri_template::var_name::VarName;
 use serde_json::{Map, Value as Json};
 use std::alloc::Global;
 
-// The first fault of a variable. No memory is taken.
+// The first fault of a variable. It allocates nothing.
 fn variable_fault(key: &str, value: &Json) -> Option<DocError>
     ensures { result ≡ result_err (variable key.now (view value.now)) }
 {

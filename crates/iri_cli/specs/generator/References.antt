@@ -1,4 +1,4 @@
--- The command `gen`: references that are made by a counter, and what is told of their canonical texts.
+-- The command `gen`: references that are made by a counter, and the totals of their canonical texts.
 use Rattle.std.specs.Prelude.{ℕ, zero, suc, ◌+◌, ◌*◌, ◌/◌, ◌%◌, ◌^◌, codes, decimal, sum, List, [], ◌∷◌, ◌++◌, length, get_or}
 use Rattle.iri_grammar.specs.Classes.{Tests}
 use Rattle.iri_normal.specs.NormalForm.{canonical}

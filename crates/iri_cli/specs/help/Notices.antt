@@ -1,4 +1,4 @@
--- The texts that the program tells of itself, and how they are told.
+-- The texts that the program writes of itself, and how they are written.
 use Rattle.std.specs.Prelude.{◌≡◌, ◌≢◌, ◌⊎◌, ◌≤◌, ℕ, List}
 use Rattle.iri_text.specs.Count.{Rose}
 use Rattle.iri_text.specs.Sink.{Appends, AppendsPrefix, KeepsRoom, SinkState}

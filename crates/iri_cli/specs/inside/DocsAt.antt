@@ -6,7 +6,7 @@ use Rattle.iri_cli.specs.canon.Answers.{refusal}
 use Rattle.iri_cli.specs.docs.Answers.{docs_answer}
 use Rattle.iri_cli.specs.docs.Rules.{takes_memory}
 use Rattle.iri_cli.specs.inside.StatelessAt.{IsStatelessAt}
-use Rattle.iri_cli.specs.run.Answering.{Answering}
+use Rattle.iri_cli.specs.inside.Answering.{Answering}
 use Rattle.iri_cli.specs.run.Limits.{longest_line, answer_room}
 
 -- It answers each line alone, and has the base, which is taken. Its buffers have room for each expansion, and the capacity for each answer.

@@ -3,7 +3,7 @@ use Rattle.std.specs.Prelude.{◌≡◌, ◌≤◌, ℕ, List, length, None}
 use Rattle.iri_grammar.specs.Classes.{Tests}
 use Rattle.iri_cli.specs.run.Limits.{longest_line, answer_room}
 use Rattle.iri_cli.specs.canon.Answers.{refusal}
-use Rattle.iri_cli.specs.run.Answering.{Answering}
+use Rattle.iri_cli.specs.inside.Answering.{Answering}
 use Rattle.iri_docs.specs.Expanded.{expansion_limit}
 use Rattle.iri_cli.specs.expand.Lines.{Values, values_after}
 use Rattle.iri_cli.specs.expand.Rules.{expand_rules}

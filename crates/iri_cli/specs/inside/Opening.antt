@@ -2,7 +2,7 @@
 use Rattle.std.specs.Prelude.{◌≡◌, ℕ, true, List, [], None, Some, Result, Ok, Err}
 use Rattle.iri_grammar.specs.Classes.{Tests}
 use Rattle.iri_cli.specs.canon.Answers.{refusal}
-use Rattle.iri_cli.specs.run.Answering.{Answering}
+use Rattle.iri_cli.specs.inside.Answering.{Answering}
 use Rattle.iri_cli.specs.run.Ending.{Rules}
 use Rattle.iri_cli.specs.canon.Rules.{canon_rules}
 use Rattle.iri_cli.specs.declared.run.answers.BaseError.{BaseError}

@@ -6,15 +6,15 @@ use Rattle.iri_percent.specs.declared.canon_mode.CanonMode.{CanonMode}
 use Rattle.iri_cli.specs.run.Limits.{longest_line, answer_room}
 use Rattle.iri_cli.specs.canon.Answers.{refusal}
 use Rattle.iri_normal.specs.Answers.{answer_in}
-use Rattle.iri_cli.specs.run.Answering.{Answering}
+use Rattle.iri_cli.specs.inside.Answering.{Answering}
 use Rattle.iri_cli.specs.canon.Rules.{canon_rules_in}
 use Rattle.iri_cli.specs.declared.run.answers.AnswerError.{AnswerError}
 use Rattle.iri_cli.specs.declared.run.answers.AnswerError.TheVariants.{SinkFailed}
 
 -- what is said of an answer that is good or not, where its pieces were put or the sink failed
-abbrev pub told_of : Bool → Result (Unit {0}) Failed → Result Bool AnswerError
-told_of good (Ok x) = Ok good
-told_of good (Err failed) = Err SinkFailed
+abbrev pub said_good : Bool → Result (Unit {0}) Failed → Result Bool AnswerError
+said_good good (Ok x) = Ok good
+said_good good (Err failed) = Err SinkFailed
 
 -- `canon` stands at a base that is taken, holds a text that has the same answers, and its output buffer has the capacity for each of
 -- them.

@@ -2,7 +2,7 @@
 use Rattle.std.specs.Prelude.{◌≡◌, ℕ, List, length}
 use Rattle.iri_grammar.specs.Classes.{Tests}
 use Rattle.iri_register.specs.Kept.{Kept}
-use Rattle.iri_cli.specs.run.Answering.{Answering}
+use Rattle.iri_cli.specs.inside.Answering.{Answering}
 use Rattle.iri_cli.specs.register.Lines.{entries_after}
 use Rattle.iri_cli.specs.register.Rules.{register_rules}
 

@@ -4,7 +4,7 @@ use Rattle.iri_grammar.specs.Classes.{Tests}
 use Rattle.iri_grammar.specs.Split.{split_of}
 use Rattle.iri_robots.specs.Records.{FileRecord}
 use Rattle.iri_text.specs.Sink.{KeepsRoom, SinkState}
-use Rattle.iri_cli.specs.run.Answering.{Answering, PutsAnswer}
+use Rattle.iri_cli.specs.inside.Answering.{Answering, PutsAnswer}
 use Rattle.iri_cli.specs.run.Refused.{is_not_bad}
 use Rattle.iri_cli.specs.robots.Answers.{normal_base}
 use Rattle.iri_cli.specs.robots.Lines.{records_after}

@@ -1,7 +1,7 @@
 -- Where a command stands that answers each line alone.
 use Rattle.std.specs.Prelude.{◌≡◌, ℕ, Bool, List}
 use Rattle.iri_grammar.specs.Classes.{Tests}
-use Rattle.iri_cli.specs.run.Answering.{Answering}
+use Rattle.iri_cli.specs.inside.Answering.{Answering}
 use Rattle.iri_cli.specs.canon.Rules.{stateless_rules}
 
 -- It has the base.

@@ -12,7 +12,7 @@ use iri_normal::mode::CanonMode;
 use iri_text::{Sink, Source};
 
 /// Reads a base line and reference lines, answers each reference line by its canonical text, and gives the program's status. It
-/// takes no memory but the buffers.
+/// allocates nothing.
 ///
 /// - 0: all lines were answered, and each answer begins with `ok `; 1: the same, but some answer doesn't begin so
 /// - 3: the base line is no absolute URI of `S`, and the one line written names its first fault
@@ -35,8 +35,9 @@ pub fn canon_lines<S: Spec, I: Source, O: Sink>(
     canon_lines_in::<S, I, O>(CanonMode::Default, buffers, source, sink)
 }
 
-/// The same by the rules of a mode; [`canon_lines`] is this call with those of every scheme. By scheme rules, for five
-/// schemes, the default port goes, and beside an authority an empty path becomes `/` (RFC 3986 section 6.2.3).
+/// Reads a base line and reference lines, and answers each as [`canon_lines`] does, by the rules of a mode: that call is
+/// this one with those of every scheme. By scheme rules, for five schemes, the default port goes, and beside an authority
+/// an empty path becomes `/` (RFC 3986 section 6.2.3).
 pub fn canon_lines_in<S: Spec, I: Source, O: Sink>(
     mode: CanonMode,
     buffers: CanonBuffers,

@@ -3,8 +3,8 @@ ghost use Rattle.std.specs.Prelude.{◌≡◌, ◌≢◌, ◌≤◌, ℕ, List, 
 ghost use Rattle.iri_text.specs.Sink.{KeepsRoom, sink_state};
 ghost use Rattle.iri_normal.specs.Resolver.{base_text};
 ghost use Rattle.iri_cli.specs.run.Run.{outside_state};
-ghost use Rattle.iri_cli.specs.run.Steps.{end_at, end_of_all};
-ghost use Rattle.iri_cli.specs.run.Answering.{Answering, AnswersLine, AnswersLines, IsReady, ClosesRun, end_of_error};
+ghost use Rattle.iri_cli.specs.inside.Steps.{end_at, end_of_all};
+ghost use Rattle.iri_cli.specs.inside.Answering.{Answering, AnswersLine, AnswersLines, IsReady, ClosesRun, end_of_error};
 ghost use Rattle.iri_cli.specs.declared.run.end.End.TheVariants.{SinkFailed};
 
 use crate::run::answers::{AnswerError, Answers};

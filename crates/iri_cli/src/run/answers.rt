@@ -3,7 +3,7 @@ ghost use Rattle.std.specs.Prelude.{◌≤◌, ℕ, List, length};
 ghost use Rattle.std.specs.Vec.{vec_capacity};
 ghost use Rattle.iri_text.specs.Sink.{PutsAll, sink_state};
 ghost use Rattle.iri_normal.specs.Resolver.{base_text};
-ghost use Rattle.iri_cli.specs.run.Answering.{Answering, AnswersLine};
+ghost use Rattle.iri_cli.specs.inside.Answering.{Answering, AnswersLine};
 ghost use Rattle.iri_cli.specs.run.Ending.{Rules};
 ghost use Rattle.iri_cli.specs.run.Limits.{answer_room, longest_line};
 ghost use Rattle.iri_cli.specs.inside.Opening.{BeginsAsCanon, Opens};
@@ -64,7 +64,7 @@ pub trait Answers<S: Spec>: Drop + Sized {
             → AnswersLine (stands_at self.new (base_text resolver.now)) at line.now
             (state sink.old) (state sink.new) result };
 
-    /// Puts the text after all answers. It takes no memory.
+    /// Puts the text after all answers. It allocates nothing.
     fn close<O: Sink>(&mut self, sink: &mut O) -> Result<(), Failed>
         ensures { let state = sink_state O.written O.faults O.room_left in
             (text : List ℕ) (at : Answering) → stands_at self.old text at

@@ -4,8 +4,8 @@ ghost use Rattle.std.specs.Vec.{vec_capacity};
 ghost use Rattle.iri_text.specs.Sink.{KeepsRoom, sink_state};
 ghost use Rattle.iri_cli.specs.run.Ending.{Rules, base_line};
 ghost use Rattle.iri_cli.specs.run.Buffers.{IsNew};
-ghost use Rattle.iri_cli.specs.run.Steps.{ReadsBase};
-ghost use Rattle.iri_cli.specs.run.Answering.{RefusesBase};
+ghost use Rattle.iri_cli.specs.inside.Steps.{ReadsBase};
+ghost use Rattle.iri_cli.specs.inside.Answering.{RefusesBase};
 ghost use Rattle.iri_cli.specs.declared.run.end.End.TheVariants.{SinkFailed};
 
 use crate::run::end::End;

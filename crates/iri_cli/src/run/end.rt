@@ -2,7 +2,7 @@
 ghost use Rattle.std.specs.Prelude.{◌≡◌};
 ghost use Rattle.iri_text.specs.Sink.{sink_state};
 ghost use Rattle.iri_cli.specs.run.Run.{status_of};
-ghost use Rattle.iri_cli.specs.run.Closes.{Finishes};
+ghost use Rattle.iri_cli.specs.inside.Closes.{Finishes};
 
 use iri_text::{Failed, Sink};
 

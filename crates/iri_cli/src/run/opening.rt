@@ -60,7 +60,7 @@ fn answer_with<S: Spec, A: Answers<S>, I: Source, O: Sink>(
 }
 
 /// Reads a base line and the lines of a command after it, answers each, and gives the program's
-/// status. It takes no memory but the buffers and what the command takes.
+/// status. It allocates nothing but what the command does.
 pub(crate) fn run_lines<S: Spec, A: Answers<S>, I: Source, O: Sink>(
     start: A::Start,
     buffers: CanonBuffers,

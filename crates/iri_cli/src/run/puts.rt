@@ -2,7 +2,7 @@
 ghost use Rattle.std.specs.Prelude.{◌≡◌, [], ◌∷◌, ◌++◌, codes, decimal};
 ghost use Rattle.iri_text.specs.LineEnds.{line_feed};
 ghost use Rattle.iri_text.specs.Sink.{PutsAll, sink_state};
-ghost use Rattle.iri_cli.specs.inside.Puts.{told_of};
+ghost use Rattle.iri_cli.specs.inside.Puts.{said_good};
 ghost use Rattle.iri_cli.specs.run.Refused.{bad_line};
 
 use crate::run::answers::AnswerError;
@@ -57,9 +57,9 @@ pub(crate) fn put_bad_line<O: Sink>(sink: &mut O) -> Result<(), Failed>
     sink.put_all(b"bad line\n")
 }
 
-/// What is answered beside what was put.
-pub(crate) fn told(good: bool, put: Result<(), Failed>) -> Result<bool, AnswerError>
-    ensures { result ≡ told_of good put }
+/// The answer to a line once it was put: whether it is good, or that the sink failed.
+pub(crate) fn say_good(good: bool, put: Result<(), Failed>) -> Result<bool, AnswerError>
+    ensures { result ≡ said_good good put }
 {
     match put {
         Ok(()) => Ok(good),

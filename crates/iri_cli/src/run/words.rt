@@ -40,14 +40,14 @@ pub enum LineCommand<'a> {
     Robots(&'a str),
 }
 
-/// What the program is told to do.
+/// What the words after the program's name ask for.
 #[derive(Clone, Copy)]
 pub enum Command<'a> {
     /// To work on the lines of an input.
     Lines(LineCommand<'a>, Grammar),
-    /// To make so many references by a counter, and to tell of their canonical texts.
+    /// To make so many references by a counter, and to write the totals of their canonical texts.
     Gen(Grammar, u32),
-    /// To write what is told of the program.
+    /// To write a text about the program.
     Tell(Notice),
 }
 

@@ -1,7 +1,7 @@
 use Rattle.iri_cli.proofs.Common.{◌≡◌, ℕ, List, ◌≤◌, ◌+◌, ◌++◌, ◌∷◌, [], ◌∙◌, None, Some, true, false, ap, arith, length, refl, rules, sym}
 use Rattle.iri_cli.proofs.Common.{codes, base_text, Tests, bytes_fault, reference_fault, ErrorKind, CanonMode, canonical_in, answer_in}
 use Rattle.iri_cli.proofs.Common.{answer_by, good_answer, bad_answer}
-use Rattle.iri_cli.proofs.CanonLemmas.{has_room, told_line, told_room}
+use Rattle.iri_cli.proofs.CanonLemmas.{has_room, said_line, said_room}
 use Rattle.iri_cli.proofs.PutLemmas.{puts_so}
 use Rattle.iri_cli.proofs.canon.put_answer.Goals as goal
 
@@ -29,8 +29,8 @@ pub returns-in-Ok : goal.returns-in-Ok
 returns-in-Ok g c =
     let is = answer_of_reference g.S.Spec.tests c.args.mode (base_text c.args.resolver.now) _ _ c.in-Ok.ensures.fault c.in-Ok.ensures.text in
     record {
-      puts = told_line true _ _ _ _ c.told.ensures refl is c.put_good.ensures;
-      room = told_room true _ _ _ _ c.told.ensures is c.put_good.ensures;
+      puts = said_line true _ _ _ _ c.say_good.ensures refl is c.put_good.ensures;
+      room = said_room true _ _ _ _ c.say_good.ensures is c.put_good.ensures;
       capacity = search rules;
     }
 
@@ -40,7 +40,7 @@ returns-in-Err g c =
     (c.in-Err.ensures.fault ∙ ap Some (sym c.kind.ensures)) in
     let puts = puts_so (ap (λ t. codes "bad " ++ (t ++ 10 ∷ [])) c.description.ensures) c.put_bad.ensures in
     record {
-      puts = told_line false _ _ _ _ c.told-in-Err.ensures refl is puts;
-      room = told_room false _ _ _ _ c.told-in-Err.ensures is puts;
+      puts = said_line false _ _ _ _ c.say_good-in-Err.ensures refl is puts;
+      room = said_room false _ _ _ _ c.say_good-in-Err.ensures is puts;
       capacity = search rules;
     }

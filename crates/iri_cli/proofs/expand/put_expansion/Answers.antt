@@ -2,7 +2,7 @@ use Rattle.iri_cli.proofs.Common.{sink_state, ◌≡◌, ◌<◌, ◌≤◌, ◌
 use Rattle.iri_cli.proofs.Common.{base_text, value_in, expansion_limit, answer_in, PutsAnswer}
 use Rattle.iri_percent.specs.declared.canon_mode.CanonMode.TheVariants.{Default}
 use Rattle.iri_template.specs.ExpandedTexts.{expanded_text}
-use Rattle.iri_cli.proofs.CanonLemmas.{told_line, told_room}
+use Rattle.iri_cli.proofs.CanonLemmas.{said_line, said_room}
 use Rattle.iri_cli.proofs.PutLemmas.{room_text}
 use Rattle.iri_cli.proofs.ExpandLemmas.{long_answer, short_answer}
 use Rattle.iri_cli.proofs.expand.put_expansion.Goals as goal
@@ -34,7 +34,7 @@ returns-in-Err g c =
     let is = long_answer g.S.Spec.tests (base_text c.args.resolver) (expanded_text g.S.Spec.tests value_in c.args.expanded.now)
     (omega (arith, long, c.requires.room)) in
     record {
-      puts = told_line false _ _ _ _ c.told.ensures refl is c.put_all.ensures;
-      room = told_room false _ _ _ _ c.told.ensures is c.put_all.ensures;
+      puts = said_line false _ _ _ _ c.say_good.ensures refl is c.put_all.ensures;
+      room = said_room false _ _ _ _ c.say_good.ensures is c.put_all.ensures;
       capacity = search rules;
     }

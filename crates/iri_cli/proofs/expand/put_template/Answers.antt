@@ -2,7 +2,7 @@ use Rattle.iri_cli.proofs.Common.{sink_state, ◌≡◌, ◌∙◌, ℕ, List, N
 use Rattle.iri_cli.proofs.Common.{value_in, expansion, pieces_of, PutsAnswer, expansion_answer, template_answer, Values}
 use Rattle.iri_docs.specs.Expanded.{within_limit}
 use Rattle.iri_template.specs.TypeFaults.{expansion_fault}
-use Rattle.iri_cli.proofs.CanonLemmas.{told_line, told_room}
+use Rattle.iri_cli.proofs.CanonLemmas.{said_line, said_room}
 use Rattle.iri_cli.proofs.PutLemmas.{room_text}
 use Rattle.iri_cli.proofs.ExpandLemmas.{template_expanded, template_refused}
 use Rattle.iri_cli.proofs.expand.put_template.Goals as goal
@@ -31,7 +31,7 @@ returns-in-Err g c =
     let is = template_refused g.S.Spec.tests (base_text c.args.resolver) (value_in c.args.values.now) c.args.template.now c.in-Err.error
     c.in-Err.ensures.fault in
     record {
-      puts = told_line false _ _ _ _ c.told.ensures refl is c.put_refusal.ensures;
-      room = told_room false _ _ _ _ c.told.ensures is c.put_refusal.ensures;
+      puts = said_line false _ _ _ _ c.say_good.ensures refl is c.put_refusal.ensures;
+      room = said_room false _ _ _ _ c.say_good.ensures is c.put_refusal.ensures;
       capacity = search rules;
     }

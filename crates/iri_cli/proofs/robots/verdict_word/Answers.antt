@@ -5,7 +5,7 @@ use Rattle.iri_robots.specs.Records.{rules_for}
 use Rattle.iri_robots.specs.declared.robots.Verdict.TheVariants.{Allow}
 use Rattle.iri_types.specs.Texts.{text}
 use Rattle.iri_cli.specs.inside.Sites.{is_of_site}
-use Rattle.iri_cli.proofs.RobotsLemmas.{allow_told, disallow_told, word_is}
+use Rattle.iri_cli.proofs.RobotsLemmas.{allow_is, disallow_is, word_is}
 use Rattle.iri_cli.proofs.robots.verdict_word.Goals as goal
 
 pub returns-then-not-has : goal.returns-then-not-has
@@ -23,8 +23,8 @@ returns-in-Allow g c =
     let is = c.has.ensures ∙ ap (λ t. is_of_site site.scheme site.authority (split_of t)) c.of-target.ensures in
     let here : is_of_site site.scheme site.authority (split_of (text c.args.target)) ≡ true = cc (is, c.if-not-has.false) in
     let subject_is = c.as_str.ensures ∙ (c.in-Ok.ensures ∙ ap (λ t. subject (split_of t)) c.of-target.ensures) in
-    let told = subst (λ t. (c.verdict.result ≡ Allow) ↔ IsAllowed rules t) subject_is c.verdict.ensures in
-    word_is _ (is_allowed rules target) _ _ here (allow_told rules target c.verdict.result told c.in-Allow.is)
+    let verdict = subst (λ t. (c.verdict.result ≡ Allow) ↔ IsAllowed rules t) subject_is c.verdict.ensures in
+    word_is _ (is_allowed rules target) _ _ here (allow_is rules target c.verdict.result verdict c.in-Allow.is)
 
 pub returns-in-Ok : goal.returns-in-Ok
 returns-in-Ok g c =
@@ -34,5 +34,5 @@ returns-in-Ok g c =
     let is = c.has.ensures ∙ ap (λ t. is_of_site site.scheme site.authority (split_of t)) c.of-target.ensures in
     let here : is_of_site site.scheme site.authority (split_of (text c.args.target)) ≡ true = cc (is, c.if-not-has.false) in
     let subject_is = c.as_str.ensures ∙ (c.in-Ok.ensures ∙ ap (λ t. subject (split_of t)) c.of-target.ensures) in
-    let told = subst (λ t. (c.verdict.result ≡ Allow) ↔ IsAllowed rules t) subject_is c.verdict.ensures in
-    word_is _ (is_allowed rules target) _ _ here (disallow_told rules target c.verdict.result told c.in-Disallow.is)
+    let verdict = subst (λ t. (c.verdict.result ≡ Allow) ↔ IsAllowed rules t) subject_is c.verdict.ensures in
+    word_is _ (is_allowed rules target) _ _ here (disallow_is rules target c.verdict.result verdict c.in-Disallow.is)

@@ -5,7 +5,7 @@ use Rattle.iri_docs.specs.Held.{held}
 use Rattle.iri_cli.specs.docs.Rules.{docs_rules}
 use Rattle.iri_cli.proofs.MemoryLemmas.{answers_memory}
 use Rattle.iri_cli.proofs.DocsLemmas.{answers_docs, bad, docs_read}
-use Rattle.iri_cli.proofs.CanonLemmas.{told_line, told_room}
+use Rattle.iri_cli.proofs.CanonLemmas.{said_line, said_room}
 use Rattle.iri_cli.proofs.StatelessLemmas.{answers_text}
 use Rattle.iri_cli.proofs.docs.DocsAnswers.answer.Goals as goal
 
@@ -36,5 +36,5 @@ returns-in_default g c = λ at is.
     answers_docs is refl (omega arith)
     (answers_text _ _ s base at is.stands _ _ _ _ _
     (docs_read s base c.args.line.now (Err c.in-Err.error) (c.in-Err.ensures.answer c.in_default.not-Memory))
-    (told_line false _ text text _ c.told.ensures (bad c.in-Err.error) refl c.put_refusal.ensures)
-    (told_room false _ text text _ c.told.ensures refl c.put_refusal.ensures))
+    (said_line false _ text text _ c.say_good.ensures (bad c.in-Err.error) refl c.put_refusal.ensures)
+    (said_room false _ text text _ c.say_good.ensures refl c.put_refusal.ensures))

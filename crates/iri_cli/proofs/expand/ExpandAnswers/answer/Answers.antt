@@ -4,7 +4,7 @@ use Rattle.iri_cli.specs.expand.Lines.{bad, changes, expands}
 use Rattle.iri_cli.specs.inside.Said.{change_of}
 use Rattle.iri_cli.specs.expand.Rules.{expand_rules, takes_memory}
 use Rattle.iri_cli.proofs.MemoryLemmas.{answers_memory}
-use Rattle.iri_cli.proofs.CanonLemmas.{told_line, told_room}
+use Rattle.iri_cli.proofs.CanonLemmas.{said_line, said_room}
 use Rattle.iri_cli.proofs.ExpandLemmas.{answers_nothing, answers_text, template_good}
 use Rattle.iri_cli.proofs.expand.ExpandAnswers.answer.Goals as goal
 
@@ -30,5 +30,5 @@ returns-in-Expands g c = λ at is.
 pub returns-in-Bad : goal.returns-in-Bad
 returns-in-Bad g c = λ at is.
     answers_text _ _ _ _ _ at is c.args.line.now bad (sym (c.in-Bad.ensures {u = tt})) _ _ _ _ _ refl (omega arith) refl refl
-    (told_line false _ bad_line _ _ c.told.ensures refl refl c.put_bad_line.ensures)
-    (told_room false _ bad_line _ _ c.told.ensures refl c.put_bad_line.ensures)
+    (said_line false _ bad_line _ _ c.say_good.ensures refl refl c.put_bad_line.ensures)
+    (said_room false _ bad_line _ _ c.say_good.ensures refl c.put_bad_line.ensures)

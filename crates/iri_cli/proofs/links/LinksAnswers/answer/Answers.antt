@@ -32,10 +32,10 @@ returns-in-Err-Fault g c = λ at is.
     let refused : RefusedBy s line (Fault c.in-Err-Fault.kind c.in-Err-Fault.place) =
     subst (RefusedBy s line) c.in-Err-Fault.field-0-is c.in-Err-Fault.ensures in
     let text = field_refusal (record { kind = c.in-Err-Fault.kind; place = c.in-Err-Fault.place }) in
-    answers_text links_answer takes_memory s base at is line (state c.args.sink.now) (state c.put_fault.new.sink) c.told-in-Err-Fault.result text
+    answers_text links_answer takes_memory s base at is line (state c.args.sink.now) (state c.put_fault.new.sink) c.say_good-in-Err-Fault.result text
     (refusal_answered s base line _ refused.0)
-    (told_line false c.put_fault.result text text c.told-in-Err-Fault.result c.told-in-Err-Fault.ensures refl refl c.put_fault.ensures)
-    (told_room false c.put_fault.result text text c.told-in-Err-Fault.result c.told-in-Err-Fault.ensures refl c.put_fault.ensures)
+    (said_line false c.put_fault.result text text c.say_good-in-Err-Fault.result c.say_good-in-Err-Fault.ensures refl refl c.put_fault.ensures)
+    (said_room false c.put_fault.result text text c.say_good-in-Err-Fault.result c.say_good-in-Err-Fault.ensures refl c.put_fault.ensures)
 
 pub returns-in-Err-Memory : goal.returns-in-Err-Memory
 returns-in-Err-Memory g c = λ at is.

@@ -28,7 +28,7 @@ returns-in-Ok g c = λ at is.
     let state = sink_state g.O.Sink.written g.O.Sink.faults g.O.Sink.room_left in
     let old = state c.args.sink.now in
     let new = state c.put_reply.new.sink in
-    subst (AnswersLine (IsRegisterAt s b kept_new (n + 1)) at c.args.line.now old new) (sym c.told.ensures)
+    subst (AnswersLine (IsRegisterAt s b kept_new (n + 1)) at c.args.line.now old new) (sym c.say_good.ensures)
     (answers_line s b kept kept_new n (n + 1) at c.args.line.now (reply_text c.in-Ok.reply) old new c.is_good.result c.put_reply.result
     is refl c.reply_to.ensures.base
     (c.in-Ok.ensures.entries ∙ ap (λ l. obeyed_by kept.entries (command_of s b (n + 2) l)) c.line_of.ensures

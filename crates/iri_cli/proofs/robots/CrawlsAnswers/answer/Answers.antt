@@ -1,5 +1,5 @@
 use Rattle.iri_cli.proofs.Common.{◌++◌, ◌∙◌, [], Ok, ap, false, refl, string_bytes, subst, sym, true, sink_state, base_text, record_texts}
-use Rattle.iri_cli.proofs.Common.{AnswersLine, told_of, answer_to, robots_rules, IsRobotsAt}
+use Rattle.iri_cli.proofs.Common.{AnswersLine, said_good, answer_to, robots_rules, IsRobotsAt}
 use Rattle.std.specs.Option.{is_none}
 use Rattle.iri_cli.specs.run.Refused.{bad_line}
 use Rattle.iri_cli.specs.robots.Memory.{takes_memory}
@@ -44,9 +44,9 @@ returns-in-Bad g c = λ at is.
     let robots = c.args.self.now.site.robots in
     let base = base_text c.args.resolver.now in
     let records = record_texts robots.records.items in
-    let told = told_of false c.put_bad_line.result in
-    subst (AnswersLine _ at _ _ _) (sym c.told.ensures)
-    (answers_line s _ base _ _ records records at c.args.line.now bad_line _ _ told is
+    let said = said_good false c.put_bad_line.result in
+    subst (AnswersLine _ at _ _ _) (sym c.say_good.ensures)
+    (answers_line s _ base _ _ records records at c.args.line.now bad_line _ _ said is
     (ap (answer_to s (string_bytes robots.token) base records) c.in-Bad.ensures)
-    (unfed told records bad c.args.line.now c.in-Bad.ensures refl) (never_memory false c.put_bad_line.result)
+    (unfed said records bad c.args.line.now c.in-Bad.ensures refl) (never_memory false c.put_bad_line.result)
     (replies false c.put_bad_line.result bad_line c.put_bad_line.ensures refl))

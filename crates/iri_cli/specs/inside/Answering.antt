@@ -4,7 +4,7 @@ use Rattle.iri_text.specs.Count.{Rose}
 use Rattle.iri_text.specs.Sink.{Appends, AppendsPrefix, KeepsRoom, SinkState}
 use Rattle.iri_text.specs.Line.{LineState}
 use Rattle.iri_cli.specs.run.Ending.{Rules, base_line}
-use Rattle.iri_cli.specs.run.Read.{HasRead, IsGoing}
+use Rattle.iri_cli.specs.inside.Read.{HasRead, IsGoing}
 use Rattle.iri_cli.specs.run.Run.{Outside, outside, Ran}
 use Rattle.iri_cli.specs.declared.run.answers.AnswerError.{AnswerError}
 use Rattle.iri_cli.specs.declared.run.answers.AnswerError.TheVariants.{SinkFailed as AnswerFailed, Memory as AnswerMemory}

@@ -3,7 +3,7 @@ use Rattle.std.specs.Prelude.{◌≡◌, ◌⊎◌, ◌≤◌, ℕ, Bool, true, 
 use Rattle.iri_text.specs.Line.{LineState}
 use Rattle.iri_text.specs.Sink.{SinkState}
 use Rattle.iri_cli.specs.run.Ending.{Rules}
-use Rattle.iri_cli.specs.run.Read.{HasRead, ReadsAll, IsGoing}
+use Rattle.iri_cli.specs.inside.Read.{HasRead, ReadsAll, IsGoing}
 use Rattle.iri_cli.specs.run.Run.{outside, Ran}
 use Rattle.iri_text.specs.declared.streams.reader.LineFault.{LineFault}
 use Rattle.iri_text.specs.declared.streams.reader.LineFault.TheVariants.{Source, LineTooLong as FaultLineTooLong}
