@@ -4,7 +4,7 @@ ghost use Rattle.iri_cli.specs.links.Answers.{field_refusal};
 
 use crate::canon::base_of;
 use crate::run::answers::{AnswerError, Answers, BaseError};
-use crate::run::puts::{put_bad, told};
+use crate::run::puts::{put_bad, say_good};
 use crate::run::shown::put_good;
 use iri_grammar::spec::Spec;
 use iri_link::{LinkError, LinkKind, read_links_against};
@@ -61,8 +61,8 @@ impl<S: Spec> Answers<S> for Links {
         sink: &mut O,
     ) -> Result<bool, AnswerError> {
         match read_links_against(self.alloc, resolver, line) {
-            Ok(links) => told(true, put_good(sink, &links)),
-            Err(LinkError::Fault(kind, place)) => told(false, put_fault(sink, kind, place)),
+            Ok(links) => say_good(true, put_good(sink, &links)),
+            Err(LinkError::Fault(kind, place)) => say_good(false, put_fault(sink, kind, place)),
             Err(LinkError::Memory) => Err(AnswerError::Memory),
         }
     }

@@ -5,7 +5,7 @@ use Rattle.iri_link.specs.declared.error.LinkError.TheVariants.{Fault, Memory}
 use Rattle.iri_cli.specs.links.Answers.{field_refusal, links_answer}
 use Rattle.iri_cli.specs.links.Memory.{takes_memory}
 use Rattle.iri_cli.specs.links.Rules.{links_rules}
-use Rattle.iri_cli.proofs.CanonLemmas.{told_line, told_room}
+use Rattle.iri_cli.proofs.CanonLemmas.{said_line, said_room}
 use Rattle.iri_cli.proofs.LinksLemmas.{kept_takes, read_answered, refusal_answered}
 use Rattle.iri_cli.proofs.MemoryLemmas.{answers_memory}
 use Rattle.iri_cli.proofs.StatelessLemmas.{answers_text}
@@ -18,10 +18,10 @@ returns-in-Ok g c = λ at is.
     let base = base_text c.args.resolver.now in
     let line = c.args.line.now in
     let text = good_answer (written c.in-Ok.links) in
-    answers_text links_answer takes_memory s base at is line (state c.args.sink.now) (state c.put_good.new.sink) c.told.result text
+    answers_text links_answer takes_memory s base at is line (state c.args.sink.now) (state c.put_good.new.sink) c.say_good.result text
     (read_answered s base line _ c.in-Ok.ensures)
-    (told_line true c.put_good.result text text c.told.result c.told.ensures refl refl c.put_good.ensures)
-    (told_room true c.put_good.result text text c.told.result c.told.ensures refl c.put_good.ensures)
+    (said_line true c.put_good.result text text c.say_good.result c.say_good.ensures refl refl c.put_good.ensures)
+    (said_room true c.put_good.result text text c.say_good.result c.say_good.ensures refl c.put_good.ensures)
 
 pub returns-in-Err-Fault : goal.returns-in-Err-Fault
 returns-in-Err-Fault g c = λ at is.
