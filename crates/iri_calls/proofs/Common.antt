@@ -34,6 +34,7 @@ pub use Rattle.iri_calls.specs.declared.status.TheConstants.{BAD_TEXT, BAD_BASE,
 pub use Rattle.iri_calls.specs.Outcome.{Outcome, Answered}
 pub use Rattle.iri_calls.specs.Outcome.Outcome.{text}
 pub use Rattle.iri_calls.specs.Outcomes.{in_grammar, unless_fault}
-pub use Rattle.iri_calls.specs.Slots.{bytes_at, slots_of, width, total}
+pub use Rattle.iri_calls.specs.Slots.{bytes_at, slots_of, width}
+pub use Rattle.iri_calls.specs.inside.Five.{total}
 pub use Rattle.iri_calls.specs.declared.parts.Slot.{Slot}
 unfoldable pub use Rattle.iri_calls.specs.inside.Placed.{over_at}

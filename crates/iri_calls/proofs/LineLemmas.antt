@@ -100,39 +100,36 @@ module _ (answer : List ℕ → List ℕ) (input : List ℕ) (start : BufferSink
   }
 
   module _ (rest : List ℕ) (written : ℕ) (now : BufferSink) (g : Going answer input start rest written now) where
-    pub going_end : ended rest ≡ []
-        → record { consumed = length input - length rest; written = written; status = OK } ≡ batch answer (length start.buf.now) (ended input)
-    going_end e =
-        sym (later-done (length input - length rest) written OK)
-        ∙ ap (later (length input - length rest) written) (sym (ap (batch answer (length start.buf.now - written)) e
-        ∙ batch-none answer (length start.buf.now - written)))
-        ∙ g.counts
+    abbrev Ends : ℕ → BufferSink → Type 0
+    Ends status next =
+        (record { consumed = length input - length rest; written = written; status = status } ≡ batch answer (length start.buf.now) (ended input))
+        × (next.buf.now ≡ over (flat_map answer (ended input)) start.buf.now)
 
-    pub going_end-bytes : ended rest ≡ [] → now.buf.now ≡ over (flat_map answer (ended input)) start.buf.now
-    going_end-bytes e =
-        sym (ap (λ ls. over_at written (flat_map answer ls) now.buf.now) e ∙ over_at-none written now.buf.now) ∙ g.out
+    pub going_end : ended rest ≡ [] → Ends OK now
+    going_end e = (
+      sym (later-done (length input - length rest) written OK)
+          ∙ ap (later (length input - length rest) written) (sym (ap (batch answer (length start.buf.now - written)) e
+          ∙ batch-none answer (length start.buf.now - written)))
+          ∙ g.counts,
+      sym (ap (λ ls. over_at written (flat_map answer ls) now.buf.now) e ∙ over_at-none written now.buf.now) ∙ g.out,
+    )
 
     module _ (raw after : List ℕ) (is : ended rest ≡ raw ∷ ended after) where
-      pub going_short : length start.buf.now < written + length (answer raw)
-          → record { consumed = length input - length rest; written = written; status = SHORT }
-          ≡ batch answer (length start.buf.now) (ended input)
-      going_short h =
-          sym (later-done (length input - length rest) written SHORT)
-          ∙ ap (later (length input - length rest) written) (sym (ap (batch answer (length start.buf.now - written)) is
-          ∙ batch-short answer (length start.buf.now - written) raw (ended after) (omega (arith, g.fits, h))))
-          ∙ g.counts
-
       out-line : over_at written (answer raw ++ flat_map answer (ended after)) now.buf.now
           ≡ over (flat_map answer (ended input)) start.buf.now
       out-line = sym (ap (λ ls. over_at written (flat_map answer ls) now.buf.now) is) ∙ g.out
 
-      pub going_short-bytes : (next : BufferSink) → length start.buf.now < written + length (answer raw)
-          → next.buf.now ≡ over_at now.len (answer raw) now.buf.now
-          → next.buf.now ≡ over (flat_map answer (ended input)) start.buf.now
-      going_short-bytes next h e =
-          e ∙ ap (λ n. over_at n (answer raw) now.buf.now) g.len
-          ∙ sym (over_at-long written (answer raw) (flat_map answer (ended after)) now.buf.now (omega (arith, g.width, h)))
-          ∙ out-line
+      pub going_short : (next : BufferSink) → length start.buf.now < written + length (answer raw)
+          → next.buf.now ≡ over_at now.len (answer raw) now.buf.now → Ends SHORT next
+      going_short next h e = (
+        sym (later-done (length input - length rest) written SHORT)
+            ∙ ap (later (length input - length rest) written) (sym (ap (batch answer (length start.buf.now - written)) is
+            ∙ batch-short answer (length start.buf.now - written) raw (ended after) (omega (arith, g.fits, h))))
+            ∙ g.counts,
+        e ∙ ap (λ n. over_at n (answer raw) now.buf.now) g.len
+            ∙ sym (over_at-long written (answer raw) (flat_map answer (ended after)) now.buf.now (omega (arith, g.width, h)))
+            ∙ out-line,
+      )
 
       pub going_next : (next : BufferSink) → length rest ≡ length raw + 1 + length after → BufferPuts now (answer raw) next
           → next.len ≤ length start.buf.now → Going answer input start after next.len next

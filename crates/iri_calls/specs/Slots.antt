@@ -32,13 +32,6 @@ abbrev pub place : ℕ → ℕ → Option (List ℕ) → Slot
 place offset delimiters None = nowhere
 place offset delimiters (Some x) = record { offset = offset + delimiters; len = length x }
 
--- the bytes of a recomposed authority, and of a recomposed reference (RFC 3986 sections 3.2 and 5.3)
-abbrev pub authority_total : AuthorityParts → ℕ
-authority_total a = width 1 a.userinfo + length a.host + width 1 a.port
-
-abbrev pub total : Parts → ℕ
-total p = width 1 p.scheme + width 2 p.authority + length p.path + width 1 p.query + width 1 p.fragment
-
 -- the parts of an authority that begins at an offset: [userinfo `@`] host [`:` port]
 abbrev pub authority_slots : ℕ → AuthorityParts → AuthoritySlots
 authority_slots offset a =

@@ -2,9 +2,9 @@
 ghost use Rattle.std.specs.Prelude.{◌≡◌, ◌<◌, ◌+◌, ◌^◌};
 ghost use Rattle.iri_grammar.specs.Authority.{authority_parts};
 ghost use Rattle.iri_grammar.specs.OptionalSlices.{now_of};
-ghost use Rattle.iri_calls.specs.Slots.{SplitWrittenIn, SplitWritten, place, width, total, authority_total};
+ghost use Rattle.iri_calls.specs.Slots.{SplitWritten, SplitWrittenIn, place, width};
 ghost use Rattle.iri_calls.specs.Slots.{authority_slots, slots_of, within_authority};
-ghost use Rattle.iri_calls.specs.inside.Five.{five};
+ghost use Rattle.iri_calls.specs.inside.Five.{authority_total, five, total};
 
 use crate::fault::{answer, answer_fault};
 use crate::grammar::{IRI, URI};

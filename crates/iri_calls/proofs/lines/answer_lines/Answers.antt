@@ -1,7 +1,7 @@
 use Rattle.iri_calls.proofs.Common.{◌+◌, ◌<◌, length, arith, ap, ◌∙◌, sym, subst, base_text, answer_in, ended, line_answer, batch}
 use Rattle.std.proofs.Common.{rules}
 use Rattle.iri_calls.specs.inside.BufferText.{BufferPuts, BufferHalts}
-use Rattle.iri_calls.proofs.LineLemmas.{Going, going_init, going_end, going_end-bytes, going_short, going_short-bytes, going_next}
+use Rattle.iri_calls.proofs.LineLemmas.{Going, going_init, going_end, going_short, going_next}
 use Rattle.iri_calls.proofs.lines.answer_lines.Goals as goal
 
 pub lines-init : goal.lines-init
@@ -11,13 +11,8 @@ pub returns-in_default : goal.returns-in_default
 returns-in_default g c =
     let f = line_answer g.S.Spec.tests c.args.mode (base_text c.args.resolver.now) in
     let l = c.lines in
-    let none = c.in_default.ensures in
-    record {
-      same = search rules;
-      batch = going_end f c.args.input.now c.args.sink.now l.rest.now l.written l.sink l.invariant none
-          ∙ ap (λ n. batch f n (ended c.args.input.now)) c.requires.room;
-      bytes = going_end-bytes f c.args.input.now c.args.sink.now l.rest.now l.written l.sink l.invariant none;
-    }
+    let ends = going_end f c.args.input.now c.args.sink.now l.rest.now l.written l.sink l.invariant c.in_default.ensures in
+    record { same = search rules; batch = ends.0 ∙ ap (λ n. batch f n (ended c.args.input.now)) c.requires.room; bytes = ends.1 }
 
 pub returns-in-Err : goal.returns-in-Err
 returns-in-Err g c =
@@ -28,13 +23,9 @@ returns-in-Err g c =
     c.without_cr-line.ensures c.in-Err.ensures.stops_within in
     let long : length c.args.sink.now.buf.now < l.written + length (f line.raw.now) =
     omega (arith, h.room, h.long, l.invariant.len, l.invariant.width) in
-    record {
-      same = search rules;
-      batch = going_short f c.args.input.now c.args.sink.now l.rest.now l.written l.sink l.invariant line.raw.now line.after.now line.ensures.0 long
-          ∙ ap (λ n. batch f n (ended c.args.input.now)) c.requires.room;
-      bytes = going_short-bytes f c.args.input.now c.args.sink.now l.rest.now l.written l.sink l.invariant line.raw.now line.after.now
-          line.ensures.0 c.show.new.sink long h.buf;
-    }
+    let ends = going_short f c.args.input.now c.args.sink.now l.rest.now l.written l.sink l.invariant line.raw.now line.after.now line.ensures.0
+    c.show.new.sink long h.buf in
+    record { same = search rules; batch = ends.0 ∙ ap (λ n. batch f n (ended c.args.input.now)) c.requires.room; bytes = ends.1 }
 
 pub returns-then-count-room : goal.returns-then-count-room
 returns-then-count-room g c =
@@ -45,13 +36,9 @@ returns-then-count-room g c =
     c.without_cr-line.ensures c.in-Ok.ensures.appends in
     let long : length c.args.sink.now.buf.now < l.written + length (f line.raw.now) =
     omega (arith, p.len, c.count-count.ensures, c.if-count-room.true, c.requires.room, l.invariant.len) in
-    record {
-      same = search rules;
-      batch = going_short f c.args.input.now c.args.sink.now l.rest.now l.written l.sink l.invariant line.raw.now line.after.now line.ensures.0 long
-          ∙ ap (λ n. batch f n (ended c.args.input.now)) c.requires.room;
-      bytes = going_short-bytes f c.args.input.now c.args.sink.now l.rest.now l.written l.sink l.invariant line.raw.now line.after.now
-          line.ensures.0 c.show.new.sink long p.buf;
-    }
+    let ends = going_short f c.args.input.now c.args.sink.now l.rest.now l.written l.sink l.invariant line.raw.now line.after.now line.ensures.0
+    c.show.new.sink long p.buf in
+    record { same = search rules; batch = ends.0 ∙ ap (λ n. batch f n (ended c.args.input.now)) c.requires.room; bytes = ends.1 }
 
 pub lines-preserved : goal.lines-preserved
 lines-preserved g c =

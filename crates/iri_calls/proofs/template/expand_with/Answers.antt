@@ -34,9 +34,11 @@ pub returns-in-Ok-expand : goal.returns-in-Ok-expand
 returns-in-Ok-expand g c =
     let s = g.S.Spec.tests in let t = c.args.template.now in let x = text_in c.in-Ok.template in let vs = c.args.variables.now in
     let out = c.args.out.now in let e = c.in-Ok-expand.ensures in let a = c.answer_text in
-    by_values s t x vs None out a.new.out a.new.detail 0 a.result c.in-Ok.ensures.fault c.in-Ok.ensures.text e.fault
-    (refl, expansion_is s t x (text_in c.in-Ok-expand.expanded.template) vs c.in-Ok-expand.expanded.context.now out a.new.out a.new.detail a.result
-    c.in-Ok.ensures.text e.expanded.0 (ap (λ (k : Variables). k.variables.now) e.expanded.1) a.ensures)
+    by_values s t x vs None out a.new.out a.new.detail 0 a.result c.in-Ok.ensures.fault c.in-Ok.ensures.text e.fault (
+      refl,
+      expansion_is s t x (text_in c.in-Ok-expand.expanded.template) vs c.in-Ok-expand.expanded.context.now out a.new.out a.new.detail a.result
+          c.in-Ok.ensures.text e.expanded.0 (ap (λ (k : Variables). k.variables.now) e.expanded.1) a.ensures,
+    )
 
 pub returns-in-Err-expand : goal.returns-in-Err-expand
 returns-in-Err-expand g c =

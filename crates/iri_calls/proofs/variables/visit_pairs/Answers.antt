@@ -1,9 +1,8 @@
-use Rattle.std.proofs.Common.{◌*◌, ◌+◌, refl, get_or}
 use Rattle.std.proofs.lemmas.List.{drop_all}
-use Rattle.iri_template.proofs.VisitsEach.{heard_exit_first, up_to_more, up_to_exit, up_to_end, next_at}
+use Rattle.iri_template.proofs.VisitsEach.{heard_exit_first, up_to_more, up_to_exit, up_to_end}
 use Rattle.iri_template.specs.declared.visitor.Phase.TheVariants.{Done}
 use Rattle.iri_calls.specs.Variables.{paired}
-use Rattle.iri_calls.proofs.PairLemmas.{no_text, paired-at, paired-index, paired-half}
+use Rattle.iri_calls.proofs.PairLemmas.{next_pair, pair_at, paired-half}
 use Rattle.iri_calls.proofs.variables.visit_pairs.Goals as goal
 
 pub returns-in_err-visit_assoc : goal.returns-in_err-visit_assoc
@@ -12,18 +11,13 @@ returns-in_err-visit_assoc g c = heard_exit_first g.met.V.Visitor.rules _ Done c
 pub returns-in_err-visit_entry : goal.returns-in_err-visit_entry
 returns-in_err-visit_entry g c =
     let ts = c.args.values.now in let i = c.loop-i.i in
-    let low = paired-index ts i c.loop-i-test.true in
-    up_to_exit g.met.V.Visitor.rules (get_or ts (2 * i) no_text, get_or ts (2 * i + 1) no_text) Done
-    (next_at (paired ts) i (i + 1) (get_or ts (2 * i) no_text, get_or ts (2 * i + 1) no_text) (no_text, no_text) refl low
-    (paired-at ts i (no_text, no_text) no_text low)) c.from_residual-in_err-visit_entry.ensures.0 c.loop-i.invariant c.in_err-visit_entry.ensures
+    up_to_exit g.met.V.Visitor.rules (pair_at ts i) Done (next_pair ts i c.loop-i-test.true)
+    c.from_residual-in_err-visit_entry.ensures.0 c.loop-i.invariant c.in_err-visit_entry.ensures
 
 pub loop-i-preserved : goal.loop-i-preserved
 loop-i-preserved g c =
     let ts = c.args.values.now in let i = c.loop-i.i in
-    let low = paired-index ts i c.loop-i-test.true in
-    up_to_more g.met.V.Visitor.rules (get_or ts (2 * i) no_text, get_or ts (2 * i + 1) no_text)
-    (next_at (paired ts) i (i + 1) (get_or ts (2 * i) no_text, get_or ts (2 * i + 1) no_text) (no_text, no_text) refl low
-    (paired-at ts i (no_text, no_text) no_text low)) c.loop-i.invariant c.in_ok-visit_entry.ensures
+    up_to_more g.met.V.Visitor.rules (pair_at ts i) (next_pair ts i c.loop-i-test.true) c.loop-i.invariant c.in_ok-visit_entry.ensures
 
 pub returns : goal.returns
 returns g c =
