@@ -15,7 +15,6 @@ static VALUES: [u8; 256] = *b"\
     @@@@@@@@@@@@@@@@@@@@@@@@@@@@@@@@\
     @@@@@@@@@@@@@@@@@@@@@@@@@@@@@@@@";
 
-#[tactic(auto, using(crate::proofs::HexTable::digit_here, crate::proofs::HexTable::none_here))]
 fn hex_value(digit: u8) -> Option<u8>
     ensures { MatchOption result (is_ascii_hexdigit digit ≡ false)
         (λ v. (is_ascii_hexdigit digit ≡ true) × (v ≡ digit_value digit) × (v < 16)) }

@@ -1,4 +1,4 @@
-use Rattle.iri_percent.proofs.Common.{true, sym, ap, ◌∙◌, length, arith, class_test}
+use Rattle.iri_percent.proofs.Common.{sym, ap, ◌∙◌, length, arith, class_test}
 use Rattle.std.specs.Cmp.{booleans_Decides}
 use Rattle.iri_grammar.proofs.Units.{char_shorter}
 use Rattle.iri_percent.proofs.EncodedRuns.{past_none, run_from_char}
