@@ -14,7 +14,7 @@ use Rattle.iri_grammar.specs.Classes.{uri_tests}
 use Rattle.iri_grammar.specs.ErrorTexts.{description}
 use Rattle.iri_grammar.specs.declared.error.ErrorKind.TheVariants.{InvalidRegName, InvalidPort}
 use Rattle.iri_grammar.specs.inside.Laws.{uri_is_spec, iri_is_spec}
-use Rattle.iri_grammar.proofs.FaultLaws.{absolute-law, reference-law, neither, splits_where_no_fault}
+use Rattle.iri_grammar.proofs.faults.FaultLaws.{absolute-law, reference-law, neither, splits_where_no_fault}
 use Rattle.iri_percent.specs.Encoding.{encoded, encoded_char, keeps}
 use Rattle.iri_percent.specs.Mapping.{mapped, triplet, triplets}
 use Rattle.iri_percent.specs.declared.canon_mode.CanonMode.{CanonMode}

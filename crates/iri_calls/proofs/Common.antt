@@ -6,7 +6,7 @@ pub use Rattle.std.proofs.lemmas.Grind.{common_steps}
 pub use Rattle.std.proofs.lemmas.Str.{IsUtf8-from_is_utf8, is_utf8-from_IsUtf8}
 pub use Rattle.std.specs.List.{flat_map}
 pub use Rattle.std.specs.Str.{IsUtf8, is_utf8}
-pub use Rattle.iri_grammar.proofs.SplitLaws.{recompose_split, recompose_relative_split}
+pub use Rattle.iri_grammar.proofs.splits.SplitLaws.{recompose_split, recompose_relative_split}
 pub use Rattle.iri_grammar.specs.Classes.{Tests, IsSpec, iri_tests}
 pub use Rattle.iri_grammar.specs.Cut.{before, delimited}
 pub use Rattle.iri_grammar.specs.Fault.{bytes_fault, fragment_fault}

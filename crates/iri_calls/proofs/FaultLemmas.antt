@@ -18,8 +18,8 @@ use Rattle.iri_grammar.specs.Fault.{first, unless, part_fault, authority_fault, 
 use Rattle.iri_grammar.specs.Host.{is_host}
 use Rattle.iri_grammar.specs.Parts.{path_rules, starts_with_slashes}
 use Rattle.iri_grammar.specs.WholeFault.{colon_allowed, fault_before_fragment, parts_fault}
-use Rattle.iri_grammar.proofs.AuthorityLaws.{authority_recomposed}
-use Rattle.iri_grammar.proofs.CutLaws.{joined_from}
+use Rattle.iri_grammar.proofs.authorities.AuthorityLaws.{authority_recomposed}
+use Rattle.iri_grammar.proofs.splits.CutLaws.{joined_from}
 use Rattle.iri_calls.specs.FaultParts.{IsFaulty, before_colon, faulty_slot, is_in_production, named_slot}
 use Rattle.iri_calls.specs.Slots.{place, within_authority}
 use Rattle.iri_calls.proofs.SlotLemmas.{after-delimiter, of-scheme, of-authority, of-userinfo}

@@ -5,7 +5,7 @@ use Rattle.iri_calls.proofs.Common.{recompose_relative_split, width, total}
 use Rattle.iri_grammar.specs.Authority.{AuthorityParts, authority_parts, recompose_authority, userinfo_text}
 use Rattle.iri_grammar.specs.Characters.{at_sign, colon, number_sign, question_mark}
 use Rattle.iri_grammar.specs.Split.{parts_of}
-use Rattle.iri_grammar.proofs.AuthorityLaws.{authority_recomposed}
+use Rattle.iri_grammar.proofs.authorities.AuthorityLaws.{authority_recomposed}
 use Rattle.iri_calls.specs.inside.Five.{authority_total}
 
 pub after-delimiter : (c : ℕ) (o : Option (List ℕ)) → width 1 o ≡ length (delimited c o)

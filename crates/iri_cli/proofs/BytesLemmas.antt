@@ -3,7 +3,7 @@ use Rattle.iri_cli.proofs.Common.{◌≡◌, ℕ, List, Option, Some, None, refl
 use Rattle.iri_cli.proofs.Common.{canonical_in, absolute_fault, reference_fault, ErrorKind, tests_of, refusal, answer_in}
 use Rattle.std.specs.Prelude.{option_map}
 use Rattle.iri_grammar.specs.ErrorTexts.{description}
-use Rattle.iri_grammar.proofs.FaultLaws.{reference-law}
+use Rattle.iri_grammar.proofs.faults.FaultLaws.{reference-law}
 use Rattle.iri_grammar.specs.Parts.{IsReference}
 use Rattle.iri_normal.proofs.CanonLaws.{canonical_in-iri, canonical_in-split, canonical_in-own}
 use Rattle.iri_grammar.specs.inside.Laws.{uri_is_spec, iri_is_spec}

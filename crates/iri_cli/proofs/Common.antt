@@ -14,7 +14,7 @@ unfoldable pub use Rattle.std.specs.Str.{is_utf8}
 pub use Rattle.std.specs.Vec.{with_items}
 pub use Rattle.std.specs.declared.alloc.AllocError.{AllocError}
 pub use Rattle.iri_docs.specs.Expanded.{expansion_limit}
-pub use Rattle.iri_grammar.proofs.FaultLaws.{absolute-law, of_bytes, reference-utf8}
+pub use Rattle.iri_grammar.proofs.faults.FaultLaws.{absolute-law, of_bytes, reference-utf8}
 pub use Rattle.iri_grammar.specs.Classes.{Tests, IsSpec}
 unfoldable pub use Rattle.iri_grammar.specs.Classes.{path_char}
 pub use Rattle.iri_grammar.specs.Cut.{before, lacks}

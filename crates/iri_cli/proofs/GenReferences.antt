@@ -11,19 +11,19 @@ use Rattle.std.specs.Prelude.{option_map}
 use Rattle.iri_grammar.specs.ErrorTexts.{description}
 use Rattle.iri_grammar.specs.Classes.{uri_tests, is_ascii_reg_name, is_ascii_pchar, is_ascii_path}
 use Rattle.iri_grammar.specs.Classes.{reg_name_char}
-use Rattle.iri_grammar.proofs.ClassLaws.{class_has_no_percent}
+use Rattle.iri_grammar.proofs.units.ClassLaws.{class_has_no_percent}
 use Rattle.iri_grammar.specs.declared.class.Class.TheVariants.{RegName, Path}
 use Rattle.iri_grammar.specs.Over.{over, text_over, IsOver, done, plain, triplet}
-use Rattle.iri_grammar.proofs.OverLaws.{over-from_units, units-from_over}
+use Rattle.iri_grammar.proofs.units.OverLaws.{over-from_units, units-from_over}
 use Rattle.std.proofs.lemmas.Bool.{or_right}
-use Rattle.iri_grammar.proofs.CutLaws.{before-at}
+use Rattle.iri_grammar.proofs.splits.CutLaws.{before-at}
 use Rattle.iri_grammar.specs.IpLiteral.{is_ip_literal}
 use Rattle.iri_grammar.specs.Host.{is_reg_name}
 use Rattle.iri_grammar.specs.Authority.{is_authority, recompose_authority}
-use Rattle.iri_grammar.proofs.AuthorityLaws.{passes}
-use Rattle.iri_grammar.proofs.AuthorityTexts.{all_below}
-use Rattle.iri_grammar.proofs.MadeLaws.{made-reference}
-use Rattle.iri_grammar.proofs.UriLaws.{absolute-wider}
+use Rattle.iri_grammar.proofs.authorities.AuthorityLaws.{passes}
+use Rattle.iri_grammar.proofs.authorities.AuthorityTexts.{all_below}
+use Rattle.iri_grammar.proofs.faults.MadeLaws.{made-reference}
+use Rattle.iri_grammar.proofs.faults.UriLaws.{absolute-wider}
 use Rattle.iri_grammar.specs.inside.Laws.{uri_is_spec}
 use Rattle.iri_normal.proofs.TargetLaws.{slash_in_path}
 use Rattle.iri_normal.proofs.TripletHeads.{head-apart}

@@ -4,7 +4,7 @@ use Rattle.iri_cli.proofs.Common.{Some, refl, sym, ap, arith, length-append, ◌
 use Rattle.iri_cli.proofs.Common.{is_utf8-from_IsUtf8, both, before, lacks, reference_fault, ErrorKind, IsSpec, Tests, refusal, good_answer}
 use Rattle.std.specs.Option.{is_none}
 use Rattle.std.proofs.Math.Bool.{or-true}
-use Rattle.iri_grammar.proofs.CutLaws.{before-delimited}
+use Rattle.iri_grammar.proofs.splits.CutLaws.{before-delimited}
 use Rattle.iri_grammar.specs.Characters.{comma}
 use Rattle.iri_grammar.specs.ErrorTexts.{description}
 use Rattle.iri_grammar.specs.declared.error.ErrorKind.TheVariants.{InvalidScheme, InvalidUserInfo, InvalidHost, InvalidRegName, InvalidPort}

@@ -5,12 +5,12 @@ use Rattle.iri_cli.proofs.Common.{is_empty, starts_with_slash, split_of, CanonMo
 use Rattle.iri_cli.proofs.Common.{reference_fault, absolute-law, of_bytes, reference-utf8, refusal, answer_in, answer_by}
 use Rattle.std.specs.Prelude.{option_map}
 use Rattle.iri_grammar.specs.ErrorTexts.{description}
-use Rattle.iri_grammar.proofs.FaultLaws.{none-is}
+use Rattle.iri_grammar.proofs.faults.FaultLaws.{none-is}
 use Rattle.iri_grammar.specs.Parts.{Fits, Splits, scheme_text, authority_text}
 use Rattle.iri_grammar.specs.Cut.{delimited}
 use Rattle.iri_grammar.specs.Authority.{is_authority}
 use Rattle.iri_grammar.specs.Components.{if_there}
-use Rattle.iri_grammar.proofs.SplitUnique.{split_is}
+use Rattle.iri_grammar.proofs.splits.SplitUnique.{split_is}
 use Rattle.iri_normal.specs.LowerCase.{where_there}
 use Rattle.iri_normal.specs.DotRemoval.{dots}
 use Rattle.iri_normal.specs.Target.{target, target_under, target_path, merge_prefix, to_last_slash}

@@ -6,8 +6,8 @@ use Rattle.iri_grammar.specs.Components.{is_path}
 use Rattle.iri_grammar.specs.Pieces.{joined}
 use Rattle.std.proofs.Math.Bool.{and-false}
 use Rattle.std.proofs.lemmas.Bool.{not-true}
-use Rattle.iri_grammar.proofs.Ipv6Laws.{joined_pieces}
-use Rattle.iri_grammar.proofs.UnitRuns.{text_over-append}
+use Rattle.iri_grammar.proofs.hosts.Ipv6Laws.{joined_pieces}
+use Rattle.iri_grammar.proofs.units.UnitRuns.{text_over-append}
 use Rattle.iri_normal.specs.DotRemoval.{is_two_dots, without_last, dots}
 use Rattle.iri_normal.specs.Dots.{is_dot_segment, any_dot_segment, has_dot_segment}
 use Rattle.iri_normal.specs.Guard.{guard}

@@ -7,7 +7,7 @@ use Rattle.std.proofs.lemmas.Bool.Decides.{nat_tests}
 use Rattle.iri_grammar.specs.Classes.{Tests, IsSpec}
 use Rattle.iri_grammar.specs.Parts.{IsReference}
 use Rattle.iri_grammar.specs.WholeFault.{reference_fault}
-use Rattle.iri_grammar.proofs.FaultLaws.{reference-law}
+use Rattle.iri_grammar.proofs.faults.FaultLaws.{reference-law}
 use Rattle.iri_template.specs.Expansion.{expansion}
 use Rattle.iri_template.specs.Fault.{template_fault}
 use Rattle.iri_template.specs.Reading.{pieces_of}

@@ -5,8 +5,8 @@ use Rattle.iri_edit.proofs.Common.{over_from, Fits, path_rules, recompose, split
 use Rattle.iri_grammar.specs.Components.{is_scheme, is_port, is_path, is_query}
 use Rattle.iri_grammar.specs.Fault.{part_fault, scheme_fault, userinfo_fault, host_fault, port_fault, path_fault, query_fault}
 use Rattle.iri_grammar.specs.Fault.{fragment_fault}
-use Rattle.iri_grammar.proofs.FaultLaws.{passed, neither, part-passed as there}
-use Rattle.iri_grammar.proofs.MadeLaws.{made-authority, made-iri, made-split}
+use Rattle.iri_grammar.proofs.faults.FaultLaws.{passed, neither, part-passed as there}
+use Rattle.iri_grammar.proofs.faults.MadeLaws.{made-authority, made-iri, made-split}
 use Rattle.iri_grammar.specs.WholeFault.{iri_fault}
 use Rattle.iri_grammar.specs.declared.error.ErrorKind.TheVariants.{InvalidScheme, InvalidUserInfo, InvalidHost, InvalidPort, InvalidPath}
 use Rattle.iri_grammar.specs.declared.error.ErrorKind.TheVariants.{InvalidQuery, InvalidFragment}

@@ -5,8 +5,8 @@ pub use Rattle.std.proofs.lemmas.List.{append-nil}
 pub use Rattle.std.specs.Prelude.{◌&&◌, ◌||◌, is_some, not, slice_range, IfOk, string_bytes}
 pub use Rattle.std.specs.Str.{IsCharBoundary}
 unfoldable pub use Rattle.std.specs.Str.{chars, is_utf8}
-pub use Rattle.iri_grammar.proofs.AuthorityLaws.{reads, authority_recomposed}
-pub use Rattle.iri_grammar.proofs.CutLaws.{both, joined}
+pub use Rattle.iri_grammar.proofs.authorities.AuthorityLaws.{reads, authority_recomposed}
+pub use Rattle.iri_grammar.proofs.splits.CutLaws.{both, joined}
 pub use Rattle.iri_grammar.specs.Authority.{is_authority, AuthorityParts, FitsAuthority, authority_parts, userinfo_text}
 unfoldable pub use Rattle.iri_grammar.specs.Authority.{recompose_authority}
 pub use Rattle.iri_grammar.specs.Classes.{Tests, IsSpec}

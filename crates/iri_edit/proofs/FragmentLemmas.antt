@@ -5,8 +5,8 @@ use Rattle.iri_edit.proofs.Common.{is_fragment, before, after, delimited, joined
 use Rattle.iri_edit.proofs.Common.{split_of, reference_fault, with_fragment, IsFragmentAt, spliced}
 use Rattle.std.proofs.lemmas.List.{length-drop, length-take-le}
 use Rattle.std.proofs.lemmas.Str.{IsCharBoundary-end}
-use Rattle.iri_grammar.proofs.FaultLaws.{splits_where_no_fault}
-use Rattle.iri_grammar.proofs.KindLaws.{splits_without_fragment}
+use Rattle.iri_grammar.proofs.faults.FaultLaws.{splits_where_no_fault}
+use Rattle.iri_grammar.proofs.faults.KindLaws.{splits_without_fragment}
 use Rattle.iri_edit.proofs.PlaceLemmas.{ascii-boundary}
 use Rattle.iri_edit.proofs.SpliceLemmas.{spliced-at}
 

@@ -3,7 +3,7 @@ use Rattle.iri_edit.proofs.Common.{◌≡◌, ℕ, Bool, true, List, Option, Som
 use Rattle.iri_edit.proofs.Common.{authority_parts, is_authority, reads, Tests, IsSpec, if_there, is_fragment, is_host, Fits, path_rules}
 use Rattle.iri_edit.proofs.Common.{recompose, split_of, reference_fault, ErrorKind, edited, edited_authority, edited_parts}
 use Rattle.iri_edit.proofs.Common.{fragment_replaced, with_fragment, host_replaced, with_host}
-use Rattle.iri_grammar.proofs.MadeLaws.{made-authority, split-fits}
+use Rattle.iri_grammar.proofs.faults.MadeLaws.{made-authority, split-fits}
 use Rattle.iri_grammar.specs.Parts.{Parts}
 
 module _ (s : Tests) (k : IsSpec s) (f : AuthorityParts → AuthorityParts)

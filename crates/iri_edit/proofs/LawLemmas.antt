@@ -4,7 +4,7 @@ use Rattle.iri_edit.proofs.Common.{authority_parts, is_authority, recompose_auth
 use Rattle.iri_edit.proofs.Common.{is_userinfo, is_host, recompose, split_of, reference_fault, edited, edited_authority, edited_parts}
 use Rattle.iri_edit.proofs.Common.{fragment_replaced, with_fragment, host_replaced, with_host, masked, user_alone, user_with}
 use Rattle.iri_edit.proofs.Common.{where_userinfo, with_password, with_userinfo, without_password}
-use Rattle.iri_grammar.proofs.MadeLaws.{made-reading, made-split, split-fits}
+use Rattle.iri_grammar.proofs.faults.MadeLaws.{made-reading, made-split, split-fits}
 use Rattle.iri_edit.proofs.KindLemmas.{edited-fits, fragment-fits, host_replaced-fits}
 use Rattle.iri_edit.proofs.UserLemmas.{nothing-fits, user_alone-fits, user_with-fits, with_userinfo-fits, user_with-twice}
 

@@ -10,8 +10,8 @@ use Rattle.std.proofs.lemmas.Str.{IsUtf8-append, IsUtf8-drop, IsUtf8-take, IsCha
 use Rattle.std.proofs.lemmas.Str.{IsCharBoundary-from_take}
 use Rattle.std.proofs.Math.Seq.{drop-append_seam, get_or-append_seam, take-append_seam}
 use Rattle.std.specs.Prelude.{◌==◌}
-use Rattle.iri_grammar.proofs.AuthorityTexts.{host-utf8}
-use Rattle.iri_grammar.proofs.SplitLaws.{recompose_split}
+use Rattle.iri_grammar.proofs.authorities.AuthorityTexts.{host-utf8}
+use Rattle.iri_grammar.proofs.splits.SplitLaws.{recompose_split}
 use Rattle.iri_edit.specs.Host.{host_in}
 
 -- ---- the authority

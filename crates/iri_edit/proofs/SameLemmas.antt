@@ -3,7 +3,7 @@ use Rattle.iri_edit.proofs.Common.{◌≡◌, ℕ, cond, List, ◌∷◌, ◌++�
 use Rattle.iri_edit.proofs.Common.{authority_parts, recompose_authority, authority_recomposed, before, after, delimited, joined, recompose}
 use Rattle.iri_edit.proofs.Common.{split_of, edited, edited_authority, password_of, password_in, userinfo_in, user_with, user_alone}
 use Rattle.iri_edit.proofs.Common.{where_userinfo, with_userinfo, with_password, without_password}
-use Rattle.iri_grammar.proofs.SplitLaws.{recompose_split}
+use Rattle.iri_grammar.proofs.splits.SplitLaws.{recompose_split}
 use Rattle.iri_edit.proofs.PlaceLemmas.{lacks-told}
 
 user_with-same : (w u : List ℕ) → after 58 u ≡ None → user_with w u ≡ u

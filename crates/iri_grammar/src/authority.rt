@@ -46,7 +46,7 @@ fn rfind(s: &str, delimiter: u8) -> Option<usize>
 }
 
 // Where the last colon is.
-#[tactic(auto, using(crate::proofs::Ports::found))]
+#[tactic(auto, using(crate::proofs::authorities::LastColons::found))]
 fn last_colon(s: &str) -> Option<usize>
     ensures { MatchOption result (NoColon s.now) (λ k. LastColon s.now k) }
 {

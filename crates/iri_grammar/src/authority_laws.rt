@@ -19,7 +19,7 @@ pub fn over_is_units<S: Spec>()
 {}
 
 /// The test for IPv6 texts passes exactly the lists of groups of RFC 3986 section 3.2.2.
-#[tactic(auto, using(crate::proofs::Ipv6Laws::ipv6_law))]
+#[tactic(auto, using(crate::proofs::hosts::Ipv6Laws::ipv6_law))]
 pub fn ipv6_is_groups()
     ensures { (t : List ℕ) → (is_ipv6 t ≡ true) ↔ IsIpv6 t }
 {}

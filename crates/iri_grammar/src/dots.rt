@@ -77,7 +77,7 @@ fn has_dots_in_long(path: &[u8]) -> bool
 }
 
 /// Whether a segment of the path begins with a dot, in any spelling, and may be a dot segment. `false` is sure.
-#[tactic(auto, using(crate::proofs::DotPlaces::none_in_short, crate::proofs::DotPlaces::none_in_long))]
+#[tactic(auto, using(crate::proofs::splits::DotPlaces::none_in_short, crate::proofs::splits::DotPlaces::none_in_long))]
 #[inline(always)]
 pub fn may_have_dots(path: &[u8]) -> bool
     ensures { result ≡ false → may_have_dots path.now ≡ false }

@@ -70,7 +70,7 @@ fn cut_double(s: &str) -> (&str, Option<&str>)
     }
 }
 
-#[tactic(auto, using(crate::proofs::Groups::full_count, crate::proofs::Groups::full_none))]
+#[tactic(auto, using(crate::proofs::hosts::Ipv6Groups::full_count, crate::proofs::hosts::Ipv6Groups::full_none))]
 fn is_full(s: &str) -> bool
     ensures { result ≡ is_full (group_texts s.now) }
 {

@@ -18,7 +18,7 @@ ghost use Rattle.iri_grammar.specs.WholeFault.{reference_fault, iri_fault, absol
 use crate::spec::Spec;
 
 /// A text has at most one split, and `split_of` is it; each text is recomposed from `split_of`.
-#[tactic(auto, using(crate::proofs::SplitUnique::one_split, crate::proofs::SplitUnique::split_is, crate::proofs::SplitLaws::recompose_split))]
+#[tactic(auto, using(crate::proofs::splits::SplitUnique::one_split, crate::proofs::splits::SplitUnique::split_is, crate::proofs::splits::SplitLaws::recompose_split))]
 pub fn one_split<S: Spec>()
     ensures unique { (t : List ℕ) (a b : Parts) → Splits S.tests t a → Splits S.tests t b → a ≡ b }
     ensures value { (t : List ℕ) (p : Parts) → Splits S.tests t p → split_of t ≡ p }

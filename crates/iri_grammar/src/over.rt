@@ -19,7 +19,7 @@ pub fn past_run(class: Class, s: &str) -> &str
 }
 
 // Whether the text is made of ASCII characters of the class alone.
-#[tactic(auto, using(crate::proofs::DelimiterLemmas::run_of_all))]
+#[tactic(auto, using(crate::proofs::splits::PartEnds::run_of_all))]
 pub(crate) fn is_run(class: Class, s: &str) -> bool
     ensures { result ≡ list_all (ascii_test class) s.now }
 {

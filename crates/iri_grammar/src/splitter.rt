@@ -107,7 +107,7 @@ fn are_small(bytes: &[u8]) -> bool
 }
 
 // Whether each byte may be in a scheme.
-#[tactic(auto, using(crate::proofs::DelimiterLemmas::run_of_all))]
+#[tactic(auto, using(crate::proofs::splits::PartEnds::run_of_all))]
 fn all_scheme_bytes(bytes: &[u8]) -> bool
     ensures { result ≡ list_all is_scheme_char bytes.now }
 {
@@ -134,7 +134,7 @@ fn ends_scheme(bytes: &[u8], end: usize) -> bool
 }
 
 // Where the colon after the scheme is.
-#[tactic(auto, using(crate::proofs::DelimiterLemmas::scheme_at, crate::proofs::DelimiterLemmas::no_scheme))]
+#[tactic(auto, using(crate::proofs::splits::PartEnds::scheme_at, crate::proofs::splits::PartEnds::no_scheme))]
 fn scheme_end(bytes: &[u8]) -> Option<usize>
     ensures { MatchOption result (NoScheme bytes.now) (λ k. SchemeAt bytes.now k) }
 {
@@ -162,7 +162,7 @@ fn cut_scheme(s: &[u8]) -> (Option<&str>, &[u8])
 }
 
 // Where the first `/`, `?` or `#` is, which ends an authority.
-#[tactic(auto, using(crate::proofs::DelimiterLemmas::authority_end))]
+#[tactic(auto, using(crate::proofs::splits::PartEnds::authority_end))]
 fn authority_end(bytes: &[u8]) -> Option<usize>
     ensures { MatchOption result (EndsAuthority bytes.now (length bytes.now)) (λ k. EndsAuthority bytes.now k) }
 {

@@ -69,7 +69,7 @@ fn begins_past_ascii(bytes: &[u8]) -> bool
 }
 
 // The length of the first character, where it is in the class, otherwise 0.
-#[tactic(auto, using(crate::proofs::UnitRuns::no_units))]
+#[tactic(auto, using(crate::proofs::units::UnitRuns::no_units))]
 #[inline(always)]
 fn char_len<S: Spec>(class: Class, s: &str) -> usize
     requires { begins_with_triplet s.now ≡ false }
@@ -149,7 +149,7 @@ fn wide_len(bytes: &[u8]) -> usize
 }
 
 // The length of the first character, where it is one of these and the grammar takes all of them; 0 says nothing.
-#[tactic(auto, using(crate::proofs::UnitRuns::no_units))]
+#[tactic(auto, using(crate::proofs::units::UnitRuns::no_units))]
 #[inline(always)]
 fn allowed_wide_len<S: Spec>(class: Class, bytes: &[u8]) -> usize
     ensures units { AreUnits (class_test S.tests class) bytes.now result }
@@ -236,7 +236,7 @@ fn units_in_text<S: Spec>(class: Class, s: &str) -> UnitsLen
 }
 
 // All units at the start of bytes of which it is found whether they are a text.
-#[tactic(auto, using(crate::proofs::UnitRuns::no_units))]
+#[tactic(auto, using(crate::proofs::units::UnitRuns::no_units))]
 #[inline(never)]
 fn units_in_decoded<S: Spec>(class: Class, bytes: &[u8]) -> UnitsLen
     ensures units { AreUnits (class_test S.tests class) bytes.now result.len }
@@ -250,7 +250,7 @@ fn units_in_decoded<S: Spec>(class: Class, bytes: &[u8]) -> UnitsLen
 }
 
 // All units at the start of bytes that begin with no unit of one kind that their first bytes tell: only past ASCII one can be there.
-#[tactic(auto, using(crate::proofs::UnitRuns::no_units, crate::proofs::UnitRuns::near_stops))]
+#[tactic(auto, using(crate::proofs::units::UnitRuns::no_units, crate::proofs::units::UnitRuns::near_stops))]
 #[inline(always)]
 fn units_past_ascii<S: Spec>(class: Class, bytes: &[u8]) -> UnitsLen
     requires { LacksNearUnit (class_test S.tests class) bytes.now }
@@ -296,7 +296,7 @@ pub(crate) struct UnitsCut<'a> {
 }
 
 // Bytes cut after the units of the class at their start.
-#[tactic(auto, using(crate::proofs::UnitRuns::units_text))]
+#[tactic(auto, using(crate::proofs::units::UnitRuns::units_text))]
 #[inline(always)]
 pub(crate) fn cut_units<S: Spec>(class: Class, bytes: &[u8]) -> UnitsCut<'_>
     ensures whole { bytes.now ≡ result.units.now ++ result.rest.now }

@@ -13,8 +13,8 @@ pub use Rattle.std.specs.Prelude.{Result, Err, MatchResult, ◌==◌, ◌||◌, 
 pub use Rattle.std.specs.Str.{is_utf8, IsUtf8, str_to_ascii_lowercase, IsCharBoundary}
 pub use denote.Shadow.{shadow}
 pub use denote.Text.{Utf8}
-pub use Rattle.iri_grammar.proofs.AuthorityTexts.{delimited-utf8}
-pub use Rattle.iri_grammar.proofs.CutLaws.{by_test, test_apart}
+pub use Rattle.iri_grammar.proofs.authorities.AuthorityTexts.{delimited-utf8}
+pub use Rattle.iri_grammar.proofs.splits.CutLaws.{by_test, test_apart}
 pub use Rattle.iri_grammar.specs.Blanks.{is_blank}
 pub use Rattle.iri_grammar.specs.Classes.{Tests, IsSpec}
 pub use Rattle.iri_grammar.specs.Cut.{before, lacks, after, delimited}

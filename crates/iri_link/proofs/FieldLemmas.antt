@@ -9,7 +9,7 @@ use Rattle.iri_link.proofs.Common.{in_target, after_param, after_semicolon, in_n
 use Rattle.std.proofs.Common.{◌⊎◌}
 use Rattle.std.specs.Str.Lossy.{utf8_valid_len}
 use Rattle.iri_grammar.specs.declared.error.ErrorKind.{ErrorKind}
-use Rattle.iri_grammar.proofs.CutLaws.{before-delimited, lacks-other}
+use Rattle.iri_grammar.proofs.splits.CutLaws.{before-delimited, lacks-other}
 use Rattle.iri_link.specs.Fault.{Fault, fault_from, closes_from, target_fault, told_target, earlier, place_in, field_fault}
 use Rattle.iri_link.specs.Phases.{in_pair}
 use Rattle.iri_link.specs.declared.error.LinkKind.TheVariants.{NotUtf8, NoTarget, OpenTarget, NoParam, NoValue, OpenString}

@@ -8,8 +8,8 @@ use Rattle.iri_link.proofs.Common.{no_element, element, IsField, last, more}
 use Rattle.std.specs.Prelude.{⊤}
 use Rattle.std.specs.Char.{to_ascii_lowercase}
 use Rattle.std.proofs.lemmas.Str.Ascii.{lowercase-lowercase, lowercase_is}
-use Rattle.iri_grammar.proofs.Delimiters.{text_after_delimiter, text_before_delimiter}
-use Rattle.iri_grammar.proofs.Units.{text_after_ascii}
+use Rattle.iri_grammar.proofs.splits.CharBoundaries.{text_after_delimiter, text_before_delimiter}
+use Rattle.iri_grammar.proofs.units.FirstUnits.{text_after_ascii}
 use Rattle.iri_link.proofs.RunLemmas.{blank-low, token-low}
 use Rattle.iri_link.proofs.Utf8Lemmas.{value-utf8}
 

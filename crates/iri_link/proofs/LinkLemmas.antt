@@ -9,8 +9,8 @@ use Rattle.std.specs.Prelude.{MatchOption}
 use denote.Bor.{Bor}
 use Rattle.iri_link.specs.declared.halt.Halt.{Halt}
 use Rattle.iri_link.specs.declared.halt.Halt.TheVariants.{Fault as Halted, Memory}
-use Rattle.iri_grammar.proofs.CutLaws.{joined}
-use Rattle.iri_grammar.proofs.Scans.{before-lacks}
+use Rattle.iri_grammar.proofs.splits.CutLaws.{joined}
+use Rattle.iri_grammar.proofs.faults.Scans.{before-lacks}
 use Rattle.iri_grammar.specs.declared.error.Error.{Error}
 use Rattle.iri_normal.specs.NormalForm.{canonical}
 use Rattle.iri_link.specs.inside.Halts.{HaltsAt, HaltsIn}

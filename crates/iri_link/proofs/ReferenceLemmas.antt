@@ -6,11 +6,11 @@ use Rattle.iri_grammar.specs.Classes.{is_ascii_reg_name, is_ascii_unreserved, is
 use Rattle.iri_grammar.specs.Authority.{is_authority}
 use Rattle.iri_grammar.specs.Components.{if_there, is_fragment, is_query, is_scheme, is_scheme_char}
 use Rattle.iri_grammar.specs.Parts.{Parts, Splits, recompose, scheme_text, authority_text}
-use Rattle.iri_grammar.proofs.AuthorityTexts.{IsForeign, authority-lacks, over_text-lacks}
-use Rattle.iri_grammar.proofs.CutLaws.{lacks-append}
-use Rattle.iri_grammar.proofs.FaultLaws.{reference-law}
-use Rattle.iri_grammar.proofs.LiteralChars.{is_literal_char}
-use Rattle.iri_grammar.proofs.SplitLaws.{scheme-lacks, authority_text-lacks, delimited-lacks}
+use Rattle.iri_grammar.proofs.authorities.AuthorityTexts.{IsForeign, authority-lacks, over_text-lacks}
+use Rattle.iri_grammar.proofs.splits.CutLaws.{lacks-append}
+use Rattle.iri_grammar.proofs.faults.FaultLaws.{reference-law}
+use Rattle.iri_grammar.proofs.hosts.LiteralChars.{is_literal_char}
+use Rattle.iri_grammar.proofs.splits.SplitLaws.{scheme-lacks, authority_text-lacks, delimited-lacks}
 
 greater_foreign : (s : Tests) → IsSpec s → IsForeign s 62
 unfolding userinfo_char reg_name_char is_ascii_userinfo is_ascii_reg_name is_ascii_unreserved is_sub_delim is_literal_char

@@ -1,7 +1,7 @@
 -- How a reading of a field value goes over a target.
 use Rattle.iri_link.proofs.Common.{◌≡◌, ℕ, true, false, cond, not, ◌&&◌, List, [], ◌∷◌, ◌++◌, Some, None, refl, sym, ap, ◌∙◌, Tests, before}
 use Rattle.iri_link.proofs.Common.{after, lacks, reference_fault, fault_from, target_fault, earlier, before_link, in_target, after_param}
-use Rattle.iri_grammar.proofs.CutLaws.{by_test, before-delimited, after-delimited}
+use Rattle.iri_grammar.proofs.splits.CutLaws.{by_test, before-delimited, after-delimited}
 
 pub some-lacks : (c : ℕ) (t b : List ℕ) → Some b ≡ after c t → lacks c t ≡ false
 some-lacks c [] b h = cc

@@ -5,7 +5,7 @@ use Rattle.iri_link.proofs.Common.{delimited-utf8, by_test, IsQuoted, done, plai
 use Rattle.std.proofs.lemmas.Bool.{not-true}
 use Rattle.std.proofs.lemmas.Str.{IsUtf8-encode, encode_ascii}
 use lib.Utf8.{encode, encodes, scalar, scalars}
-use Rattle.iri_grammar.proofs.CutBytes.{lacks-encodes}
+use Rattle.iri_grammar.proofs.units.LackedBytes.{lacks-encodes}
 
 -- ---- characters
 low_encoded : (x : ℕ) → x < 128 → encode x ≡ x ∷ []

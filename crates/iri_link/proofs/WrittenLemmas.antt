@@ -6,8 +6,8 @@ use Rattle.iri_link.proofs.Common.{resolved, IsRead, both, by_test, is_pair_char
 use Rattle.iri_link.proofs.Common.{LinkValue, quoted, IsParam, bare, valued, IsParams, none, param, link, IsElement, empty, element}
 use Rattle.iri_link.proofs.Common.{IsField, last, more, escaped, written_param, written_link, written}
 use Rattle.iri_grammar.specs.Parts.{IsAbsolute}
-use Rattle.iri_grammar.proofs.AuthorityTexts.{one_byte-utf8}
-use Rattle.iri_grammar.proofs.FaultLaws.{reference-law, reference-utf8}
+use Rattle.iri_grammar.proofs.authorities.AuthorityTexts.{one_byte-utf8}
+use Rattle.iri_grammar.proofs.faults.FaultLaws.{reference-law, reference-utf8}
 use Rattle.iri_normal.specs.NormalForm.{canonical}
 use Rattle.iri_normal.proofs.CanonLaws.{canonical-iri, canonical-own}
 use Rattle.iri_link.proofs.OneListLemmas.{one_list}

@@ -4,9 +4,9 @@ use Rattle.iri_normal.proofs.Common.{append-nil, nat_lt, to_ascii_lowercase, or-
 use Rattle.iri_normal.proofs.Common.{is_host, is_reg_name, is_ip_literal, normal, pct, is_ascii_host, is_dropped, normal_host}
 use Rattle.iri_normal.proofs.Common.{normal_userinfo, normal_port_in, normal_authority_parts_in, normal_authority, normal_authority_in}
 use Rattle.iri_normal.proofs.Common.{authority_in, normal_nil, pct-stable, userinfo-whole, host-whole}
-use Rattle.iri_grammar.proofs.LiteralChars.{is_literal_char, ip_literal-chars, all-weaken}
+use Rattle.iri_grammar.proofs.hosts.LiteralChars.{is_literal_char, ip_literal-chars, all-weaken}
 use Rattle.iri_grammar.specs.Authority.{AuthorityParts, FitsAuthority, ReadsAuthority, recompose_authority, authority_parts, is_authority}
-use Rattle.iri_grammar.proofs.AuthorityLaws.{reading_is, authority_law}
+use Rattle.iri_grammar.proofs.authorities.AuthorityLaws.{reading_is, authority_law}
 use Rattle.iri_percent.specs.NormalHost.{authority_without}
 use Rattle.iri_percent.proofs.NormalLaws.{normal_plains}
 use Rattle.iri_percent.proofs.ClassLaws.{pct-userinfo, pct-reg_name, lowered-reg_name}

@@ -19,12 +19,12 @@ pub use Rattle.std.specs.Prelude.{nat_lt, ◌==◌, string_bytes, option_map, Is
 pub use Rattle.std.specs.Str.{bytes_eq, IsUtf8, IsCharBoundary}
 pub use denote.Ref.{Bor}
 unfoldable pub use lib.Utf8.{encode}
-pub use Rattle.iri_grammar.proofs.CutLaws.{by_test, joined, both, test_apart, lacks-append, lacks-other}
-pub use Rattle.iri_grammar.proofs.FaultLaws.{absolute-law, reference-law, iri-law}
-pub use Rattle.iri_grammar.proofs.PiecesLaws.{pieces_cut, after_shorter}
-pub use Rattle.iri_grammar.proofs.SplitLaws.{scheme-chars, recompose_split}
-pub use Rattle.iri_grammar.proofs.SplitUnique.{split_is}
-pub use Rattle.iri_grammar.proofs.UnitRuns.{text_over-append, nothing_over}
+pub use Rattle.iri_grammar.proofs.splits.CutLaws.{by_test, joined, both, test_apart, lacks-append, lacks-other}
+pub use Rattle.iri_grammar.proofs.faults.FaultLaws.{absolute-law, reference-law, iri-law}
+pub use Rattle.iri_grammar.proofs.hosts.PiecesLaws.{pieces_cut, after_shorter}
+pub use Rattle.iri_grammar.proofs.splits.SplitLaws.{scheme-chars, recompose_split}
+pub use Rattle.iri_grammar.proofs.splits.SplitUnique.{split_is}
+pub use Rattle.iri_grammar.proofs.units.UnitRuns.{text_over-append, nothing_over}
 pub use Rattle.iri_grammar.specs.Authority.{AuthorityParts, authority_parts, is_authority}
 unfoldable pub use Rattle.iri_grammar.specs.Authority.{recompose_authority}
 pub use Rattle.iri_grammar.specs.Classes.{Tests, IsSpec}

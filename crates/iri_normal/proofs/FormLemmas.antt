@@ -6,7 +6,7 @@ use Rattle.iri_normal.proofs.Common.{is_scheme, is_scheme_char, delimited, both,
 use Rattle.iri_normal.proofs.Common.{authority_text, scheme-chars, now_of, IsText, ended, letter, over-from_text, normal_host}
 use Rattle.iri_normal.proofs.Common.{is_ascii_host, normal_nil, normal_plain, normal, pct, reg_name_percent, lowered, where_there}
 use Rattle.iri_normal.proofs.Common.{becomes_slash, part_in, in_form}
-use Rattle.iri_grammar.proofs.SplitUnique.{scheme_char-below as scheme-low}
+use Rattle.iri_grammar.proofs.splits.SplitUnique.{scheme_char-below as scheme-low}
 
 -- ---- a scheme is a host, and put into lower case as one
 scheme-percent : (c : ℕ) → is_scheme_char c ≡ true → (c == 37) ≡ false

@@ -13,7 +13,7 @@ use Rattle.iri_normal.proofs.Common.{target_path, merge_prefix, to_last_slash, b
 use Rattle.iri_normal.proofs.Common.{normal_parts, normal_path, preserved_path, slash_or, Mode, Plain, Normal, Preserving, ByScheme}
 use Rattle.iri_normal.proofs.Common.{userinfo-whole, host-whole, path-whole, query-whole, fragment-whole}
 use Rattle.iri_grammar.specs.Authority.{FitsAuthority, userinfo_text}
-use Rattle.iri_grammar.proofs.AuthorityLaws.{authority_recomposed}
+use Rattle.iri_grammar.proofs.authorities.AuthorityLaws.{authority_recomposed}
 use Rattle.iri_percent.proofs.UnitLaws.{length-spelled}
 use Rattle.iri_normal.specs.Target.{target_query, merged, or_base}
 use Rattle.iri_normal.specs.NormalForm.{parts_with, plain_path}

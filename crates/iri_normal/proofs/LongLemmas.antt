@@ -9,8 +9,8 @@ use Rattle.std.proofs.Common.{Some, None, refl, sym, ◌∙◌, ap, ap₂, subst
 use Rattle.std.proofs.lemmas.List.{get_or-take, length-drop, nil_from_length}
 use Rattle.std.proofs.lemmas.List.Recursion.{is_count_by}
 use Rattle.memchr.specs.Find.{IsFirstByte}
-use Rattle.iri_grammar.proofs.CutLemmas.{found}
-use Rattle.iri_grammar.proofs.AuthorityTexts.{text_over-utf8}
+use Rattle.iri_grammar.proofs.splits.FirstBytes.{found}
+use Rattle.iri_grammar.proofs.authorities.AuthorityTexts.{text_over-utf8}
 use Rattle.iri_normal.specs.inside.CutText.{IsCut}
 use Rattle.iri_normal.specs.inside.NextDots.{IsNext}
 use Rattle.iri_normal.proofs.EndedLemmas.{first_whole, rest-ends, slash-ends, take-ends}

@@ -12,7 +12,7 @@ use Rattle.iri_normal.proofs.Common.{path_percent, dots, lowered, becomes_slash,
 use Rattle.iri_normal.proofs.Common.{slash_or, target, target_under, target_path, merge_prefix, to_last_slash}
 use Rattle.iri_grammar.specs.Authority.{AuthorityParts, FitsAuthority, authority_parts, recompose_authority, is_authority}
 use Rattle.iri_grammar.specs.Classes.{uri_tests, userinfo_char, query_char, fragment_char}
-use Rattle.iri_grammar.proofs.LiteralChars.{is_literal_char, ip_literal-chars}
+use Rattle.iri_grammar.proofs.hosts.LiteralChars.{is_literal_char, ip_literal-chars}
 use Rattle.iri_percent.proofs.ClassLaws.{escape, text-from_over}
 use Rattle.iri_percent.specs.Mapping.{mapped, mapped_parts}
 use Rattle.iri_percent.proofs.MapDelimiters.{mapped-empty, mapped-slash}

@@ -6,7 +6,7 @@ use Rattle.iri_normal.proofs.Common.{pct-path, normal_authority, pct-stable, pct
 use Rattle.iri_normal.proofs.Common.{fragment-whole, dots, guard, is_normalizing, mode_of, lowered, where_there, form, normal_path}
 use Rattle.iri_normal.proofs.Common.{preserved_path, part_in, Mode, Plain, Normal, Preserving, ByScheme}
 use Rattle.std.specs.Prelude.{IsNone}
-use Rattle.iri_grammar.proofs.SplitUnique.{one_split}
+use Rattle.iri_grammar.proofs.splits.SplitUnique.{one_split}
 use Rattle.iri_normal.proofs.SchemeForm.{form-is}
 use Rattle.iri_normal.proofs.FormLaws.{normal_in-fits, parts-fit, scheme-stable, authorities-stable, triplets-stable}
 use Rattle.iri_normal.proofs.PathLaws.{path-over, path-rules, path-stable, plain-over, plain-rules, pct-unrooted, normal-rooted}

@@ -2,7 +2,7 @@
 use Rattle.iri_normal.proofs.Common.{◌≡◌, ℕ, Bool, List, Option, None, refl, sym, ◌∙◌, ap, subst, ∥∥₁_elim, props, IsSome, Tests, IsSpec}
 use Rattle.iri_normal.proofs.Common.{iri-law, Fits, recompose, split_of, recompose_split, split_is, reference_fault, iri_fault, CanonMode}
 use Rattle.iri_normal.proofs.Common.{canonical_in, mode_of, slices, target}
-use Rattle.iri_grammar.proofs.FaultLaws.{no_fault_where_splits, splits_where_no_fault}
+use Rattle.iri_grammar.proofs.faults.FaultLaws.{no_fault_where_splits, splits_where_no_fault}
 use Rattle.iri_grammar.specs.declared.error.ErrorKind.{ErrorKind}
 use Rattle.iri_normal.proofs.CanonLaws.{written-canonical as targets-canonical}
 use Rattle.iri_normal.specs.Normalized.{AreSound, Written, written_text}

@@ -14,10 +14,10 @@ use Rattle.std.proofs.lemmas.Str.Ascii.{IsAscii-cons, IsAscii-nil}
 use Rattle.std.proofs.Math.Seq.{drop-append_seam}
 use Rattle.std.proofs.lemmas.Str.{IsAscii-append}
 use Rattle.iri_grammar.specs.Seen.{is_plain_authority, is_small}
-use Rattle.iri_grammar.proofs.SplitLaws.{scheme-lacks, delimited-lacks}
-use Rattle.iri_grammar.proofs.SplitUnique.{scheme_char-below}
-use Rattle.iri_grammar.proofs.AuthorityTexts.{all_below}
-use Rattle.iri_grammar.proofs.LiteralChars.{all-join}
+use Rattle.iri_grammar.proofs.splits.SplitLaws.{scheme-lacks, delimited-lacks}
+use Rattle.iri_grammar.proofs.splits.SplitUnique.{scheme_char-below}
+use Rattle.iri_grammar.proofs.authorities.AuthorityTexts.{all_below}
+use Rattle.iri_grammar.proofs.hosts.LiteralChars.{all-join}
 use Rattle.iri_percent.specs.Units.{IsOutsideTriplets}
 use Rattle.iri_percent.proofs.PlainTexts.{pct-prefix, pct-same, pct-delimited, plain-ascii, plain-lacks, plain_authority, small-lowered}
 use Rattle.iri_percent.proofs.WholeLaws.{lacks-whole, whole-append}

@@ -5,7 +5,7 @@ use Rattle.iri_normal.proofs.Common.{delimited, IsUtf8, IsCharBoundary, Parts, F
 use Rattle.iri_normal.proofs.Common.{authority_text, split_of, recompose_split, ended, over-from_text, pct, path_percent, is_normalizing}
 use Rattle.iri_normal.proofs.Common.{form, part_in, path_in, IsPrefix, prefix_in, target, Mode, Plain, Normal, Preserving, ByScheme}
 use Rattle.std.proofs.lemmas.Str.{IsCharBoundary-from_take}
-use Rattle.iri_grammar.proofs.SplitUnique.{splits-utf8}
+use Rattle.iri_grammar.proofs.splits.SplitUnique.{splits-utf8}
 use Rattle.iri_normal.specs.Modes.{is_by_scheme}
 
 -- a target with neither scheme nor authority of its own has the base's prefix

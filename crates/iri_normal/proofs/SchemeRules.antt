@@ -10,7 +10,7 @@ use Rattle.std.specs.Str.{str_eq_ignore_ascii_case}
 use Rattle.std.proofs.Math.Seq.{get_or-append_seam}
 use Rattle.std.proofs.lemmas.Slice.Eq.{bytes_eq-Decides}
 use Rattle.iri_grammar.specs.Authority.{userinfo_text}
-use Rattle.iri_grammar.proofs.AuthorityLaws.{authority_recomposed}
+use Rattle.iri_grammar.proofs.authorities.AuthorityLaws.{authority_recomposed}
 use Rattle.iri_percent.specs.SchemeRules.{is_either}
 unfoldable use Rattle.iri_percent.specs.NormalHost.{authority_without}
 unfoldable use Rattle.iri_normal.specs.inside.SchemeRules.{colon_before_end}

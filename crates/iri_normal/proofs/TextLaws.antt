@@ -5,8 +5,8 @@ use Rattle.std.specs.Str.{chars, is_utf8}
 use lib.Utf8.{scalars}
 use Rattle.std.proofs.lemmas.Str.{is_utf8-from_IsUtf8, IsUtf8-append, chars-encodes, chars-append}
 use Rattle.iri_grammar.specs.Over.{over_from, over}
-use Rattle.iri_grammar.proofs.AuthorityTexts.{one_byte-utf8, text_over-utf8}
-use Rattle.iri_grammar.proofs.Delimiters.{text_after_delimiter, text_before_delimiter}
+use Rattle.iri_grammar.proofs.authorities.AuthorityTexts.{one_byte-utf8, text_over-utf8}
+use Rattle.iri_grammar.proofs.splits.CharBoundaries.{text_after_delimiter, text_before_delimiter}
 
 -- on both sides of a byte that is no digit of a triplet
 over-sides : (p : ℕ → Bool) (c n : ℕ) (xs ys : List ℕ) → is_ascii_hexdigit c ≡ false → over_from p n (xs ++ c ∷ ys) ≡ true

@@ -9,7 +9,7 @@ use Rattle.std.proofs.Common.{sym, ◌∙◌, ap, subst, arith, append-nil}
 use Rattle.std.specs.Char.{digit_value}
 use Rattle.std.proofs.lemmas.List.{map-id}
 use lib.Utf8.{scalar}
-use Rattle.iri_grammar.proofs.CutBytes.{lacks-encodes}
+use Rattle.iri_grammar.proofs.units.LackedBytes.{lacks-encodes}
 use Rattle.iri_percent.specs.Units.{octets, first_char}
 use Rattle.iri_percent.proofs.UnitLaws.{encode_bytes, octets_triplet, char_first}
 use Rattle.iri_percent.proofs.Reading.{whole_triplet, percent_follows}

@@ -5,7 +5,7 @@ use Rattle.iri_normal.proofs.Common.{unreserved, is_ascii_unreserved, lacks, bef
 use Rattle.iri_normal.proofs.Common.{test_apart, pieces, onto, more_pieces, pieces_cut, whole_triplets, two_digits, as_it_is, pct, Spells}
 use Rattle.iri_normal.proofs.Common.{none, more, pct_delimiter, slash, normal_nil, normal_plain, normal_lone, normal_char, Reading, done}
 use Rattle.iri_normal.proofs.Common.{plain, char, lone, read, upper_hex, dots}
-use Rattle.iri_grammar.proofs.CutBytes.{lacks-encodes}
+use Rattle.iri_grammar.proofs.units.LackedBytes.{lacks-encodes}
 use Rattle.iri_percent.specs.Units.{IsOutsideTriplets}
 use Rattle.iri_normal.proofs.PieceLaws.{all_lack, pieces-whole, pieces-slash, pieces-lack}
 use Rattle.iri_normal.proofs.OutputLaws.{KeepsSegments, dots-map}

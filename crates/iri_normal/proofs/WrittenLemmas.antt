@@ -3,7 +3,7 @@ use Rattle.iri_normal.proofs.Common.{◌≡◌, ℕ, Bool, true, false, cond, �
 use Rattle.iri_normal.proofs.Common.{subst, append_assoc, append-nil, or_parts, before, after, is_empty, pieces, more_pieces, pieces_cut}
 use Rattle.iri_normal.proofs.Common.{is_two_dots, without_last, dots, is_dot_segment, any_dot_segment, has_dot_segment, ends_at_slash}
 use Rattle.iri_grammar.specs.Pieces.{joined}
-use Rattle.iri_grammar.proofs.Ipv6Laws.{joined_pieces}
+use Rattle.iri_grammar.proofs.hosts.Ipv6Laws.{joined_pieces}
 use Rattle.iri_normal.proofs.EndedLemmas.{both-end, slash-ends}
 use Rattle.iri_normal.proofs.SegmentLemmas.{alone, ended}
 use Rattle.iri_normal.proofs.OutputLaws.{text_after, text_from, dots-text}

@@ -9,7 +9,7 @@ use Rattle.std.proofs.Common.{cond, drop-drop, ltb-true, ltb-false, get_or-drop,
 use Rattle.std.specs.Prelude.{MatchOption}
 use Rattle.std.proofs.lemmas.Str.{IsUtf8-encode, IsUtf8-from_ascii, lead_after_ascii}
 use Rattle.std.proofs.lemmas.List.{get_or_append_left}
-use Rattle.iri_grammar.proofs.Units.{hex_is_ascii}
+use Rattle.iri_grammar.proofs.units.FirstUnits.{hex_is_ascii}
 use Rattle.iri_percent.proofs.Characters.{ascii_decoded, low_decoded, past_ascii, unreserved_low}
 use Rattle.iri_percent.proofs.UnitLaws.{octets_triplet, Spells, none, more, spelled, Spelled, length-spelled}
 use Rattle.iri_percent.proofs.NormalLaws.{normal_nil, normal_plain, normal_decoded, normal_kept}

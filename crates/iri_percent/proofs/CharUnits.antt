@@ -12,7 +12,7 @@ use Rattle.iri_percent.proofs.NormalLaws.{PrefixTriplet, prefix_triplet}
 use Rattle.iri_percent.proofs.MapTexts.{is_high, encode-high}
 use Rattle.iri_percent.proofs.UnitTexts.{units-text}
 use Rattle.iri_percent.specs.CharUnits.{first_char_unit}
-use Rattle.iri_grammar.proofs.Units.{past_hex as high_no_hex}
+use Rattle.iri_grammar.proofs.units.FirstUnits.{past_hex as high_no_hex}
 
 -- ---- digits after a `%`
 pub no_two : (x : ℕ) (xs : List ℕ) → is_ascii_hexdigit x ≡ false → two_digits (x ∷ xs) ≡ false

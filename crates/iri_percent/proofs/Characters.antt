@@ -5,7 +5,7 @@ use Rattle.iri_percent.proofs.Common.{◌*◌, ◌%◌, chars, ltb, encode, next
 use Rattle.iri_percent.proofs.Common.{nat_tests, lt-ltb, le-ltb, Tests, IsSpec, unreserved, is_ascii_unreserved, first_char, decoded}
 use Rattle.iri_percent.proofs.Common.{unreserved_only, char_from}
 use Rattle.iri_grammar.specs.inside.Runs.{begins_with_more}
-use Rattle.iri_grammar.proofs.WideChars.{spelled_in_three, spelled_in_two}
+use Rattle.iri_grammar.proofs.units.WideChars.{spelled_in_three, spelled_in_two}
 use Rattle.iri_percent.proofs.UnitLaws.{BeginsChar, first_char_is, char_first, none_before, continuation_none, is_continuation}
 use Rattle.iri_percent.proofs.UnitLaws.{next_continues}
 

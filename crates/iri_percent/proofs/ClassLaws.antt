@@ -9,7 +9,7 @@ use Rattle.iri_percent.proofs.Common.{by_test, is_reg_name, over, text_over, IsO
 use Rattle.std.specs.Prelude.{codes}
 use Rattle.std.specs.Char.{is_ascii_hexdigit, is_ascii_uppercase, char_set_contains, to_ascii_uppercase, to_ascii_lowercase}
 use Rattle.std.proofs.lemmas.Str.{chars-encodes, is_utf8-from_IsUtf8}
-use Rattle.iri_grammar.proofs.OverLaws.{units-from_over, over-from_units}
+use Rattle.iri_grammar.proofs.units.OverLaws.{units-from_over, over-from_units}
 use Rattle.iri_percent.proofs.UnitLaws.{Spells, none, more, Spelled, spelled, length-spelled, encode_bytes, encodes_triplet}
 use Rattle.iri_percent.proofs.NormalLaws.{normal_nil, normal_plains, normal_decoded, normal_kept}
 use Rattle.iri_percent.proofs.Stability.{IsCase, as_it_is-case, lower-case, upper_hex, encode_percent}

@@ -17,7 +17,7 @@ unfoldable pub use Rattle.std.specs.Str.{chars}
 pub use lib.Dec.{ltb}
 pub use lib.Utf8.{scalar, low_scalar, encodes, scalars, next}
 unfoldable pub use lib.Utf8.{encode}
-pub use Rattle.iri_grammar.proofs.CutLaws.{both, by_test, all-lacks}
+pub use Rattle.iri_grammar.proofs.splits.CutLaws.{both, by_test, all-lacks}
 pub use Rattle.iri_grammar.specs.Authority.{AuthorityParts, FitsAuthority, userinfo_text}
 unfoldable pub use Rattle.iri_grammar.specs.Authority.{authority_parts, recompose_authority}
 pub use Rattle.iri_grammar.specs.ClassTests.{class_test, ascii_test}

@@ -3,7 +3,7 @@ use Rattle.iri_percent.proofs.Common.{◌≡◌, ℕ, ◌<◌, Bool, true, false
 use Rattle.iri_percent.proofs.Common.{◌/◌, ◌%◌, nat_lt, not, flat_map, list_all, chars, IsUtf8, encode, encodes, scalar, scalars}
 use Rattle.iri_percent.proofs.Common.{encode_ascii, encodes-chars, scalars-chars, nat_tests, Tests, IsSpec, both, capital_hex, triplets}
 use Rattle.iri_percent.proofs.Common.{keeps, encoded, encoded_char, decoding}
-use Rattle.iri_grammar.proofs.ClassLaws.{class_has_no_percent}
+use Rattle.iri_grammar.proofs.units.ClassLaws.{class_has_no_percent}
 use Rattle.iri_percent.proofs.MapTexts.{is_high, encode-high, high_small, octet_of, capital_is_hex, first_digit, second_digit}
 use Rattle.iri_percent.proofs.Stability.{encode_percent}
 use Rattle.iri_percent.proofs.ClassLaws.{class_percent}

@@ -5,7 +5,7 @@ use Rattle.iri_percent.proofs.Common.{encode_utf8, chars, IsUtf8, IsCharBoundary
 use Rattle.iri_percent.proofs.Common.{nat_tests, not-true, Tests, IsSpec, userinfo_char, reg_name_char, is_ascii_userinfo}
 use Rattle.iri_percent.proofs.Common.{is_ascii_reg_name, is_ascii_unreserved, is_sub_delim, class_test, ascii_test, both, run_of, triplet}
 use Rattle.iri_percent.proofs.Common.{triplets, encoded, encoded_char, is_other, run_text, IsPastRun}
-use Rattle.iri_grammar.proofs.ClassLaws.{class_at_ascii}
+use Rattle.iri_grammar.proofs.units.ClassLaws.{class_at_ascii}
 use Rattle.iri_grammar.specs.declared.class.Class.{Class}
 use Rattle.iri_text.proofs.CharSteps.{first_char}
 use Rattle.std.proofs.StrCases.{chars_of_empty}

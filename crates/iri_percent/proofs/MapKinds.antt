@@ -8,17 +8,17 @@ use Rattle.iri_percent.proofs.Common.{is_path, is_query, is_fragment, before, de
 use Rattle.std.specs.Prelude.{IsSome, IsNone}
 use Rattle.std.proofs.Math.Bool.{or-true}
 use Rattle.iri_grammar.specs.Authority.{is_authority}
-use Rattle.iri_grammar.proofs.AuthorityLaws.{authority_law, reading_is, passes, authority_recomposed}
+use Rattle.iri_grammar.proofs.authorities.AuthorityLaws.{authority_law, reading_is, passes, authority_recomposed}
 use Rattle.iri_grammar.specs.Components.{is_scheme, is_scheme_char}
 use Rattle.iri_grammar.specs.Fault.{query_fault, fragment_fault}
-use Rattle.iri_grammar.proofs.FaultLaws.{passed, no_fault, reference-law, iri-law, absolute-law, relative-law}
+use Rattle.iri_grammar.proofs.faults.FaultLaws.{passed, no_fault, reference-law, iri-law, absolute-law, relative-law}
 use Rattle.iri_grammar.specs.IpLiteral.{is_ip_literal}
-use Rattle.iri_grammar.proofs.LiteralChars.{is_literal_char, ip_literal-chars}
+use Rattle.iri_grammar.proofs.hosts.LiteralChars.{is_literal_char, ip_literal-chars}
 use Rattle.iri_grammar.specs.Parts.{Parts, Fits, Splits, IsReference, IsIri, IsAbsolute, IsRelative, path_rules, recompose, scheme_text}
 use Rattle.iri_grammar.specs.Parts.{authority_text}
 use Rattle.iri_grammar.specs.Split.{split_of}
-use Rattle.iri_grammar.proofs.SplitLaws.{scheme-chars}
-use Rattle.iri_grammar.proofs.SplitUnique.{split_is}
+use Rattle.iri_grammar.proofs.splits.SplitLaws.{scheme-chars}
+use Rattle.iri_grammar.proofs.splits.SplitUnique.{split_is}
 use Rattle.iri_grammar.specs.WholeFault.{reference_fault, iri_fault, absolute_fault, relative_fault}
 use Rattle.iri_grammar.specs.declared.error.ErrorKind.TheVariants.{InvalidQuery, InvalidFragment}
 use Rattle.iri_percent.specs.Mapping.{mapped_parts}

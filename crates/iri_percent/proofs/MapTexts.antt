@@ -5,7 +5,7 @@ use Rattle.iri_percent.proofs.Common.{encode, scalar, encode_ascii, nat_tests, I
 use Rattle.iri_percent.proofs.Common.{triplet, mapped}
 use Rattle.std.specs.Int.{is_in_range}
 use Rattle.iri_percent.proofs.ClassLaws.{IsText, ended, letter, escape, text-from_over, over-from_text}
-use Rattle.iri_grammar.proofs.LiteralChars.{all-weaken}
+use Rattle.iri_grammar.proofs.hosts.LiteralChars.{all-weaken}
 use Rattle.iri_percent.proofs.UnitLaws.{encode_bytes, is_continuation, Spells, none, more}
 
 -- ---- bytes

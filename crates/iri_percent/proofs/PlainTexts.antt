@@ -9,11 +9,11 @@ use Rattle.std.proofs.lemmas.List.{map-append}
 use Rattle.iri_grammar.specs.Authority.{after_userinfo}
 use Rattle.iri_grammar.specs.Seen.{is_kept_port, is_plain_authority, is_small}
 use Rattle.iri_grammar.specs.declared.class.Class.TheVariants.{RegName}
-use Rattle.iri_grammar.proofs.AuthorityLaws.{authority_recomposed}
-use Rattle.iri_grammar.proofs.AuthorityTexts.{all_below, digit-below, port-digits}
-use Rattle.iri_grammar.proofs.ClassLaws.{ascii_test_below, no_percent}
-use Rattle.iri_grammar.proofs.CutLaws.{lacks-append, test_apart}
-use Rattle.iri_grammar.proofs.PlainAuthorities.{port_small}
+use Rattle.iri_grammar.proofs.authorities.AuthorityLaws.{authority_recomposed}
+use Rattle.iri_grammar.proofs.authorities.AuthorityTexts.{all_below, digit-below, port-digits}
+use Rattle.iri_grammar.proofs.units.ClassLaws.{ascii_test_below, no_percent}
+use Rattle.iri_grammar.proofs.splits.CutLaws.{lacks-append, test_apart}
+use Rattle.iri_grammar.proofs.authorities.PlainAuthorities.{port_small}
 use Rattle.iri_percent.specs.Units.{IsOutsideTriplets}
 use Rattle.iri_percent.specs.NormalHost.{normal_authority_parts, normal_port, normal_userinfo}
 use Rattle.iri_percent.proofs.Changes.{run_all}

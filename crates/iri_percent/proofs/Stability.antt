@@ -5,8 +5,8 @@ use Rattle.iri_percent.proofs.Common.{encode_utf8, nat_tests, append-nil, Tests,
 use Rattle.iri_percent.proofs.Common.{Plain, Char, Lone, Stray, IllFormed, octet, octets, first_char, units, units_from, whole_triplets}
 use Rattle.iri_percent.proofs.Common.{plains, normal, as_it_is, pct, written, normal_unit, flat_map}
 use Rattle.std.proofs.lemmas.Str.Ascii.{lowercase-lowercase, lowercase_ascii, uppercase-uppercase}
-use Rattle.iri_grammar.proofs.CutLaws.{by_test, lacks-other}
-use Rattle.iri_grammar.proofs.CutBytes.{lacks-encodes}
+use Rattle.iri_grammar.proofs.splits.CutLaws.{by_test, lacks-other}
+use Rattle.iri_grammar.proofs.units.LackedBytes.{lacks-encodes}
 use Rattle.std.proofs.lemmas.Grind.{flat_map-append}
 use Rattle.iri_percent.proofs.CharLaws.{written_plains, normal-by_bytes}
 use Rattle.iri_percent.proofs.UnitLaws.{Spells, none, more, octets_other, octets_triplet, octets_spelled, encode_bytes, none_before}

@@ -8,7 +8,7 @@ use Rattle.std.proofs.Common.{take, drop, refl, sym, ◌∙◌, ap, subst, arith
 use Rattle.std.specs.Int.{is_in_range}
 use Rattle.std.proofs.lemmas.Str.{chars-append, chars-encodes, IsUtf8-encode}
 use Rattle.std.proofs.lemmas.Bool.{and_from}
-use Rattle.iri_grammar.proofs.Units.{hex_is_ascii}
+use Rattle.iri_grammar.proofs.units.FirstUnits.{hex_is_ascii}
 use Rattle.iri_percent.specs.Units.{starts_with, well_formed}
 
 -- ---- octets

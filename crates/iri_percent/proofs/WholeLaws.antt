@@ -7,9 +7,9 @@ use Rattle.iri_percent.proofs.Common.{is_path, is_path_segment, is_query, is_fra
 use Rattle.iri_percent.proofs.Common.{is_reg_name, over, text_over, IsOver, two_digits, whole_triplets}
 use Rattle.iri_percent.proofs.UnitLaws.{encodes_triplet, lacks_first}
 use Rattle.iri_grammar.specs.IpLiteral.{is_ip_literal}
-use Rattle.iri_grammar.proofs.LiteralChars.{is_literal_char, ip_literal-chars}
+use Rattle.iri_grammar.proofs.hosts.LiteralChars.{is_literal_char, ip_literal-chars}
 use Rattle.iri_grammar.specs.Over.{done, plain, triplet}
-use Rattle.iri_grammar.proofs.OverLaws.{units-from_over}
+use Rattle.iri_grammar.proofs.units.OverLaws.{units-from_over}
 use Rattle.iri_percent.proofs.Reading.{whole_plain, whole_triplet}
 use Rattle.iri_percent.proofs.Stability.{encode_percent, whole_plains}
 

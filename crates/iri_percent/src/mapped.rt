@@ -64,7 +64,7 @@ fn run_len(bytes: &[u8], past: bool) -> usize
 }
 
 // The longest run at the start of ASCII bytes, or of bytes past ASCII, and the rest.
-#[tactic(auto, using(iri_grammar::proofs::Units::run_of_le))]
+#[tactic(auto, using(iri_grammar::proofs::units::FirstUnits::run_of_le))]
 fn split_run(bytes: &[u8], past: bool) -> (&[u8], &[u8])
     ensures run { result.0.now ≡ take (run_of (goes_on past) bytes.now) bytes.now }
     ensures rest { result.1.now ≡ drop (run_of (goes_on past) bytes.now) bytes.now }

@@ -7,8 +7,8 @@ use Rattle.iri_grammar.specs.Fault.{bytes_fault}
 use Rattle.iri_grammar.specs.Parts.{Fits, IsReference, IsAbsolute}
 use Rattle.iri_grammar.specs.Split.{split_of}
 use Rattle.iri_grammar.specs.WholeFault.{absolute_fault, reference_fault}
-use Rattle.iri_grammar.proofs.FaultLaws.{absolute-law, reference-law}
-use Rattle.iri_grammar.proofs.SplitUnique.{split_is}
+use Rattle.iri_grammar.proofs.faults.FaultLaws.{absolute-law, reference-law}
+use Rattle.iri_grammar.proofs.splits.SplitUnique.{split_is}
 use Rattle.iri_normal.specs.NormalForm.{canonical}
 use Rattle.iri_normal.specs.Target.{target}
 use Rattle.iri_resolve.proofs.SchemeSteps.{joined-exactly, texts-exactly}

@@ -5,10 +5,10 @@ use Rattle.iri_resolve.proofs.Common.{is_ascii_uppercase, to_ascii_lowercase, to
 use Rattle.iri_resolve.proofs.Common.{is_in_triplet, is_small_digit, with_small_letter, with_small_host_letter, with_capital_digit}
 use Rattle.std.proofs.lemmas.Str.{IsUtf8-append, chars-append}
 use Rattle.std.proofs.lemmas.Option.{cond_some}
-use Rattle.iri_grammar.proofs.AuthorityTexts.{text_over-utf8, delimited-utf8}
+use Rattle.iri_grammar.proofs.authorities.AuthorityTexts.{text_over-utf8, delimited-utf8}
 use Rattle.iri_grammar.specs.Over.{over_from, over}
-use Rattle.iri_grammar.proofs.Units.{hex_is_ascii}
-use Rattle.iri_grammar.proofs.Delimiters.{text_after_delimiter, text_before_delimiter}
+use Rattle.iri_grammar.proofs.units.FirstUnits.{hex_is_ascii}
+use Rattle.iri_grammar.proofs.splits.CharBoundaries.{text_after_delimiter, text_before_delimiter}
 use Rattle.iri_normal.proofs.TextLaws.{is_utf8-of, over-of, chars-ascii}
 
 -- ---- one byte

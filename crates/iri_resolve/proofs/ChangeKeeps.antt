@@ -6,8 +6,8 @@ use Rattle.iri_resolve.proofs.Common.{whole_triplets, normal, encode_bytes, lack
 use Rattle.std.proofs.Common.{append-nil}
 use Rattle.std.proofs.lemmas.List.{length-take}
 use Rattle.iri_grammar.specs.Cut.{lacks}
-use Rattle.iri_grammar.proofs.CutBytes.{lacks-encodes}
-use Rattle.iri_grammar.proofs.CutLaws.{lacks-other, test_apart}
+use Rattle.iri_grammar.proofs.units.LackedBytes.{lacks-encodes}
+use Rattle.iri_grammar.proofs.splits.CutLaws.{lacks-other, test_apart}
 use Rattle.iri_normal.proofs.TripletPaths.{slash-delimits}
 use Rattle.iri_normal.proofs.OutputLaws.{lacks_there}
 use Rattle.iri_resolve.proofs.ByteLaws.{capital_digit}

@@ -15,7 +15,7 @@ use Rattle.iri_percent.proofs.UnitLaws.{hex_apart, octets_triplet, octets_spelle
 use Rattle.iri_percent.proofs.NormalLaws.{normal_plains, normal_lone, normal_char}
 use Rattle.iri_percent.proofs.Reading.{Reading, done, plain, char, lone}
 use Rattle.iri_percent.proofs.Stability.{as_it_is-case, upper_hex, upper_octet, encode_percent, unreserved_percent, decoded_octets}
-use Rattle.iri_grammar.proofs.UnitRuns.{text_over-append}
+use Rattle.iri_grammar.proofs.units.UnitRuns.{text_over-append}
 use Rattle.iri_resolve.proofs.ByteLaws.{capital_digit, IsAsGood, byte_change-over, text_over-after, digit_low}
 use Rattle.iri_normal.proofs.TripletDots.{map_same}
 use Rattle.iri_normal.proofs.TextLaws.{text_over-sides}

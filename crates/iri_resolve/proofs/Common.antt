@@ -11,8 +11,8 @@ pub use Rattle.std.specs.Char.{is_ascii_uppercase, to_ascii_lowercase, is_ascii_
 pub use Rattle.std.specs.Prelude.{nat_lt, take, ◌==◌, drop, slice_index, slice_set, is_some, string_bytes, IsSome, IfOk}
 pub use Rattle.std.specs.Str.{bytes_eq, IsUtf8}
 unfoldable pub use Rattle.std.specs.Str.{chars}
-pub use Rattle.iri_grammar.proofs.AuthorityLaws.{reading_is, passes, authority_recomposed}
-pub use Rattle.iri_grammar.proofs.CutLaws.{both, by_test}
+pub use Rattle.iri_grammar.proofs.authorities.AuthorityLaws.{reading_is, passes, authority_recomposed}
+pub use Rattle.iri_grammar.proofs.splits.CutLaws.{both, by_test}
 pub use Rattle.iri_grammar.specs.Authority.{AuthorityParts, FitsAuthority, authority_parts, is_authority, userinfo_text}
 unfoldable pub use Rattle.iri_grammar.specs.Authority.{recompose_authority}
 pub use Rattle.iri_grammar.specs.Classes.{Tests, IsSpec, userinfo_char, path_char, query_char, fragment_char}

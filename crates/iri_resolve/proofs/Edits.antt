@@ -10,9 +10,9 @@ use Rattle.iri_percent.specs.Units.{first_char}
 use Rattle.std.proofs.lemmas.Str.{lead_after_ascii, IsUtf8-append}
 use Rattle.iri_resolve.proofs.ChangeLaws.{some_triplets}
 use Rattle.iri_resolve.proofs.ByteLaws.{cut_at}
-use Rattle.iri_grammar.proofs.Units.{hex_is_ascii as digit_below}
-use Rattle.iri_grammar.proofs.AuthorityTexts.{delimited-utf8}
-use Rattle.iri_grammar.proofs.Delimiters.{text_after_delimiter, text_before_delimiter}
+use Rattle.iri_grammar.proofs.units.FirstUnits.{hex_is_ascii as digit_below}
+use Rattle.iri_grammar.proofs.authorities.AuthorityTexts.{delimited-utf8}
+use Rattle.iri_grammar.proofs.splits.CharBoundaries.{text_after_delimiter, text_before_delimiter}
 
 -- an ASCII byte in the place of another
 pub put-utf8 : (i : ℕ) (t : List ℕ) (y : ℕ) → i < length t → slice_index t i < 128 → y < 128 → IsUtf8 t → IsUtf8 (slice_set t i y)

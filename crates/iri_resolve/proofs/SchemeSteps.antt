@@ -9,7 +9,7 @@ use Rattle.std.proofs.Common.{◌≡◌, ◌≢◌, ◌↔◌, ℕ, Bool, true, 
 use Rattle.std.specs.Prelude.{codes}
 use Rattle.std.specs.Str.{str_eq_ignore_ascii_case}
 use Rattle.std.proofs.lemmas.Option.{cond_some}
-use Rattle.iri_grammar.proofs.SplitUnique.{one_split}
+use Rattle.iri_grammar.proofs.splits.SplitUnique.{one_split}
 use Rattle.iri_percent.specs.NormalHost.{normal_authority_in, normal_authority_parts_in, normal_port_in}
 use Rattle.iri_percent.specs.SchemeRules.{default_port, is_either}
 use Rattle.iri_percent.specs.declared.canon_mode.CanonMode.TheVariants.{Default, Scheme}

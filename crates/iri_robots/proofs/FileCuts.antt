@@ -4,7 +4,7 @@ use Rattle.iri_robots.proofs.Common.{ap, arith, append_assoc, append-nil, before
 use Rattle.std.specs.List.{flat_map}
 use Rattle.iri_grammar.specs.Pieces.{onto}
 use Rattle.iri_grammar.specs.inside.PiecesLaws.{more_pieces}
-use Rattle.iri_grammar.proofs.PiecesLaws.{pieces_cut}
+use Rattle.iri_grammar.proofs.hosts.PiecesLaws.{pieces_cut}
 use Rattle.iri_robots.specs.Files.{file_lines, file_records, is_in_line, more_lines}
 use Rattle.iri_robots.specs.Records.{line_records}
 

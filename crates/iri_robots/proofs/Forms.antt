@@ -10,7 +10,7 @@ use Rattle.std.proofs.Math.Bool.{and-false, or-false}
 use Rattle.std.proofs.Math.Utf8.{low_scalar}
 use Rattle.std.proofs.lemmas.Bool.{le-ltb, lt-ltb}
 use Rattle.iri_grammar.specs.Classes.{uri_tests, unreserved, is_ascii_unreserved}
-use Rattle.iri_grammar.proofs.Units.{run_of_le}
+use Rattle.iri_grammar.proofs.units.FirstUnits.{run_of_le}
 use Rattle.iri_percent.specs.Units.{octet, octets, two_digits}
 use Rattle.iri_percent.specs.Triplets.{normal, as_it_is}
 use Rattle.iri_percent.specs.ByteForm.{written}

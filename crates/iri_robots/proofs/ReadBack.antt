@@ -10,8 +10,8 @@ use Rattle.std.proofs.lemmas.Str.{encode_ascii}
 use Rattle.iri_grammar.specs.Classes.{is_ascii_unreserved}
 use Rattle.iri_grammar.specs.Cut.{before, after, lacks}
 use Rattle.iri_grammar.specs.Pieces.{onto}
-use Rattle.iri_grammar.proofs.CutLaws.{lacks-append, lacks-other}
-use Rattle.iri_grammar.proofs.Ipv6Laws.{pieces_before}
+use Rattle.iri_grammar.proofs.splits.CutLaws.{lacks-append, lacks-other}
+use Rattle.iri_grammar.proofs.hosts.Ipv6Laws.{pieces_before}
 use Rattle.iri_percent.specs.Mapping.{capital_hex}
 use Rattle.iri_percent.specs.Units.{octet, two_digits}
 use Rattle.iri_percent.proofs.MapForms.{unreserved_ascii}

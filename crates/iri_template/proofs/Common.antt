@@ -15,8 +15,8 @@ pub use Rattle.std.specs.Str.Lossy.{utf8_valid_len}
 pub use denote.Ref.{Bor}
 pub use denote.Shadow.{shadow}
 pub use denote.Text.{Utf8}
-pub use Rattle.iri_grammar.proofs.CutLaws.{by_test, joined}
-pub use Rattle.iri_grammar.proofs.Delimiters.{text_after}
+pub use Rattle.iri_grammar.proofs.splits.CutLaws.{by_test, joined}
+pub use Rattle.iri_grammar.proofs.splits.CharBoundaries.{text_after}
 pub use Rattle.iri_grammar.specs.Classes.{Tests, unreserved}
 unfoldable pub use Rattle.iri_grammar.specs.Classes.{any_char, is_ascii_any, is_ucschar, is_ucschar_plane, is_iprivate, is_ascii_reg_name}
 unfoldable pub use Rattle.iri_grammar.specs.Classes.{is_ascii_unreserved, is_sub_delim, is_gen_delim}

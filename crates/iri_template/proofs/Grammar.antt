@@ -15,13 +15,13 @@ use Rattle.std.proofs.lemmas.Bool.{cases_eq, or_cases, or_left}
 use Rattle.std.proofs.lemmas.Str.{IsUtf8-nil, IsUtf8-append, IsUtf8-encode, chars_from_encodes, IsUtf8-from_is_utf8}
 use lib.Utf8.{scalar, scalars, encodes}
 use Rattle.iri_grammar.specs.declared.class.Class.TheVariants.{Any}
-use Rattle.iri_grammar.proofs.ClassLaws.{ascii_test_below}
-use Rattle.iri_grammar.proofs.CutLaws.{before-delimited, after-delimited, all-lacks, lacks-append}
-use Rattle.iri_grammar.proofs.Ipv6Laws.{one_piece, joined_pieces, pieces_before}
-use Rattle.iri_grammar.proofs.PiecesLaws.{pieces_cut}
-use Rattle.iri_grammar.proofs.AuthorityTexts.{delimited-utf8}
-use Rattle.iri_grammar.proofs.LiteralChars.{all-join, all-weaken}
-use Rattle.iri_grammar.proofs.Units.{text_after_ascii, hex_is_ascii}
+use Rattle.iri_grammar.proofs.units.ClassLaws.{ascii_test_below}
+use Rattle.iri_grammar.proofs.splits.CutLaws.{before-delimited, after-delimited, all-lacks, lacks-append}
+use Rattle.iri_grammar.proofs.hosts.Ipv6Laws.{one_piece, joined_pieces, pieces_before}
+use Rattle.iri_grammar.proofs.hosts.PiecesLaws.{pieces_cut}
+use Rattle.iri_grammar.proofs.authorities.AuthorityTexts.{delimited-utf8}
+use Rattle.iri_grammar.proofs.hosts.LiteralChars.{all-join, all-weaken}
+use Rattle.iri_grammar.proofs.units.FirstUnits.{text_after_ascii, hex_is_ascii}
 use Rattle.iri_template.specs.Template.{has_some, is_piece, body_text, Spells, IsTemplate}
 use Rattle.iri_template.specs.Fault.{is_reserved_operator, body_fault, expression_fault}
 use Rattle.iri_template.proofs.FaultLemmas.{neither, unmoved, passed, of_text}

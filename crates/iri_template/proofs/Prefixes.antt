@@ -17,11 +17,11 @@ use Rattle.iri_grammar.specs.Classes.{iri_tests}
 use Rattle.iri_template.specs.Reading.{piece_at, piece_of, len_at, triplet_of}
 use Rattle.iri_template.specs.Fault.{literal_fault}
 use Rattle.iri_template.proofs.FaultLemmas.{moved_moved, varspecs_moved}
-use Rattle.iri_grammar.proofs.ClassLaws.{class_has_ascii}
+use Rattle.iri_grammar.proofs.units.ClassLaws.{class_has_ascii}
 use Rattle.iri_grammar.specs.inside.Laws.{iri_is_spec}
 use Rattle.iri_grammar.specs.declared.class.Class.TheVariants.{Any}
-use Rattle.iri_grammar.proofs.PlainTails.{run-all}
-use Rattle.iri_grammar.proofs.Units.{char_shorter}
+use Rattle.iri_grammar.proofs.faults.PlainTails.{run-all}
+use Rattle.iri_grammar.proofs.units.FirstUnits.{char_shorter}
 use Rattle.iri_template.specs.inside.Parts.{IsPastLiterals, IsExpression, IsTriplet}
 use Rattle.iri_grammar.specs.Cut.{tail}
 use Rattle.iri_grammar.proofs.Ranges.{range_prefix}

@@ -11,8 +11,8 @@ use Rattle.iri_template.specs.Template.{is_max_length, is_modifier}
 use Rattle.iri_template.specs.Reading.{modifier_of}
 use Rattle.iri_template.specs.Fault.{max_length_fault}
 use Rattle.iri_template.proofs.FaultLemmas.{unmoved, neither, passed}
-use Rattle.iri_grammar.proofs.DelimiterLemmas.{run_of_all}
-use Rattle.iri_grammar.proofs.LiteralChars.{all-join as all_append, all-weaken}
+use Rattle.iri_grammar.proofs.splits.PartEnds.{run_of_all}
+use Rattle.iri_grammar.proofs.hosts.LiteralChars.{all-join as all_append, all-weaken}
 
 -- ---- the bytes of names
 -- ASCII, and neither a comma nor a brace

@@ -6,7 +6,7 @@ use Rattle.iri_template.proofs.Common.{varspec_fault, varspecs_fault, text_fault
 use Rattle.iri_template.proofs.Common.{now_of, varspecs_left, Piece, literal, triplet, expression, operator_text, varspec_text, piece_text}
 use Rattle.iri_template.proofs.Common.{ShownValue, undefined, is_mistyped, varspecs_type_fault, type_fault_from, type_fault, untold}
 use Rattle.iri_grammar.specs.inside.PiecesLaws.{more_pieces}
-use Rattle.iri_grammar.proofs.PiecesLaws.{pieces_cut}
+use Rattle.iri_grammar.proofs.hosts.PiecesLaws.{pieces_cut}
 use Rattle.iri_template.proofs.FaultLemmas.{moved_moved, unmoved, varspecs_moved, moved_none, first_first, first_none}
 use Rattle.iri_template.specs.VarSpecs.{held, IsHeld}
 use Rattle.iri_template.specs.declared.varspec.VarSpec.{VarSpec}

@@ -3,15 +3,15 @@ use Rattle.std.proofs.Common.{◌≡◌, ℕ, true, List, ◌++◌, Some, None, 
 use Rattle.std.specs.Prelude.{IsSome, IsNone}
 use Rattle.iri_grammar.specs.Classes.{Tests, IsSpec}
 use Rattle.iri_grammar.specs.Cut.{before, after, lacks, delimited}
-use Rattle.iri_grammar.proofs.CutLaws.{after-delimited, lacks-append, joined}
+use Rattle.iri_grammar.proofs.splits.CutLaws.{after-delimited, lacks-append, joined}
 use Rattle.iri_grammar.specs.Parts.{Parts, recompose, scheme_text, authority_text}
 use Rattle.iri_grammar.specs.Split.{split_of}
-use Rattle.iri_grammar.proofs.SplitLaws.{Delimiters, recompose_split, authority_text-lacks, delimited-lacks}
-use Rattle.iri_grammar.proofs.SplitUnique.{fits-delimiters}
+use Rattle.iri_grammar.proofs.splits.SplitLaws.{Delimiters, recompose_split, authority_text-lacks, delimited-lacks}
+use Rattle.iri_grammar.proofs.splits.SplitUnique.{fits-delimiters}
 use Rattle.iri_grammar.specs.WholeFault.{reference_fault, iri_fault, absolute_fault, relative_fault}
-use Rattle.iri_grammar.proofs.FaultLaws.{splits_where_no_fault, iri-law, absolute-law, relative-law}
+use Rattle.iri_grammar.proofs.faults.FaultLaws.{splits_where_no_fault, iri-law, absolute-law, relative-law}
 use Rattle.iri_types.specs.inside.KindLaws.{iri-whole}
-use Rattle.iri_grammar.proofs.KindLaws.{iri-has_scheme as iri-scheme, scheme_text-lacks, splits_without_fragment, without_fragment}
+use Rattle.iri_grammar.proofs.faults.KindLaws.{iri-has_scheme as iri-scheme, scheme_text-lacks, splits_without_fragment, without_fragment}
 
 -- ---- a reference is an IRI where a scheme stands, and otherwise a relative reference
 pub reference-iri : (s : Tests) → IsSpec s → (t u : List ℕ) → reference_fault s t ≡ None → t ≡ u → (x : List ℕ)

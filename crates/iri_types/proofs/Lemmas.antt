@@ -4,11 +4,11 @@ use Rattle.iri_grammar.specs.Classes.{Tests}
 use Rattle.iri_grammar.specs.Components.{if_there, is_userinfo, is_query, is_fragment}
 use Rattle.iri_grammar.specs.Host.{is_host}
 use Rattle.iri_grammar.specs.Authority.{authority_parts, is_authority}
-use Rattle.iri_grammar.proofs.CutLaws.{both}
+use Rattle.iri_grammar.proofs.splits.CutLaws.{both}
 use Rattle.iri_grammar.specs.Fault.{query_fault, fragment_fault}
-use Rattle.iri_grammar.proofs.FaultLaws.{no_fault}
+use Rattle.iri_grammar.proofs.faults.FaultLaws.{no_fault}
 use Rattle.iri_grammar.specs.declared.error.ErrorKind.TheVariants.{InvalidQuery, InvalidFragment}
-pub use Rattle.iri_grammar.proofs.TextParts.{answers-of, no_text_fault, text_fault}
+pub use Rattle.iri_grammar.proofs.splits.TextParts.{answers-of, no_text_fault, text_fault}
 
 -- ---- parts
 pub there : (f : List ℕ → Bool) (o : Option (List ℕ)) (x : List ℕ) → if_there f o ≡ true → o ≡ Some x → f x ≡ true

@@ -13,7 +13,7 @@ ghost use Rattle.iri_types.specs.inside.AllowedLaws.{relative-allowed};
 ghost use Rattle.iri_types.specs.inside.KindLaws.{reference-within, iri-within, absolute-within, relative-within};
 ghost use Rattle.iri_types.specs.inside.KindLaws.{query-within, fragment-within, reference-whole, iri-whole};
 ghost use Rattle.iri_types.specs.inside.KindLaws.{absolute-whole, relative-whole, absolute-scheme};
-ghost use Rattle.iri_grammar.proofs.KindLaws.{iri-has_scheme as iri-scheme};
+ghost use Rattle.iri_grammar.proofs.faults.KindLaws.{iri-has_scheme as iri-scheme};
 
 use iri_grammar::error::Error;
 use iri_grammar::spec::Spec;

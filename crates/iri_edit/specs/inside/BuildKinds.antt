@@ -3,9 +3,9 @@ use Rattle.std.proofs.Common.{◌≡◌, ℕ, Bool, true, false, List, None, ref
 use Rattle.iri_grammar.specs.Classes.{Tests, IsSpec, uri_tests}
 use Rattle.iri_grammar.specs.Components.{is_userinfo}
 use Rattle.iri_grammar.specs.Fault.{userinfo_fault, host_fault}
-use Rattle.iri_grammar.proofs.FaultLaws.{no_fault, passed}
+use Rattle.iri_grammar.proofs.faults.FaultLaws.{no_fault, passed}
 use Rattle.iri_grammar.specs.Host.{is_host}
-use Rattle.iri_grammar.proofs.UriLaws.{host-wider, userinfo-wider}
+use Rattle.iri_grammar.proofs.faults.UriLaws.{host-wider, userinfo-wider}
 use Rattle.iri_grammar.specs.declared.error.ErrorKind.TheVariants.{InvalidHost, InvalidUserInfo}
 use Rattle.iri_types.specs.Allowed.{allows_reference, allows_iri, allows_absolute, allows_relative}
 use Rattle.iri_edit.specs.Built.{reference_refusal, iri_refusal, absolute_refusal, relative_refusal}

@@ -202,7 +202,7 @@ pub fn fragment<S: Spec>(s: &str) -> Result<(), Error>
 /// let error = validate::authority::<UriSpec>("[user]@[host").err().ok_or("a fault")?;
 /// assert_eq!(rt; error.kind(), ErrorKind::InvalidUserInfo);
 /// ```
-#[tactic(auto, using(crate::proofs::PlainTails::plain_name))]
+#[tactic(auto, using(crate::proofs::faults::PlainTails::plain_name))]
 pub fn authority<S: Spec>(s: &str) -> Result<(), Error>
     ensures { Answers result (authority_fault S.tests s.now) }
 {

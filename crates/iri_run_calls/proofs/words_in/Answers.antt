@@ -6,7 +6,7 @@ use Rattle.iri_grammar.specs.Cut.{before, after}
 use Rattle.iri_grammar.specs.OptionalSlices.{now_of}
 use Rattle.iri_grammar.specs.Pieces.{pieces}
 use Rattle.iri_grammar.specs.inside.PiecesLaws.{more_pieces}
-use Rattle.iri_grammar.proofs.PiecesLaws.{pieces_cut, after_shorter}
+use Rattle.iri_grammar.proofs.hosts.PiecesLaws.{pieces_cut, after_shorter}
 use Rattle.iri_grammar.specs.Blanks.{space}
 use Rattle.iri_run_calls.proofs.words_in.Goals as goal
 

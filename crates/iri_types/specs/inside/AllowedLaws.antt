@@ -2,13 +2,13 @@
 use Rattle.std.proofs.Common.{◌≡◌, ℕ, true, List, Option, Some, None, refl, sym, subst}
 use Rattle.std.specs.Prelude.{not, is_some, IsNone}
 use Rattle.iri_grammar.specs.Classes.{Tests, IsSpec}
-use Rattle.iri_grammar.proofs.CutLaws.{both}
-use Rattle.iri_grammar.proofs.MadeLaws.{made-reference, made-iri, made-absolute, made-relative}
+use Rattle.iri_grammar.proofs.splits.CutLaws.{both}
+use Rattle.iri_grammar.proofs.faults.MadeLaws.{made-reference, made-iri, made-absolute, made-relative}
 use Rattle.iri_grammar.specs.Parts.{Parts, Fits, recompose}
 use Rattle.iri_grammar.specs.Split.{split_of}
-use Rattle.iri_grammar.proofs.SplitUnique.{split_is}
+use Rattle.iri_grammar.proofs.splits.SplitUnique.{split_is}
 use Rattle.iri_grammar.specs.WholeFault.{reference_fault, iri_fault, absolute_fault, relative_fault}
-use Rattle.iri_grammar.proofs.FaultLaws.{iri-law, absolute-law, relative-law}
+use Rattle.iri_grammar.proofs.faults.FaultLaws.{iri-law, absolute-law, relative-law}
 use Rattle.iri_types.specs.Allowed.{allows_reference, allows_iri, allows_absolute, allows_relative}
 
 absent : (o : Option (List ℕ)) → not (is_some o) ≡ true → IsNone o

@@ -6,11 +6,11 @@ use Rattle.iri_grammar.specs.Components.{is_query, is_fragment}
 use Rattle.iri_grammar.specs.inside.Laws.{uri_is_spec}
 use Rattle.iri_grammar.specs.Parts.{Parts, IsReference, IsIri, IsAbsolute, IsRelative}
 use Rattle.iri_grammar.specs.Split.{split_of}
-use Rattle.iri_grammar.proofs.SplitUnique.{split_is}
+use Rattle.iri_grammar.proofs.splits.SplitUnique.{split_is}
 use Rattle.iri_grammar.specs.Fault.{query_fault, fragment_fault}
 use Rattle.iri_grammar.specs.WholeFault.{reference_fault, iri_fault, absolute_fault, relative_fault}
-use Rattle.iri_grammar.proofs.FaultLaws.{passed, no_fault, no_fault_where_splits, reference-law, iri-law, absolute-law, relative-law}
-use Rattle.iri_grammar.proofs.UriLaws.{query-wider, fragment-wider, reference-wider, iri-wider, absolute-wider, relative-wider}
+use Rattle.iri_grammar.proofs.faults.FaultLaws.{passed, no_fault, no_fault_where_splits, reference-law, iri-law, absolute-law, relative-law}
+use Rattle.iri_grammar.proofs.faults.UriLaws.{query-wider, fragment-wider, reference-wider, iri-wider, absolute-wider, relative-wider}
 use Rattle.iri_grammar.specs.declared.error.ErrorKind.{ErrorKind}
 use Rattle.iri_grammar.specs.declared.error.ErrorKind.TheVariants.{InvalidQuery, InvalidFragment}
 

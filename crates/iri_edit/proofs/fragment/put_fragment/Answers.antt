@@ -3,7 +3,7 @@ use Rattle.iri_edit.proofs.Common.{IsCharBoundary, is_fragment, before, referenc
 use Rattle.std.proofs.Common.{◌<◌, Result, Ok, Err, ◌^◌, OnErr}
 use Rattle.std.proofs.Math.Nat.{min-le_left}
 use Rattle.std.proofs.lemmas.Str.{IsCharBoundary-end}
-use Rattle.iri_grammar.proofs.FaultLaws.{passed}
+use Rattle.iri_grammar.proofs.faults.FaultLaws.{passed}
 use Rattle.iri_grammar.specs.declared.error.ErrorKind.TheVariants.{InvalidFragment}
 use Rattle.iri_owned.specs.OwnedText.{OwnedText}
 use Rattle.iri_edit.proofs.FragmentLemmas.{fragment-put, put-after, put-length, empty_fragment}

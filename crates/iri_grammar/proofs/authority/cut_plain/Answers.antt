@@ -2,8 +2,8 @@ use Rattle.iri_grammar.proofs.Common.{arith, ◌∙◌, ap, subst, sym, take, ta
 use Rattle.iri_grammar.proofs.Common.{is_small, Userinfo, is_small_name}
 use Rattle.std.proofs.lemmas.Grind.{common_steps}
 use Rattle.std.proofs.lemmas.Bool.{not-false}
-use Rattle.iri_grammar.proofs.TextParts.{text-past}
-use Rattle.iri_grammar.proofs.PlainAuthorities.{plain_cut}
+use Rattle.iri_grammar.proofs.splits.TextParts.{text-past}
+use Rattle.iri_grammar.proofs.authorities.PlainAuthorities.{plain_cut}
 use Rattle.iri_grammar.proofs.authority.cut_plain.Goals as goal
 
 pub from_utf8_unchecked-authority-requires : goal.from_utf8_unchecked-authority-requires

@@ -1,6 +1,6 @@
 use Rattle.iri_grammar.proofs.Common.{◌∙◌, ap, arith, drop, not, sym, ◌==◌, take_rest, ascii_test, RegName, name_len}
-use Rattle.iri_grammar.proofs.PlainAuthorities.{small_run}
-use Rattle.iri_grammar.proofs.Units.{run_of_le}
+use Rattle.iri_grammar.proofs.authorities.PlainAuthorities.{small_run}
+use Rattle.iri_grammar.proofs.units.FirstUnits.{run_of_le}
 use Rattle.iri_grammar.proofs.authority.name_len.Goals as goal
 
 pub overflow_add-result : goal.overflow_add-result

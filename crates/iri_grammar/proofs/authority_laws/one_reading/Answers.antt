@@ -1,4 +1,4 @@
-use Rattle.iri_grammar.proofs.AuthorityLaws.{one_reading, reading_is, authority_law, authority_recomposed}
+use Rattle.iri_grammar.proofs.authorities.AuthorityLaws.{one_reading, reading_is, authority_law, authority_recomposed}
 use Rattle.iri_grammar.proofs.authority_laws.one_reading.Goals as goal
 
 pub returns : goal.returns

@@ -1,5 +1,5 @@
-use Rattle.iri_grammar.proofs.ClassLaws.{class_has_no_percent}
-use Rattle.iri_grammar.proofs.OverLaws.{over-from_units, units-from_over}
+use Rattle.iri_grammar.proofs.units.ClassLaws.{class_has_no_percent}
+use Rattle.iri_grammar.proofs.units.OverLaws.{over-from_units, units-from_over}
 use Rattle.iri_grammar.proofs.authority_laws.over_is_units.Goals as goal
 
 pub returns : goal.returns

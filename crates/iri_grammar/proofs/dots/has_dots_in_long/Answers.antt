@@ -1,6 +1,6 @@
 use Rattle.iri_grammar.proofs.Common.{◌≡◌, ◌+◌, ◌-◌, ◌∙◌, ap, arith, drop, inl, inr, length, sym, take, cases_eq, cases_lt, length-drop}
 use Rattle.iri_grammar.proofs.Common.{take_all, has_slash_and_dot, slash_and_dot}
-use Rattle.iri_grammar.proofs.DotPlaces.{none-onward, none-passed}
+use Rattle.iri_grammar.proofs.splits.DotPlaces.{none-onward, none-passed}
 use Rattle.iri_grammar.proofs.dots.has_dots_in_long.Goals as goal
 
 pub places-preserved : goal.places-preserved

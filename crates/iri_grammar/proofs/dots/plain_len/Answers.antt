@@ -1,4 +1,4 @@
-use Rattle.iri_grammar.proofs.DotPlaces.{first-none, first-some, near-within, none-near}
+use Rattle.iri_grammar.proofs.splits.DotPlaces.{first-none, first-some, near-within, none-near}
 use Rattle.iri_grammar.proofs.dots.plain_len.Goals as goal
 
 pub returns-then-places-eq0-clause-plain : goal.returns-then-places-eq0-clause-plain

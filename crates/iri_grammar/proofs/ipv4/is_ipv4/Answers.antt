@@ -1,7 +1,7 @@
 use Rattle.iri_grammar.proofs.Common.{◌∙◌, sym, ap, arith, now_of, pieces, is_dec_octet}
-use Rattle.iri_grammar.proofs.PiecesLaws.{after_shorter}
-use Rattle.iri_grammar.proofs.Delimiters.{text_after}
-use Rattle.iri_grammar.proofs.Octets.{stop_bad, stop_many, step_octet, last_octet, octets_left}
+use Rattle.iri_grammar.proofs.hosts.PiecesLaws.{after_shorter}
+use Rattle.iri_grammar.proofs.splits.CharBoundaries.{text_after}
+use Rattle.iri_grammar.proofs.hosts.Ipv4Octets.{stop_bad, stop_many, step_octet, last_octet, octets_left}
 use Rattle.iri_grammar.proofs.ipv4.is_ipv4.Goals as goal
 
 pub returns-then-not-is_dec_octet : goal.returns-then-not-is_dec_octet

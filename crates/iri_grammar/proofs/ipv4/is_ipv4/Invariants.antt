@@ -1,7 +1,7 @@
 use Rattle.iri_grammar.proofs.Common.{◌≡◌, length, pieces, is_ipv4}
 use denote.Text.{Utf8}
 use denote.Shadow.{shadow}
-use Rattle.iri_grammar.proofs.Octets.{octets_left}
+use Rattle.iri_grammar.proofs.hosts.Ipv4Octets.{octets_left}
 use Rattle.iri_grammar.proofs.ipv4.is_ipv4.Given as goal
 
 abbrev pub invariant-octets : goal.invariant-octets

@@ -1,8 +1,8 @@
 use Rattle.iri_grammar.proofs.Common.{◌≡◌, false, ◌&&◌, ◌∙◌, sym, ap, arith, now_of, pieces, before, is_ipv4, is_group, count}
 use Rattle.std.proofs.lemmas.Bool.{and_from, and_left, and_right}
-use Rattle.iri_grammar.proofs.PiecesLaws.{after_shorter}
-use Rattle.iri_grammar.proofs.Delimiters.{text_after}
-use Rattle.iri_grammar.proofs.Groups.{step_more, step_bad, last_one, last_two, last_none}
+use Rattle.iri_grammar.proofs.hosts.PiecesLaws.{after_shorter}
+use Rattle.iri_grammar.proofs.splits.CharBoundaries.{text_after}
+use Rattle.iri_grammar.proofs.hosts.Ipv6Groups.{step_more, step_bad, last_one, last_two, last_none}
 use Rattle.iri_grammar.proofs.ipv6.count_parts.Goals.{else-ipv4-via-then-ipv4+else-is_ipv4, else-ipv4-via-else-ipv4}
 use Rattle.iri_grammar.proofs.ipv6.count_parts.Goals as goal
 

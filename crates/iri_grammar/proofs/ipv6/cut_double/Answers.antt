@@ -1,5 +1,5 @@
 use Rattle.std.proofs.Common.{Some, ◌∙◌, ap, drop}
-use Rattle.iri_grammar.proofs.Doubles.{no_double, first_double}
+use Rattle.iri_grammar.proofs.hosts.DoubleColons.{no_double, first_double}
 use Rattle.iri_grammar.proofs.ipv6.cut_double.Goals as goal
 
 pub returns-in-Some-clause-before : goal.returns-in-Some-clause-before

@@ -1,5 +1,5 @@
 use Rattle.iri_grammar.proofs.Common.{◌≡◌, ◌+◌, ◌-◌, ◌<◌, ◌≤◌, sym, ◌∙◌, ℕ, arith, nat_lt, nat_tests, group_texts}
-use Rattle.iri_grammar.proofs.Groups.{short_count, short_prefix_none, short_back_none}
+use Rattle.iri_grammar.proofs.hosts.Ipv6Groups.{short_count, short_prefix_none, short_back_none}
 use Rattle.iri_grammar.proofs.ipv6.is_shortened.Goals as goal
 
 few : (m n : ℕ) → m < 8 → nat_lt n (8 - m) ≡ nat_lt (m + n) 8

@@ -1,4 +1,4 @@
-use Rattle.iri_grammar.proofs.SplitUnique.{reference-kinds, never_both}
+use Rattle.iri_grammar.proofs.splits.SplitUnique.{reference-kinds, never_both}
 use Rattle.iri_grammar.proofs.laws.iri_or_relative.Goals as goal
 
 pub returns-clause-either : goal.returns-clause-either

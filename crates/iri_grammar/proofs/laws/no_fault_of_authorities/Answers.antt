@@ -1,7 +1,7 @@
 use Rattle.iri_grammar.proofs.Common.{◌&&◌, not, userinfo_char, reg_name_char, is_userinfo, is_port, is_ipv4, is_host, is_reg_name}
-use Rattle.iri_grammar.proofs.CutLaws.{both}
-use Rattle.iri_grammar.proofs.AuthorityTexts.{text_over-utf8, host-utf8, port-utf8}
-use Rattle.iri_grammar.proofs.FaultLaws.{component-law, authority-law}
+use Rattle.iri_grammar.proofs.splits.CutLaws.{both}
+use Rattle.iri_grammar.proofs.authorities.AuthorityTexts.{text_over-utf8, host-utf8, port-utf8}
+use Rattle.iri_grammar.proofs.faults.FaultLaws.{component-law, authority-law}
 use Rattle.iri_grammar.specs.declared.error.ErrorKind.TheVariants.{InvalidUserInfo, InvalidHost, InvalidRegName, InvalidPort}
 use Rattle.iri_grammar.proofs.laws.no_fault_of_authorities.Goals as goal
 

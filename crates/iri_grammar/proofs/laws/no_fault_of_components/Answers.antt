@@ -1,8 +1,8 @@
 use Rattle.iri_grammar.specs.Classes.{pchar, path_char, query_char, fragment_char}
 use Rattle.iri_grammar.specs.Components.{is_scheme, is_path, is_path_segment, is_query, is_fragment}
-use Rattle.iri_grammar.proofs.AuthorityTexts.{text_over-utf8}
-use Rattle.iri_grammar.proofs.SplitUnique.{scheme-utf8}
-use Rattle.iri_grammar.proofs.FaultLaws.{component-law}
+use Rattle.iri_grammar.proofs.authorities.AuthorityTexts.{text_over-utf8}
+use Rattle.iri_grammar.proofs.splits.SplitUnique.{scheme-utf8}
+use Rattle.iri_grammar.proofs.faults.FaultLaws.{component-law}
 use Rattle.iri_grammar.specs.declared.error.ErrorKind.TheVariants.{InvalidScheme, InvalidPath, InvalidQuery, InvalidFragment}
 use Rattle.iri_grammar.proofs.laws.no_fault_of_components.Goals as goal
 

@@ -1,7 +1,7 @@
 use Rattle.iri_grammar.specs.Parts.{IsReference, IsIri, IsAbsolute, IsRelative}
-use Rattle.iri_grammar.proofs.SplitUnique.{splits-utf8}
+use Rattle.iri_grammar.proofs.splits.SplitUnique.{splits-utf8}
 use Rattle.iri_grammar.specs.WholeFault.{reference_fault, iri_fault, absolute_fault, relative_fault}
-use Rattle.iri_grammar.proofs.FaultLaws.{of_bytes, reference-law, iri-law, absolute-law, relative-law, reference-utf8}
+use Rattle.iri_grammar.proofs.faults.FaultLaws.{of_bytes, reference-law, iri-law, absolute-law, relative-law, reference-utf8}
 use Rattle.iri_grammar.proofs.laws.no_fault_of_wholes.Goals as goal
 
 pub returns : goal.returns

@@ -1,5 +1,5 @@
-use Rattle.iri_grammar.proofs.UriLaws.{authority-wider, userinfo-wider, host-wider, reg_name-wider, path-wider, path_segment-wider}
-use Rattle.iri_grammar.proofs.UriLaws.{query-wider, fragment-wider}
+use Rattle.iri_grammar.proofs.faults.UriLaws.{authority-wider, userinfo-wider, host-wider, reg_name-wider, path-wider, path_segment-wider}
+use Rattle.iri_grammar.proofs.faults.UriLaws.{query-wider, fragment-wider}
 use Rattle.iri_grammar.proofs.laws.uri_components_within.Goals as goal
 
 pub returns : goal.returns

@@ -1,4 +1,4 @@
-use Rattle.iri_grammar.proofs.UriLaws.{fits-wider, reference-wider, iri-wider, absolute-wider, relative-wider}
+use Rattle.iri_grammar.proofs.faults.UriLaws.{fits-wider, reference-wider, iri-wider, absolute-wider, relative-wider}
 use Rattle.iri_grammar.proofs.laws.uri_wholes_within.Goals as goal
 
 pub returns : goal.returns

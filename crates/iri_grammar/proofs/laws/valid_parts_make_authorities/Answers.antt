@@ -1,4 +1,4 @@
-use Rattle.iri_grammar.proofs.MadeLaws.{made-authority, made-reading}
+use Rattle.iri_grammar.proofs.faults.MadeLaws.{made-authority, made-reading}
 use Rattle.iri_grammar.proofs.laws.valid_parts_make_authorities.Goals as goal
 
 pub returns : goal.returns

@@ -1,4 +1,4 @@
-use Rattle.iri_grammar.proofs.MadeLaws.{made-split, made-reference, made-iri, made-absolute, made-relative, split-fits}
+use Rattle.iri_grammar.proofs.faults.MadeLaws.{made-split, made-reference, made-iri, made-absolute, made-relative, split-fits}
 use Rattle.iri_grammar.proofs.laws.valid_parts_make_wholes.Goals as goal
 
 pub returns : goal.returns

@@ -1,5 +1,5 @@
 use Rattle.iri_grammar.proofs.Common.{◌∙◌, ap, sym, class_test, text_over}
-use Rattle.iri_grammar.proofs.UnitRuns.{cut_decides}
+use Rattle.iri_grammar.proofs.units.UnitRuns.{cut_decides}
 use Rattle.iri_grammar.proofs.over.is_over.Goals as goal
 
 pub returns : goal.returns

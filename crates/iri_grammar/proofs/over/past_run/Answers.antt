@@ -1,8 +1,8 @@
 use Rattle.iri_grammar.proofs.Common.{sym, ap, ◌∙◌, subst, ascii_test, run_of}
 use Rattle.std.specs.Str.{IsCharBoundary}
 use Rattle.std.proofs.lemmas.Str.{IsCharBoundary-from_drop}
-use Rattle.iri_grammar.proofs.ClassLaws.{ascii_test_below}
-use Rattle.iri_grammar.proofs.Units.{run_text, run_of_le}
+use Rattle.iri_grammar.proofs.units.ClassLaws.{ascii_test_below}
+use Rattle.iri_grammar.proofs.units.FirstUnits.{run_text, run_of_le}
 use Rattle.iri_grammar.proofs.over.past_run.Goals as goal
 
 pub range_from-requires : goal.range_from-requires

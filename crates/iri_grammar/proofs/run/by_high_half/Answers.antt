@@ -1,6 +1,6 @@
 use Rattle.iri_grammar.proofs.Common.{◌/◌, refl, arith, zip2_splat, high_bit}
 use Rattle.iri_grammar.specs.declared.run.TheConstants.{HIGH_HALVES}
-use Rattle.iri_grammar.proofs.RunBlocks.{down, high_ok, looked_up}
+use Rattle.iri_grammar.proofs.units.RunBlocks.{down, high_ok, looked_up}
 use Rattle.iri_grammar.proofs.run.by_high_half.Goals as goal
 
 pub swizzle : goal.swizzle

@@ -2,7 +2,7 @@ use Rattle.iri_grammar.proofs.Common.{◌≡◌, ◌+◌, bit_and, arith, ◌∙
 use Rattle.std.proofs.Common.{ap₂}
 use Rattle.std.proofs.lemmas.Nat.{and_le_r}
 use Rattle.std.proofs.lemmas.Simd.{get_or-chunk}
-use Rattle.iri_grammar.proofs.RunBlocks.{low_ok, looked_up}
+use Rattle.iri_grammar.proofs.units.RunBlocks.{low_ok, looked_up}
 use Rattle.iri_grammar.proofs.run.by_low_half.Goals as goal
 
 pub swizzle : goal.swizzle

@@ -1,6 +1,6 @@
 use Rattle.iri_grammar.proofs.Common.{arith, row_test}
-use Rattle.iri_grammar.proofs.RunBlocks.{run_ends, run_of_last, run_passes}
-use Rattle.iri_grammar.proofs.Units.{run_of_le}
+use Rattle.iri_grammar.proofs.units.RunBlocks.{run_ends, run_of_last, run_passes}
+use Rattle.iri_grammar.proofs.units.FirstUnits.{run_of_le}
 use Rattle.iri_grammar.proofs.run.row_run_len.Goals as goal
 
 pub returns-then-run-lt16 : goal.returns-then-run-lt16

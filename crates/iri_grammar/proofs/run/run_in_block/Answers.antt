@@ -1,7 +1,7 @@
 use Rattle.iri_grammar.proofs.Common.{sym, ap, subst, ◌∙◌, row_test, run_of}
 use Rattle.std.proofs.Common.{w8}
 use Rattle.std.proofs.lemmas.Simd.{chunk-fits, length-chunk}
-use Rattle.iri_grammar.proofs.RunBlocks.{IsBlock, first-other, none-other}
+use Rattle.iri_grammar.proofs.units.RunBlocks.{IsBlock, first-other, none-other}
 use Rattle.iri_grammar.proofs.run.run_in_block.Goals as goal
 
 pub returns-then-others-eq0 : goal.returns-then-others-eq0

@@ -1,5 +1,5 @@
 use Rattle.iri_grammar.proofs.Common.{◌-◌, ◌∙◌, ap, run_of, row_test}
-use Rattle.iri_grammar.proofs.RunBlocks.{class_run}
+use Rattle.iri_grammar.proofs.units.RunBlocks.{class_run}
 use Rattle.iri_grammar.proofs.run.run_len.Goals as goal
 
 pub returns : goal.returns

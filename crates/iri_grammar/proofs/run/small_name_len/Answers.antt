@@ -1,6 +1,6 @@
 use Rattle.iri_grammar.proofs.Common.{◌∙◌, arith, row_test}
-use Rattle.iri_grammar.proofs.RunBlocks.{name_run}
-use Rattle.iri_grammar.proofs.Units.{run_of_le}
+use Rattle.iri_grammar.proofs.units.RunBlocks.{name_run}
+use Rattle.iri_grammar.proofs.units.FirstUnits.{run_of_le}
 use Rattle.iri_grammar.proofs.run.small_name_len.Goals as goal
 
 pub returns-clause-len : goal.returns-clause-len

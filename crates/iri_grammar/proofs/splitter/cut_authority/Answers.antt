@@ -1,6 +1,6 @@
 use Rattle.std.proofs.Common.{refl}
-use Rattle.iri_grammar.proofs.AuthorityCuts.{after_authority}
-use Rattle.iri_grammar.proofs.DelimiterLemmas.{no_authority}
+use Rattle.iri_grammar.proofs.authorities.AuthorityCuts.{after_authority}
+use Rattle.iri_grammar.proofs.splits.PartEnds.{no_authority}
 use Rattle.iri_grammar.proofs.splitter.cut_authority.Goals as goal
 
 pub returns-in-Some : goal.returns-in-Some

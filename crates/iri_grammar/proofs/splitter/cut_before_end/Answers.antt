@@ -1,5 +1,5 @@
 use Rattle.iri_grammar.proofs.Common.{◌≡◌, ◌∙◌, Some, true, ap, sym, before_any, from_any, ends_authority, ends_at_start}
-use Rattle.iri_grammar.proofs.PlainTails.{name-ends}
+use Rattle.iri_grammar.proofs.faults.PlainTails.{name-ends}
 use Rattle.iri_grammar.proofs.splitter.cut_before_end.Goals as goal
 
 pub returns-then-ends_at_start : goal.returns-then-ends_at_start

@@ -1,5 +1,5 @@
 use Rattle.iri_grammar.proofs.Common.{◌+◌, ◌∙◌, ap, sym, is_utf8, take_rest}
-use Rattle.iri_grammar.proofs.TextParts.{scheme-text}
+use Rattle.iri_grammar.proofs.splits.TextParts.{scheme-text}
 use Rattle.iri_grammar.proofs.splitter.cut_scheme.Goals as goal
 
 pub from_utf8_unchecked-scheme-requires : goal.from_utf8_unchecked-scheme-requires

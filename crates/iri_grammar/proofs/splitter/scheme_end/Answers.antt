@@ -1,5 +1,5 @@
 use Rattle.iri_grammar.proofs.Common.{◌≡◌, false, sym, subst, ends_scheme}
-use Rattle.iri_grammar.proofs.DelimiterLemmas.{no_scheme}
+use Rattle.iri_grammar.proofs.splits.PartEnds.{no_scheme}
 use Rattle.iri_grammar.proofs.splitter.scheme_end.Goals as goal
 
 pub returns-else-ends_scheme : goal.returns-else-ends_scheme

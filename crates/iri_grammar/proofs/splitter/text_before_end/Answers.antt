@@ -1,5 +1,5 @@
 use Rattle.iri_grammar.proofs.Common.{◌∙◌, ap, sym, arith, is_utf8, take_rest, IsUtf8-from_is_utf8, IsUtf8-take, false_from_ne_true}
-use Rattle.iri_grammar.proofs.TextParts.{text-past}
+use Rattle.iri_grammar.proofs.splits.TextParts.{text-past}
 use Rattle.iri_grammar.proofs.splitter.text_before_end.Goals as goal
 
 pub returns-in-Ok : goal.returns-in-Ok

@@ -1,5 +1,5 @@
 use Rattle.iri_grammar.proofs.Common.{subst, IsUtf8}
-use Rattle.iri_grammar.proofs.Units.{text_after_ascii}
+use Rattle.iri_grammar.proofs.units.FirstUnits.{text_after_ascii}
 use Rattle.iri_grammar.proofs.tail.cut_part.Goals as goal
 
 pub returns-in-Some-clause-stops : goal.returns-in-Some-clause-stops

@@ -1,6 +1,6 @@
 use Rattle.iri_grammar.proofs.Common.{◌≡◌, true, inl, inr, subst, sym, take, refl, cases_eq, class_test, lacks, AreUnits}
-use Rattle.iri_grammar.proofs.UnitRuns.{no_units}
-use Rattle.iri_grammar.proofs.WideChars.{wide_lacks, wide_units}
+use Rattle.iri_grammar.proofs.units.UnitRuns.{no_units}
+use Rattle.iri_grammar.proofs.units.WideChars.{wide_lacks, wide_units}
 use Rattle.iri_grammar.proofs.unit.allowed_wide_len.Goals as goal
 
 pub returns-then-has_first_ucschars : goal.returns-then-has_first_ucschars

@@ -1,5 +1,5 @@
 use Rattle.std.proofs.Common.{arith}
-use Rattle.iri_grammar.proofs.HexDigits.{both-digits}
+use Rattle.iri_grammar.proofs.units.HexDigitTable.{both-digits}
 use Rattle.iri_grammar.proofs.unit.are_hex_digits.Goals as goal
 
 pub returns : goal.returns

@@ -1,8 +1,8 @@
 use Rattle.iri_grammar.proofs.Common.{◌≡◌, true, sym, subst, length, take, ◌∙◌, ◌-◌, arith, class_test, AreUnits, lacks}
 use Rattle.std.proofs.Common.{rules}
-use Rattle.iri_grammar.proofs.ClassLaws.{class_has_no_percent}
-use Rattle.iri_grammar.proofs.UnitRuns.{char_units, char_lacks, prefix_of, prefix_text}
-use Rattle.iri_grammar.proofs.Units.{char_stops, nothing_left}
+use Rattle.iri_grammar.proofs.units.ClassLaws.{class_has_no_percent}
+use Rattle.iri_grammar.proofs.units.UnitRuns.{char_units, char_lacks, prefix_of, prefix_text}
+use Rattle.iri_grammar.proofs.units.FirstUnits.{char_stops, nothing_left}
 use Rattle.iri_grammar.proofs.unit.char_len.Goals as goal
 
 pub returns-then-has : goal.returns-then-has

@@ -1,6 +1,6 @@
 use Rattle.iri_grammar.proofs.Common.{◌≡◌, ◌∙◌, true, ap, subst, sym, take, drop, class_test, lacks, begins_with_triplet, AreUnits}
-use Rattle.iri_grammar.proofs.ClassLaws.{class_at_ascii, class_has_no_percent}
-use Rattle.iri_grammar.proofs.UnitRuns.{no_units, no_triplet_at, run_lacks, run_units}
+use Rattle.iri_grammar.proofs.units.ClassLaws.{class_at_ascii, class_has_no_percent}
+use Rattle.iri_grammar.proofs.units.UnitRuns.{no_units, no_triplet_at, run_lacks, run_units}
 use Rattle.iri_grammar.proofs.unit.one_kind_in_bytes.Goals as goal
 
 pub returns-then-has_byte-clause-units : goal.returns-then-has_byte-clause-units

@@ -1,5 +1,5 @@
 use Rattle.iri_grammar.proofs.Common.{◌+◌, ℕ, Bool, true, sym, ap, ◌∙◌, drop, arith, take_rest, begins_with_triplet, AreUnits}
-use Rattle.iri_grammar.proofs.UnitRuns.{no_units, triplet_units, units_onward}
+use Rattle.iri_grammar.proofs.units.UnitRuns.{no_units, triplet_units, units_onward}
 use Rattle.iri_grammar.proofs.unit.triplets_len.Goals as goal
 
 pub triplets-init : goal.triplets-init

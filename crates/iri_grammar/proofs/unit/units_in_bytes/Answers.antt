@@ -1,6 +1,6 @@
 use Rattle.iri_grammar.proofs.Common.{◌≡◌, ◌∙◌, true, ap, subst, sym, take, drop, drop-drop, arith, IsUtf8, and_parts, take_rest}
 use Rattle.iri_grammar.proofs.Common.{class_test, AreUnits, HasNoUnit, lacks}
-use Rattle.iri_grammar.proofs.UnitRuns.{lacks_onward, no_units, rest_text, units_onward}
+use Rattle.iri_grammar.proofs.units.UnitRuns.{lacks_onward, no_units, rest_text, units_onward}
 use Rattle.iri_grammar.proofs.unit.units_in_bytes.Goals as goal
 
 pub units-init : goal.units-init

@@ -1,6 +1,6 @@
 use Rattle.iri_grammar.proofs.Common.{◌≡◌, true, subst, take, arith, and_parts, IsCharBoundary-from_take, class_test, AreUnits, HasNoUnit}
 use Rattle.iri_grammar.proofs.Common.{lacks}
-use Rattle.iri_grammar.proofs.UnitRuns.{lacks_onward, no_units, units_onward, units_text}
+use Rattle.iri_grammar.proofs.units.UnitRuns.{lacks_onward, no_units, units_onward, units_text}
 use Rattle.iri_grammar.proofs.unit.units_in_text.Goals as goal
 
 pub units-init : goal.units-init

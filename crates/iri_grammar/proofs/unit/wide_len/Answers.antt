@@ -1,6 +1,6 @@
 use Rattle.iri_grammar.proofs.Common.{◌∙◌, ap, sym, take_rest}
 use Rattle.iri_grammar.specs.inside.Runs.{begins_with_more}
-use Rattle.iri_grammar.proofs.WideChars.{three_bytes, two_bytes}
+use Rattle.iri_grammar.proofs.units.WideChars.{three_bytes, two_bytes}
 use Rattle.iri_grammar.proofs.unit.wide_len.Goals as goal
 
 pub returns-then-leads_two : goal.returns-then-leads_two

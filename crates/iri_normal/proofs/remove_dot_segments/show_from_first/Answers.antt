@@ -1,7 +1,7 @@
 use Rattle.iri_normal.proofs.Common.{◌++◌, ◌∷◌, ◌∙◌, [], sym, subst, ap, shows_exit, shows_then, Shows, is_path, lacks, now_of, pieces}
 use Rattle.iri_normal.proofs.Common.{path-whole, kept, in_form, popped_times}
 use Rattle.iri_normal.proofs.LongLemmas.{count-ends, first-path, form-three, more-ends, one-alone}
-use Rattle.iri_grammar.proofs.Scans.{before-lacks}
+use Rattle.iri_grammar.proofs.faults.Scans.{before-lacks}
 use Rattle.iri_normal.proofs.remove_dot_segments.show_from_first.Goals as goal
 
 pub show_part-requires : goal.show_part-requires

@@ -1,5 +1,5 @@
 use Rattle.iri_percent.proofs.Common.{Some, None, ◌-◌, length, take, drop, sym, ◌∙◌, ap, take_rest, has_triplet, octets}
-use Rattle.iri_grammar.proofs.CutLemmas.{found}
+use Rattle.iri_grammar.proofs.splits.FirstBytes.{found}
 use Rattle.iri_percent.proofs.DecodingLemmas.{at_percent, no_percent, triplet-found, triplet-passed}
 use Rattle.iri_percent.proofs.decode.has_triplet.Goals as goal
 

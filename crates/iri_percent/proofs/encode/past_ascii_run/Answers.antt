@@ -1,5 +1,5 @@
 use Rattle.iri_percent.proofs.Common.{true, false, sym, subst, class_test, ascii_test, is_other, IsPastRun}
-use Rattle.iri_grammar.proofs.ClassLaws.{class_has_ascii}
+use Rattle.iri_grammar.proofs.units.ClassLaws.{class_has_ascii}
 use Rattle.iri_percent.proofs.EncodedRuns.{past_ascii, other_ascii}
 use Rattle.iri_percent.proofs.encode.past_ascii_run.Goals as goal
 

@@ -1,6 +1,6 @@
 use Rattle.std.proofs.Common.{Some, None, ◌∙◌, length, arith}
 use Rattle.std.proofs.lemmas.List.{take_all, drop_all}
-use Rattle.iri_grammar.proofs.CutLemmas.{found}
+use Rattle.iri_grammar.proofs.splits.FirstBytes.{found}
 use Rattle.iri_percent.proofs.fragments.split_run.Goals as goal
 
 pub returns-in-Some-clause-run : goal.returns-in-Some-clause-run

@@ -1,9 +1,9 @@
 use Rattle.iri_robots.proofs.Common.{◌≤◌, length, take, sym, subst, ap, ◌∙◌, IsUtf8, run_of, IsPrefix, stays}
 use Rattle.std.proofs.lemmas.List.{length-take-le}
 use Rattle.std.proofs.lemmas.Str.{IsUtf8-from_ascii}
-use Rattle.iri_grammar.proofs.AuthorityTexts.{all_below}
-use Rattle.iri_grammar.proofs.PlainTails.{run-all}
-use Rattle.iri_grammar.proofs.Units.{run_of_le}
+use Rattle.iri_grammar.proofs.authorities.AuthorityTexts.{all_below}
+use Rattle.iri_grammar.proofs.faults.PlainTails.{run-all}
+use Rattle.iri_grammar.proofs.units.FirstUnits.{run_of_le}
 use Rattle.iri_robots.specs.declared.compared.Written.TheVariants.{Run}
 use Rattle.iri_robots.proofs.Forms.{prefix_run, stays_low}
 use Rattle.iri_robots.proofs.compared.run_prefix.Goals as goal

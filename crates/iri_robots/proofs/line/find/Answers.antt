@@ -1,4 +1,4 @@
-use Rattle.iri_grammar.proofs.CutLemmas.{found}
+use Rattle.iri_grammar.proofs.splits.FirstBytes.{found}
 use Rattle.iri_robots.proofs.line.find.Goals as goal
 
 pub returns : goal.returns

@@ -1,5 +1,5 @@
 use Rattle.iri_robots.proofs.Common.{[], Some, None, ap, arith, refl, sym, ◌∙◌, now_of, line_rules, rules_in}
-use Rattle.iri_grammar.proofs.PiecesLaws.{after_shorter}
+use Rattle.iri_grammar.proofs.hosts.PiecesLaws.{after_shorter}
 use Rattle.iri_robots.proofs.FileCuts.{rules_cut}
 use Rattle.iri_robots.proofs.Runs.{judged_all, judged_more}
 use Rattle.iri_robots.proofs.rules_text.best_in.Goals as goal

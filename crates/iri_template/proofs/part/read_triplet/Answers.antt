@@ -1,5 +1,5 @@
 use Rattle.iri_template.proofs.Common.{get_or, sym, ◌∙◌, ap, arith, is_ascii_hexdigit, IsCharBoundary-after_ascii}
-use Rattle.iri_grammar.proofs.Units.{hex_is_ascii}
+use Rattle.iri_grammar.proofs.units.FirstUnits.{hex_is_ascii}
 use Rattle.iri_template.proofs.part.read_triplet.Goals as goal
 
 pub range-requires-clause-end_boundary : goal.range-requires-clause-end_boundary

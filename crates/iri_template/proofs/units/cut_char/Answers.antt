@@ -1,6 +1,6 @@
 use Rattle.iri_template.proofs.Common.{◌≡◌, ℕ, List, ◌-◌, ◌++◌, length, refl, sym, ◌∙◌, ap, subst, arith, length-append, encode_utf8}
 use Rattle.iri_template.proofs.Common.{IsCharBoundary, IsCharBoundary-at_seam}
-use Rattle.iri_grammar.proofs.Units.{char_shorter}
+use Rattle.iri_grammar.proofs.units.FirstUnits.{char_shorter}
 use Rattle.iri_template.proofs.Prefixes.{prefix_range}
 use Rattle.iri_template.proofs.units.cut_char.Goals as goal
 

@@ -1,5 +1,5 @@
 use Rattle.iri_template.proofs.Common.{◌≡◌, ◌<◌, ◌++◌, length, ◌∙◌, ap, arith, length-append, nat_tests, before}
-use Rattle.iri_grammar.proofs.CutLaws.{joined_from}
+use Rattle.iri_grammar.proofs.splits.CutLaws.{joined_from}
 use Rattle.iri_template.proofs.units.next_piece.Goals as goal
 
 pub returns-then-not-is_empty : goal.returns-then-not-is_empty

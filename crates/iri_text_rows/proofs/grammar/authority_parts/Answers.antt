@@ -1,4 +1,4 @@
-use Rattle.iri_grammar.proofs.FaultLaws.{authority-passed}
+use Rattle.iri_grammar.proofs.faults.FaultLaws.{authority-passed}
 use Rattle.iri_text_rows.proofs.grammar.authority_parts.Goals as goal
 
 pub of-parts-requires : goal.of-parts-requires

@@ -1,4 +1,4 @@
-use Rattle.iri_grammar.proofs.FaultLaws.{authority-passed}
+use Rattle.iri_grammar.proofs.faults.FaultLaws.{authority-passed}
 use Rattle.iri_text_rows.proofs.percent.normal_authority.Goals as goal
 
 pub new-requires : goal.new-requires

@@ -1,4 +1,4 @@
-use Rattle.iri_grammar.proofs.MadeLaws.{split-fits}
+use Rattle.iri_grammar.proofs.faults.MadeLaws.{split-fits}
 use Rattle.iri_types.proofs.laws.valid_parts_make_texts.Goals as goal
 
 pub returns : goal.returns

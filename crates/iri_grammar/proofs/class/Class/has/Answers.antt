@@ -1,5 +1,5 @@
 use Rattle.iri_grammar.proofs.Common.{sym, ap, ◌∙◌, arith, ascii_test}
-use Rattle.iri_grammar.proofs.ClassLaws.{class_at_ascii, class_past_ascii}
+use Rattle.iri_grammar.proofs.units.ClassLaws.{class_at_ascii, class_past_ascii}
 use Rattle.iri_grammar.proofs.class.Class.has.Goals as goal
 
 pub returns-then-code-lt128 : goal.returns-then-code-lt128

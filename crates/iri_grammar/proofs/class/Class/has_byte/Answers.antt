@@ -1,5 +1,5 @@
 use Rattle.std.proofs.Common.{arith}
-use Rattle.iri_grammar.proofs.Tables.{from_table}
+use Rattle.iri_grammar.proofs.units.RankTable.{from_table}
 use Rattle.iri_grammar.proofs.class.Class.has_byte.Goals as goal
 
 pub returns : goal.returns

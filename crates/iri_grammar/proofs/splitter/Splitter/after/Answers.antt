@@ -1,6 +1,6 @@
 use Rattle.iri_grammar.proofs.Common.{◌∙◌, sym, eqb-true}
 use Rattle.std.proofs.lemmas.List.{nil_from_length}
-use Rattle.iri_grammar.proofs.Scans.{left-fault, scanned, whole-fault}
+use Rattle.iri_grammar.proofs.faults.Scans.{left-fault, scanned, whole-fault}
 use Rattle.iri_grammar.proofs.splitter.Splitter.after.Goals as goal
 
 pub returns-then-not-is_empty-clause-fault : goal.returns-then-not-is_empty-clause-fault

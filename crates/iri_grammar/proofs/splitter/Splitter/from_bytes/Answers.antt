@@ -1,5 +1,5 @@
 use Rattle.iri_grammar.proofs.Common.{subst, Answers}
-use Rattle.iri_grammar.proofs.Scans.{scheme-fault}
+use Rattle.iri_grammar.proofs.faults.Scans.{scheme-fault}
 use Rattle.iri_grammar.proofs.splitter.Splitter.from_bytes.Goals as goal
 
 pub returns-clause-fault : goal.returns-clause-fault

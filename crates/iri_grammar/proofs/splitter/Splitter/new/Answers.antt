@@ -1,5 +1,5 @@
 use Rattle.iri_grammar.proofs.Common.{ap, subst, ◌∙◌, Answers, bytes_fault, reference_fault}
-use Rattle.iri_grammar.proofs.TextParts.{text_fault}
+use Rattle.iri_grammar.proofs.splits.TextParts.{text_fault}
 use Rattle.iri_grammar.proofs.splitter.Splitter.new.Goals as goal
 
 pub returns-clause-fault : goal.returns-clause-fault

@@ -1,5 +1,5 @@
 use Rattle.iri_grammar.proofs.Common.{subst, sym, Splits}
-use Rattle.iri_grammar.proofs.FaultLaws.{splits_where_no_fault}
+use Rattle.iri_grammar.proofs.faults.FaultLaws.{splits_where_no_fault}
 use Rattle.iri_grammar.proofs.splitter.Splitter.of.Goals as goal
 
 pub returns-clause-split : goal.returns-clause-split

@@ -1,6 +1,6 @@
 use Rattle.iri_grammar.proofs.Common.{◌∙◌, None, ap, subst, Answers, bytes_fault, relative_split_of}
 use Rattle.iri_grammar.specs.inside.Scans.{fault_after}
-use Rattle.iri_grammar.proofs.TextParts.{text_fault}
+use Rattle.iri_grammar.proofs.splits.TextParts.{text_fault}
 use Rattle.iri_grammar.proofs.splitter.Splitter.relative.Goals as goal
 
 pub returns-clause-fault : goal.returns-clause-fault

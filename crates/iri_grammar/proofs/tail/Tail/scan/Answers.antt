@@ -1,8 +1,8 @@
 use Rattle.iri_grammar.proofs.Common.{◌++◌, ◌∙◌, ap, subst, arith, IsUtf8, path_char, query_char, delimited, now_of, HasNoUnit}
 use Rattle.iri_grammar.specs.inside.Tails.{PartStops}
-use Rattle.iri_grammar.proofs.AuthorityTexts.{text_over-utf8}
-use Rattle.iri_grammar.proofs.SplitUnique.{part-utf8}
-use Rattle.iri_grammar.proofs.TextParts.{rest-text}
+use Rattle.iri_grammar.proofs.authorities.AuthorityTexts.{text_over-utf8}
+use Rattle.iri_grammar.proofs.splits.SplitUnique.{part-utf8}
+use Rattle.iri_grammar.proofs.splits.TextParts.{rest-text}
 use Rattle.iri_grammar.proofs.tail.Tail.scan.Goals as goal
 
 pub returns-clause-scan : goal.returns-clause-scan

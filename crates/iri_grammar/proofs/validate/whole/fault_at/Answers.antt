@@ -1,6 +1,6 @@
 use Rattle.iri_grammar.proofs.Common.{◌∙◌, Some, ap, sym, first, parts}
 use Rattle.iri_grammar.specs.inside.Scans.{part_left, stop_fault}
-use Rattle.iri_grammar.proofs.TextParts.{no_text_fault, text_fault}
+use Rattle.iri_grammar.proofs.splits.TextParts.{no_text_fault, text_fault}
 use Rattle.iri_grammar.proofs.validate.whole.fault_at.Goals as goal
 
 pub returns-in-Err : goal.returns-in-Err

@@ -1,6 +1,6 @@
 use Rattle.iri_grammar.proofs.Common.{subst, not-true, Answers, parts}
-use Rattle.iri_grammar.proofs.PlainAuthorities.{plain-authorities}
-use Rattle.iri_grammar.proofs.PlainTails.{colon-fault, over-fault}
+use Rattle.iri_grammar.proofs.authorities.PlainAuthorities.{plain-authorities}
+use Rattle.iri_grammar.proofs.faults.PlainTails.{colon-fault, over-fault}
 use Rattle.iri_grammar.proofs.validate.whole.judge_scanned.Goals as goal
 
 pub returns-then-not-seen : goal.returns-then-not-seen

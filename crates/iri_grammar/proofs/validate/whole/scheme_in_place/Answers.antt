@@ -1,6 +1,6 @@
 use Rattle.iri_grammar.proofs.Common.{IsSome, is_some, Answers, now_of, Parts, split_of, parts, reference_fault}
 use Rattle.std.proofs.Common.{◌≡◌, IfOk, Option, Some, None, Bor, List, ℕ, true, refl, subst, sym, ◌∙◌}
-use Rattle.iri_grammar.proofs.FaultLaws.{no_missing_scheme, splits_where_no_fault}
+use Rattle.iri_grammar.proofs.faults.FaultLaws.{no_missing_scheme, splits_where_no_fault}
 use Rattle.iri_grammar.proofs.validate.whole.scheme_in_place.Goals as goal
 
 stands : (o : Option (Bor (List ℕ))) → is_some o ≡ true → IsSome (now_of o)

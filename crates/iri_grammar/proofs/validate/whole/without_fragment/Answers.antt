@@ -1,7 +1,7 @@
 use Rattle.iri_grammar.proofs.Common.{Answers, fragment_fault, part_fault, now_of, parts, parts_fault, UnexpectedFragment}
 use Rattle.std.proofs.Common.{◌≡◌, ◌∙◌, IfOk, Some, ap, subst, sym}
 use Rattle.iri_grammar.specs.inside.Scans.{absolute_kind}
-use Rattle.iri_grammar.proofs.FaultLaws.{absolute-beside, absolute-from}
+use Rattle.iri_grammar.proofs.faults.FaultLaws.{absolute-beside, absolute-from}
 use Rattle.iri_grammar.proofs.validate.whole.without_fragment.Goals as goal
 
 pub returns-in-Some-clause-fault : goal.returns-in-Some-clause-fault

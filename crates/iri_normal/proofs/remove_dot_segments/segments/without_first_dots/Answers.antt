@@ -1,6 +1,6 @@
 use Rattle.iri_normal.proofs.Common.{◌≡◌, ◌++◌, [], ◌∷◌, ◌∙◌, true, subst, sym, ap, arith, path_char, before, now_of, after_shorter}
 use Rattle.iri_normal.proofs.Common.{is_dot_segment, ends_at_slash, nothing_over}
-use Rattle.iri_grammar.proofs.Delimiters.{text_after}
+use Rattle.iri_grammar.proofs.splits.CharBoundaries.{text_after}
 use Rattle.iri_normal.proofs.EndedLemmas.{first_whole, rest-ends}
 use Rattle.iri_normal.proofs.LongLemmas.{first-path, gone-all, gone-dots}
 use Rattle.iri_normal.proofs.PieceLaws.{nothing-is_no_dot}

@@ -1,5 +1,5 @@
 use Rattle.iri_grammar.specs.WholeFault.{reference_fault}
-use Rattle.iri_grammar.proofs.TextParts.{no_fault-of_bytes}
+use Rattle.iri_grammar.proofs.splits.TextParts.{no_fault-of_bytes}
 use Rattle.iri_types.proofs.split.SplitView+S+Reference.try_from_bytes.Goals as goal
 
 pub from_utf8_unchecked-s-requires : goal.from_utf8_unchecked-s-requires

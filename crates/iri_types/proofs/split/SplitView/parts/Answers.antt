@@ -1,7 +1,7 @@
 use Rattle.std.proofs.Common.{sym, subst}
 use Rattle.std.proofs.Math.Logic.{∥∥₁_elim}
 use Rattle.std.proofs.Props.{props}
-use Rattle.iri_grammar.proofs.FaultLaws.{splits_where_no_fault}
+use Rattle.iri_grammar.proofs.faults.FaultLaws.{splits_where_no_fault}
 use Rattle.iri_grammar.specs.Parts.{Fits}
 use Rattle.iri_types.proofs.split.SplitView.parts.Goals as goal
 

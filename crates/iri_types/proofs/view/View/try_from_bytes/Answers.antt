@@ -1,5 +1,5 @@
 use Rattle.std.proofs.Common.{Some, sym, ◌∙◌, ap}
-use Rattle.iri_grammar.proofs.TextParts.{no_text_fault, answers-of}
+use Rattle.iri_grammar.proofs.splits.TextParts.{no_text_fault, answers-of}
 use Rattle.iri_types.proofs.view.View.try_from_bytes.Goals as goal
 
 pub returns-in-Some-clause-fault : goal.returns-in-Some-clause-fault

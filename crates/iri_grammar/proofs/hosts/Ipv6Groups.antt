@@ -3,10 +3,10 @@ use Rattle.iri_grammar.proofs.Common.{◌≡◌, ℕ, ◌+◌, Bool, true, false
 use Rattle.iri_grammar.proofs.Common.{ap, arith, ◌==◌, nat_lt, before, after, pieces, is_ipv4, is_group, are_groups, are_groups_or_ipv4}
 use Rattle.iri_grammar.proofs.Common.{group_count, count, plus}
 use Rattle.std.proofs.lemmas.Option.{cond_some}
-use Rattle.iri_grammar.proofs.PiecesLaws.{pieces_cut}
+use Rattle.iri_grammar.proofs.hosts.PiecesLaws.{pieces_cut}
 use Rattle.iri_grammar.specs.Ipv6Test.{is_full, is_shortened}
 use Rattle.iri_grammar.specs.inside.Ipv6Counts.{last_units}
-use Rattle.iri_grammar.proofs.Ipv6Laws.{group_is_no_ipv4}
+use Rattle.iri_grammar.proofs.hosts.Ipv6Laws.{group_is_no_ipv4}
 
 count_last : (v : Bool) (t : List ℕ) → after 58 t ≡ None → count v (pieces 58 t) ≡ last_units v (before 58 t)
 count_last v t e = rw (pieces_cut 58 t, e) refl

@@ -2,10 +2,10 @@
 use Rattle.iri_grammar.proofs.Common.{◌≡◌, ℕ, true, List, [], ◌∷◌, ◌++◌, Option, Some, None, refl, sym, ◌∙◌, ap, subst, append_assoc}
 use Rattle.iri_grammar.proofs.Common.{IsSome, append-nil, Tests, IsSpec, if_there, is_scheme, before, lacks, delimited, Parts, Splits}
 use Rattle.iri_grammar.proofs.Common.{recompose, scheme_text, authority_text, split_of, iri_fault}
-use Rattle.iri_grammar.proofs.CutLaws.{before-delimited, lacks-append, lacks-other}
-use Rattle.iri_grammar.proofs.SplitLaws.{Delimiters, scheme-lacks, hash_ends, authority_text-lacks, delimited-lacks}
-use Rattle.iri_grammar.proofs.SplitUnique.{fits-delimiters, split_is}
-use Rattle.iri_grammar.proofs.FaultLaws.{iri-law}
+use Rattle.iri_grammar.proofs.splits.CutLaws.{before-delimited, lacks-append, lacks-other}
+use Rattle.iri_grammar.proofs.splits.SplitLaws.{Delimiters, scheme-lacks, hash_ends, authority_text-lacks, delimited-lacks}
+use Rattle.iri_grammar.proofs.splits.SplitUnique.{fits-delimiters, split_is}
+use Rattle.iri_grammar.proofs.faults.FaultLaws.{iri-law}
 
 -- ---- what stands and what doesn't
 pub iri-has_scheme : (s : Tests) → IsSpec s → (t : List ℕ) → iri_fault s t ≡ None → IsSome (split_of t).scheme

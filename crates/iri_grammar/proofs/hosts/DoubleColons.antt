@@ -1,7 +1,7 @@
 -- A text cut at its first `::`.
 use Rattle.iri_grammar.proofs.Common.{◌≡◌, ℕ, zero, suc, ◌<◌, ◌≤◌, ◌≢◌, false, ◌&&◌, List, [], ◌∷◌, Some, None, length, take, drop, refl}
 use Rattle.iri_grammar.proofs.Common.{sym, ◌∙◌, ap, subst, arith, ◌==◌, eqb-true, false_from_ne_true, begins, before_double, after_double}
-use Rattle.iri_grammar.proofs.CutLaws.{both}
+use Rattle.iri_grammar.proofs.splits.CutLaws.{both}
 
 -- none at the start
 none_here : (x : ℕ) (xs : List ℕ) → ((rest : List ℕ) → x ∷ xs ≢ 58 ∷ 58 ∷ rest) → (x == 58 && begins 58 xs) ≡ false

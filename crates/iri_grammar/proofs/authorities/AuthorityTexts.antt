@@ -9,9 +9,9 @@ use Rattle.iri_grammar.proofs.Common.{or_all, host_of, port_of, before, after, l
 use Rattle.iri_grammar.proofs.Common.{append_assoc, inl, inr}
 use Rattle.std.proofs.lemmas.Bool.{or_cases}
 use Rattle.std.specs.Str.{IsAscii}
-use Rattle.iri_grammar.proofs.CutLaws.{both, joined, lacks-append, lacks-other, all-lacks}
-use Rattle.iri_grammar.proofs.CutBytes.{text-lacks}
-use Rattle.iri_grammar.proofs.LiteralChars.{is_literal_char, ip_literal-chars}
+use Rattle.iri_grammar.proofs.splits.CutLaws.{both, joined, lacks-append, lacks-other, all-lacks}
+use Rattle.iri_grammar.proofs.units.LackedBytes.{text-lacks}
+use Rattle.iri_grammar.proofs.hosts.LiteralChars.{is_literal_char, ip_literal-chars}
 
 -- ---- the authority is put together from its parts
 host_port : (xs : List ℕ) → host_of xs ++ delimited 58 (port_of xs) ≡ xs

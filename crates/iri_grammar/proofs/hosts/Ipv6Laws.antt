@@ -3,11 +3,11 @@ use Rattle.iri_grammar.proofs.Common.{◌≡◌, ◌↔◌, ℕ, ◌+◌, inl, i
 use Rattle.iri_grammar.proofs.Common.{Some, None, refl, sym, ◌∙◌, ap, subst, arith, ◌==◌, nat_lt, is_ascii_hexdigit}
 use Rattle.iri_grammar.proofs.Common.{list_all, nat_tests, before, after, lacks, tail, begins, pieces, onto, more_pieces, is_ipv4}
 use Rattle.iri_grammar.proofs.Common.{are_four_octets, before_double, after_double, group_texts, is_ipv6_around, is_ipv6}
-use Rattle.iri_grammar.proofs.CutLaws.{all-lacks, by_test, both}
+use Rattle.iri_grammar.proofs.splits.CutLaws.{all-lacks, by_test, both}
 use Rattle.iri_grammar.specs.Pieces.{joined}
-use Rattle.iri_grammar.proofs.PiecesLaws.{pieces_cut}
+use Rattle.iri_grammar.proofs.hosts.PiecesLaws.{pieces_cut}
 use Rattle.iri_grammar.specs.Ipv6.{IsFullIpv6, IsShortenedIpv6, IsIpv6, is_group, are_groups, are_groups_or_ipv4, group_count}
-use Rattle.iri_grammar.proofs.LiteralChars.{hex_of_group, is_ipv4_char, ipv4-chars, groups-all, mixed-all}
+use Rattle.iri_grammar.proofs.hosts.LiteralChars.{hex_of_group, is_ipv4_char, ipv4-chars, groups-all, mixed-all}
 
 -- a text without a delimiter is one piece
 pub one_piece : (c : ℕ) (t : List ℕ) → lacks c t ≡ true → pieces c t ≡ t ∷ []

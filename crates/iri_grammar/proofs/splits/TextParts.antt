@@ -8,8 +8,8 @@ use Rattle.std.proofs.Common.{drop-cons}
 use Rattle.std.specs.Prelude.{Result}
 use Rattle.std.proofs.lemmas.List.{take-append-drop}
 use Rattle.iri_grammar.specs.declared.error.Error.{Error}
-use Rattle.iri_grammar.proofs.AuthorityTexts.{one_byte-utf8, text_over-utf8}
-use Rattle.iri_grammar.proofs.SplitUnique.{part-utf8}
+use Rattle.iri_grammar.proofs.authorities.AuthorityTexts.{one_byte-utf8, text_over-utf8}
+use Rattle.iri_grammar.proofs.splits.SplitUnique.{part-utf8}
 
 -- what follows a text in one
 pub rest-text : (a r : List ℕ) → IsUtf8 a → IsUtf8 (a ++ r) → IsUtf8 r

@@ -4,7 +4,7 @@ use Rattle.iri_grammar.proofs.Common.{length-append, append_assoc, IsUtf8, IsUtf
 use Rattle.std.proofs.lemmas.List.{drop_at}
 use Rattle.std.proofs.Math.Seq.{get_or-append_seam, take-append_seam}
 use Rattle.std.proofs.lemmas.Str.{IsCharBoundary-after_ascii, IsCharBoundary-before_ascii}
-use Rattle.iri_grammar.proofs.CutLaws.{joined}
+use Rattle.iri_grammar.proofs.splits.CutLaws.{joined}
 
 pub text_after_delimiter : (c : ℕ) (b r : List ℕ) → c < 128 → IsUtf8 (b ++ c ∷ r) → IsUtf8 r
 text_after_delimiter c b r l u =

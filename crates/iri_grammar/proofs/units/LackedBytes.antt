@@ -4,7 +4,7 @@ use Rattle.iri_grammar.proofs.Common.{suc, ◌+◌, ◌/◌, ◌==◌, chars, Is
 use lib.Dec.{ltb}
 use lib.Utf8.{encode, encodes, next}
 use Rattle.std.proofs.lemmas.Str.{encodes-chars}
-use Rattle.iri_grammar.proofs.CutLaws.{by_test, both, lacks-other, lacks-append, test_apart}
+use Rattle.iri_grammar.proofs.splits.CutLaws.{by_test, both, lacks-other, lacks-append, test_apart}
 
 -- a text over a class lacks what is in no class
 pub over-lacks : (p : ℕ → Bool) (c n : ℕ) (cs : List ℕ) → p c ≡ false → (37 == c) ≡ false → is_ascii_hexdigit c ≡ false

@@ -9,8 +9,8 @@ use Rattle.std.proofs.lemmas.Str.{IsUtf8-encode}
 use lib.Utf8.{encode, next, scalar}
 use Rattle.iri_grammar.specs.Classes.{HasFirstUcschars}
 use Rattle.iri_grammar.specs.inside.Runs.{begins_with_more, BeginsWide}
-use Rattle.iri_grammar.proofs.ClassLaws.{class_past_ascii, class_has_no_percent}
-use Rattle.iri_grammar.proofs.UnitRuns.{char_units, char_lacks}
+use Rattle.iri_grammar.proofs.units.ClassLaws.{class_past_ascii, class_has_no_percent}
+use Rattle.iri_grammar.proofs.units.UnitRuns.{char_units, char_lacks}
 
 -- ---- the spelling of a character past ASCII, by its width
 pub spelled_in_two : (code lead a : ℕ) (os : List ℕ) → 192 ≤ lead → lead < 224 → a < 64 → code ≡ (lead - 192) * 64 + a → 128 ≤ code

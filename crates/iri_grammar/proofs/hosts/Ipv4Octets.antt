@@ -1,7 +1,7 @@
 -- The numbers of an IPv4 text that are still to come.
 use Rattle.iri_grammar.proofs.Common.{◌≡◌, ℕ, zero, suc, ◌-◌, ◌<◌, Bool, true, false, ◌&&◌, List, [], ◌∷◌, Some, None, refl, ◌∙◌, ap, arith}
 use Rattle.iri_grammar.proofs.Common.{◌==◌, nat_tests, before, after, pieces, more_pieces, is_dec_octet}
-use Rattle.iri_grammar.proofs.PiecesLaws.{pieces_cut}
+use Rattle.iri_grammar.proofs.hosts.PiecesLaws.{pieces_cut}
 
 -- one number, and so many after it
 abbrev pub octets_left : ℕ → List (List ℕ) → Bool

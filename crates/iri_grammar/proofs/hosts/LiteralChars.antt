@@ -9,7 +9,7 @@ use Rattle.std.proofs.lemmas.Bool.{or_cases, or_left}
 use Rattle.std.proofs.lemmas.List.Folds.{list_all-append}
 use Rattle.iri_grammar.specs.Ipv4.{is_hundreds}
 use Rattle.iri_grammar.specs.IpLiteral.{some_of, is_future_address}
-use Rattle.iri_grammar.proofs.CutLaws.{by_test, both, and_three, joined}
+use Rattle.iri_grammar.proofs.splits.CutLaws.{by_test, both, and_three, joined}
 
 -- brackets, and what stands in them: hex digits, `.`, `:` and the other ASCII characters of a userinfo
 unfoldable pub is_literal_char : ℕ → Bool

@@ -8,14 +8,14 @@ use Rattle.std.proofs.lemmas.Str.{chars-append, IsUtf8-append, IsUtf8-drop, IsUt
 use Rattle.std.proofs.lemmas.Str.{IsUtf8-take, IsCharBoundary-from_drop, IsCharBoundary-from_take}
 use Rattle.std.proofs.lemmas.Str.Ascii.{IsAscii-cons, IsAscii-nil}
 use Rattle.iri_grammar.specs.inside.Runs.{LacksNearUnit}
-use Rattle.iri_grammar.proofs.AuthorityTexts.{text_over-utf8}
-use Rattle.iri_grammar.proofs.CutLaws.{by_test, all-lacks, lacks-append, test_apart}
-use Rattle.iri_grammar.proofs.ClassLaws.{no_percent}
-use Rattle.iri_grammar.proofs.CutBytes.{encode-lacks}
-use Rattle.iri_grammar.proofs.PlainTails.{plain-over, run-all}
-use Rattle.iri_grammar.proofs.Units.{ascii_prefix, char_past, char_stops, hex_is_ascii, none-over, nothing_left, nothing_more, of_text}
-use Rattle.iri_grammar.proofs.Units.{run_of_le, triplet_past}
-use Rattle.iri_grammar.proofs.TextParts.{rest-text}
+use Rattle.iri_grammar.proofs.authorities.AuthorityTexts.{text_over-utf8}
+use Rattle.iri_grammar.proofs.splits.CutLaws.{by_test, all-lacks, lacks-append, test_apart}
+use Rattle.iri_grammar.proofs.units.ClassLaws.{no_percent}
+use Rattle.iri_grammar.proofs.units.LackedBytes.{encode-lacks}
+use Rattle.iri_grammar.proofs.faults.PlainTails.{plain-over, run-all}
+use Rattle.iri_grammar.proofs.units.FirstUnits.{ascii_prefix, char_past, char_stops, hex_is_ascii, none-over, nothing_left, nothing_more, of_text}
+use Rattle.iri_grammar.proofs.units.FirstUnits.{run_of_le, triplet_past}
+use Rattle.iri_grammar.proofs.splits.TextParts.{rest-text}
 
 -- ---- units decide nothing: what follows them decides as the whole does
 over-past : (p : ℕ → Bool) (n : ℕ) (xs ys : List ℕ) → over_from p n xs ≡ true → over_from p n (xs ++ ys) ≡ over p ys

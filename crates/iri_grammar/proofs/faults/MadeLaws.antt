@@ -2,10 +2,10 @@
 use Rattle.iri_grammar.proofs.Common.{◌≡◌, true, List, ℕ, None, refl, IsSome, IsNone, Tests, IsSpec, recompose_authority, authority_parts}
 use Rattle.iri_grammar.proofs.Common.{is_authority, Parts, Fits, Splits, recompose, split_of, reference_fault, iri_fault}
 use Rattle.iri_grammar.specs.Authority.{AuthorityParts, FitsAuthority}
-use Rattle.iri_grammar.proofs.AuthorityLaws.{reading_is, passes}
-use Rattle.iri_grammar.proofs.SplitUnique.{split_is}
+use Rattle.iri_grammar.proofs.authorities.AuthorityLaws.{reading_is, passes}
+use Rattle.iri_grammar.proofs.splits.SplitUnique.{split_is}
 use Rattle.iri_grammar.specs.WholeFault.{absolute_fault, relative_fault}
-use Rattle.iri_grammar.proofs.FaultLaws.{splits_where_no_fault, no_fault_where_splits, iri-law, absolute-law, relative-law}
+use Rattle.iri_grammar.proofs.faults.FaultLaws.{splits_where_no_fault, no_fault_where_splits, iri-law, absolute-law, relative-law}
 
 made-splits : (s : Tests) (p : Parts) → Fits s p → Splits s (recompose p) p
 made-splits s p f = record { fits = f; text = refl }

@@ -6,9 +6,9 @@ use Rattle.iri_grammar.proofs.Common.{is_ascii_reg_name, is_ascii_unreserved, is
 use Rattle.iri_grammar.proofs.Common.{is_query, is_authority, lacks, delimited, Parts, Fits, Splits, IsReference, IsIri, IsRelative}
 use Rattle.iri_grammar.proofs.Common.{recompose, scheme_text, authority_text, split_of}
 use Rattle.std.proofs.Common.{◌⊎◌}
-use Rattle.iri_grammar.proofs.SplitLaws.{Delimiters, split_parts, scheme-chars}
-use Rattle.iri_grammar.proofs.AuthorityTexts.{IsForeign, authority-lacks, hash-foreign, slash-foreign, delimiter-foreign, over_text-lacks}
-use Rattle.iri_grammar.proofs.AuthorityTexts.{text_over-utf8, authority-utf8, nothing-utf8, one_byte-utf8, delimited-utf8, all_below}
+use Rattle.iri_grammar.proofs.splits.SplitLaws.{Delimiters, split_parts, scheme-chars}
+use Rattle.iri_grammar.proofs.authorities.AuthorityTexts.{IsForeign, authority-lacks, hash-foreign, slash-foreign, delimiter-foreign, over_text-lacks}
+use Rattle.iri_grammar.proofs.authorities.AuthorityTexts.{text_over-utf8, authority-utf8, nothing-utf8, one_byte-utf8, delimited-utf8, all_below}
 
 -- ---- the parts of a tuple that fits
 authorities-lack : (s : Tests) (c : ℕ) (o : Option (List ℕ)) → IsForeign s c → if_there (is_authority s) o ≡ true

@@ -7,10 +7,10 @@ use Rattle.iri_grammar.proofs.Common.{is_ipvfuture, is_host, is_reg_name, recomp
 use Rattle.iri_grammar.proofs.Common.{after_userinfo, host_of, port_of, is_authority}
 use Rattle.iri_grammar.proofs.Common.{inl, inr}
 use Rattle.std.proofs.lemmas.Bool.{or_cases}
-use Rattle.iri_grammar.proofs.CutLaws.{both, joined, before-delimited, after-delimited, lacks-append, lacks-other, all-lacks}
+use Rattle.iri_grammar.proofs.splits.CutLaws.{both, joined, before-delimited, after-delimited, lacks-append, lacks-other, all-lacks}
 use Rattle.iri_grammar.specs.Authority.{AuthorityParts, ReadsAuthority}
-use Rattle.iri_grammar.proofs.AuthorityTexts.{over_text-lacks, whole, port-digits}
-use Rattle.iri_grammar.proofs.LiteralChars.{is_literal_char, ip_literal-chars}
+use Rattle.iri_grammar.proofs.authorities.AuthorityTexts.{over_text-lacks, whole, port-digits}
+use Rattle.iri_grammar.proofs.hosts.LiteralChars.{is_literal_char, ip_literal-chars}
 
 -- ---- the host has no `@`, and no colon with only digits after it
 at_apart : (s : Tests) → IsSpec s → (userinfo_char s 64 ≡ false) × (reg_name_char s 64 ≡ false) × (reg_name_char s 58 ≡ false)

@@ -7,16 +7,16 @@ use Rattle.iri_grammar.proofs.Common.{ascii_test, if_there, is_port, is_userinfo
 use Rattle.iri_grammar.proofs.Common.{is_ip_literal, run_of, is_plain_authority, is_small, RegName, Userinfo, is_small_name, name_len}
 use Rattle.std.proofs.lemmas.List.{length-drop, length-take-le}
 use Rattle.std.proofs.lemmas.List.Folds.{list_all-append}
-use Rattle.iri_grammar.proofs.LiteralChars.{all-weaken}
+use Rattle.iri_grammar.proofs.hosts.LiteralChars.{all-weaken}
 use Rattle.iri_grammar.specs.Seen.{is_kept_port}
 use Rattle.iri_grammar.specs.inside.PlainAuthority.{is_small_name_char, plain_len, port_len}
-use Rattle.iri_grammar.proofs.AuthorityLaws.{name_parts}
-use Rattle.iri_grammar.proofs.AuthorityTexts.{all_below}
-use Rattle.iri_grammar.proofs.ClassLaws.{ascii_test_below}
-use Rattle.iri_grammar.proofs.CutLaws.{all-lacks, both}
-use Rattle.iri_grammar.proofs.FaultLaws.{authority-no_fault}
-use Rattle.iri_grammar.proofs.PlainTails.{plain-over, run-all}
-use Rattle.iri_grammar.proofs.Units.{run_of_le}
+use Rattle.iri_grammar.proofs.authorities.AuthorityLaws.{name_parts}
+use Rattle.iri_grammar.proofs.authorities.AuthorityTexts.{all_below}
+use Rattle.iri_grammar.proofs.units.ClassLaws.{ascii_test_below}
+use Rattle.iri_grammar.proofs.splits.CutLaws.{all-lacks, both}
+use Rattle.iri_grammar.proofs.faults.FaultLaws.{authority-no_fault}
+use Rattle.iri_grammar.proofs.faults.PlainTails.{plain-over, run-all}
+use Rattle.iri_grammar.proofs.units.FirstUnits.{run_of_le}
 
 -- ---- a port at the start
 port_le : (r : List ℕ) → port_len r ≤ length r

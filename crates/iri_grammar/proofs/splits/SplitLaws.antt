@@ -4,8 +4,8 @@ use Rattle.iri_grammar.proofs.Common.{sym, ◌∙◌, ap, subst, arith, append_a
 use Rattle.iri_grammar.proofs.Common.{if_there, is_letter, is_scheme, is_scheme_char, before, from, after, lacks, delimited, Parts}
 use Rattle.iri_grammar.proofs.Common.{recompose, scheme_text, authority_text, starts_with_slash, starts_with_slashes, is_empty, path_rules}
 use Rattle.iri_grammar.proofs.Common.{split_of, relative_split_of, parts_of, hier_of, scheme_of, after_scheme, authority_of, path_of}
-use Rattle.iri_grammar.proofs.CutLaws.{by_test, both, joined, joined_from, before-delimited, after-delimited, before-at, from-at}
-use Rattle.iri_grammar.proofs.CutLaws.{lacks-append, lacks-other, test_apart, all-lacks}
+use Rattle.iri_grammar.proofs.splits.CutLaws.{by_test, both, joined, joined_from, before-delimited, after-delimited, before-at, from-at}
+use Rattle.iri_grammar.proofs.splits.CutLaws.{lacks-append, lacks-other, test_apart, all-lacks}
 
 pub letter-is_scheme_char : (x : ℕ) → is_letter x ≡ true → is_scheme_char x ≡ true
 unfolding is_letter is_scheme_char

@@ -3,9 +3,9 @@ use Rattle.iri_grammar.proofs.Common.{◌≡◌, ℕ, [], ◌∷◌, ◌∙◌, 
 use Rattle.iri_grammar.proofs.Common.{before_any, from_any, now_of, authority_of, hier_of, ends_authority, IsPastAuthority}
 use Rattle.iri_grammar.specs.declared.splitter.AuthorityCut.{AuthorityCut}
 use Rattle.iri_grammar.specs.inside.AuthorityCuts.{KeepsAuthorityNotes}
-use Rattle.iri_grammar.proofs.DelimiterLemmas.{past_authority}
-use Rattle.iri_grammar.proofs.AuthorityTexts.{delimited-utf8, one_byte-utf8}
-use Rattle.iri_grammar.proofs.TextParts.{text-after}
+use Rattle.iri_grammar.proofs.splits.PartEnds.{past_authority}
+use Rattle.iri_grammar.proofs.authorities.AuthorityTexts.{delimited-utf8, one_byte-utf8}
+use Rattle.iri_grammar.proofs.splits.TextParts.{text-after}
 
 slashes : (t : List ℕ) → is_utf8 (47 ∷ 47 ∷ t) ≡ is_utf8 t
 slashes t = text-after (47 ∷ 47 ∷ []) t (delimited-utf8 47 (47 ∷ []) (omega arith) (one_byte-utf8 47 (omega arith)))

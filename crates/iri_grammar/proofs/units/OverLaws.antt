@@ -1,7 +1,7 @@
 -- A text is over a class exactly where units of the class spell it.
 use Rattle.iri_grammar.proofs.Common.{◌≡◌, ℕ, Bool, true, false, cond, ◌&&◌, List, [], ◌∷◌, refl, sym, ap, subst, ◌∙◌, is_ascii_hexdigit}
 use Rattle.iri_grammar.proofs.Common.{both, over, over_from}
-use Rattle.iri_grammar.proofs.CutLaws.{by_test}
+use Rattle.iri_grammar.proofs.splits.CutLaws.{by_test}
 use Rattle.iri_grammar.specs.Over.{IsOver, done, plain, triplet}
 
 pub over-from_units : (p : ℕ → Bool) (cs : List ℕ) → p 37 ≡ false → IsOver p cs → over p cs ≡ true

@@ -7,13 +7,13 @@ use Rattle.iri_grammar.proofs.Common.{is_fragment, is_query, authority_fault, fi
 use Rattle.iri_grammar.proofs.Common.{over, text_over, Parts, run_of, colon_allowed, fault_before_fragment, parts_fault, ErrorKind}
 use Rattle.iri_grammar.proofs.Common.{InvalidFragment, InvalidPath, InvalidQuery, AreOver, Class, RegName, Userinfo}
 use Rattle.std.proofs.Math.Seq.{drop-length}
-use Rattle.iri_grammar.proofs.AuthorityTexts.{all_below}
-use Rattle.iri_grammar.proofs.ClassLaws.{ascii_test_below, class_has_ascii, class_has_no_percent}
-use Rattle.iri_grammar.proofs.AuthorityLaws.{passes}
-use Rattle.iri_grammar.proofs.FaultLaws.{authority-no_fault, part-no_fault}
-use Rattle.iri_grammar.proofs.CutLaws.{both, test_apart}
-use Rattle.iri_grammar.proofs.DelimiterLemmas.{run_of_all}
-use Rattle.iri_grammar.proofs.Units.{nothing_more, of_text, run_past}
+use Rattle.iri_grammar.proofs.authorities.AuthorityTexts.{all_below}
+use Rattle.iri_grammar.proofs.units.ClassLaws.{ascii_test_below, class_has_ascii, class_has_no_percent}
+use Rattle.iri_grammar.proofs.authorities.AuthorityLaws.{passes}
+use Rattle.iri_grammar.proofs.faults.FaultLaws.{authority-no_fault, part-no_fault}
+use Rattle.iri_grammar.proofs.splits.CutLaws.{both, test_apart}
+use Rattle.iri_grammar.proofs.splits.PartEnds.{run_of_all}
+use Rattle.iri_grammar.proofs.units.FirstUnits.{nothing_more, of_text, run_past}
 
 -- ---- runs
 pub run-all : (p : ℕ → Bool) (bs : List ℕ) → list_all p (take (run_of p bs) bs) ≡ true

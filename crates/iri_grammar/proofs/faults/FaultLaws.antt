@@ -9,11 +9,11 @@ use Rattle.iri_grammar.proofs.Common.{ErrorKind, InvalidPath, InvalidQuery, Inva
 use Rattle.iri_grammar.proofs.Common.{part_fault, authority_fault, query_fault, fragment_fault, bytes_fault, colon_allowed}
 use Rattle.iri_grammar.proofs.Common.{fault_before_fragment, parts_fault, reference_fault, iri_fault}
 use Rattle.iri_grammar.specs.Components.{is_path}
-use Rattle.iri_grammar.proofs.CutLaws.{both, before-delimited}
+use Rattle.iri_grammar.proofs.splits.CutLaws.{both, before-delimited}
 use Rattle.iri_grammar.specs.Split.{after_slashes}
-use Rattle.iri_grammar.proofs.SplitLaws.{recompose_split, recompose_relative_split, relative_split_is, scheme-lacks, colon_ends}
-use Rattle.iri_grammar.proofs.SplitUnique.{split_is, splits-utf8}
-use Rattle.iri_grammar.proofs.AuthorityTexts.{authority-utf8}
+use Rattle.iri_grammar.proofs.splits.SplitLaws.{recompose_split, recompose_relative_split, relative_split_is, scheme-lacks, colon_ends}
+use Rattle.iri_grammar.proofs.splits.SplitUnique.{split_is, splits-utf8}
+use Rattle.iri_grammar.proofs.authorities.AuthorityTexts.{authority-utf8}
 use Rattle.iri_grammar.specs.declared.error.ErrorKind.TheVariants.{InvalidUserInfo, InvalidHost}
 use Rattle.iri_grammar.specs.Fault.{scheme_fault, userinfo_fault, host_fault}
 use Rattle.iri_grammar.specs.WholeFault.{missing_scheme_fault, absolute_fault, relative_fault}

@@ -9,13 +9,13 @@ use Rattle.iri_grammar.proofs.Common.{ErrorKind, InvalidFragment, InvalidPath, I
 use Rattle.iri_grammar.specs.declared.tail.Tail.{Tail}
 use Rattle.iri_grammar.specs.inside.Scans.{fault_after, stop_fault, Scans}
 use Rattle.iri_grammar.specs.inside.Tails.{AreOver, ScansTail, TailStops}
-use Rattle.iri_grammar.proofs.AuthorityTexts.{nothing-utf8, over_text-lacks}
-use Rattle.iri_grammar.proofs.CutLaws.{after-delimited, before-delimited, by_test, joined, lacks-append}
-use Rattle.iri_grammar.proofs.FaultLaws.{part-no_fault}
-use Rattle.iri_grammar.proofs.SplitLaws.{delimited-lacks}
-use Rattle.iri_grammar.proofs.SplitUnique.{path_apart, queries-lack}
-use Rattle.iri_grammar.proofs.TextParts.{tail-text}
-use Rattle.iri_grammar.proofs.UnitRuns.{stops-over}
+use Rattle.iri_grammar.proofs.authorities.AuthorityTexts.{nothing-utf8, over_text-lacks}
+use Rattle.iri_grammar.proofs.splits.CutLaws.{after-delimited, before-delimited, by_test, joined, lacks-append}
+use Rattle.iri_grammar.proofs.faults.FaultLaws.{part-no_fault}
+use Rattle.iri_grammar.proofs.splits.SplitLaws.{delimited-lacks}
+use Rattle.iri_grammar.proofs.splits.SplitUnique.{path_apart, queries-lack}
+use Rattle.iri_grammar.proofs.splits.TextParts.{tail-text}
+use Rattle.iri_grammar.proofs.units.UnitRuns.{stops-over}
 
 -- ---- the parts of what follows the authority
 record TailIs (t x : List ℕ) (q f : Option (List ℕ)) : Type 0 where

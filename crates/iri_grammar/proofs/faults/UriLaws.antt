@@ -5,7 +5,7 @@ use Rattle.iri_grammar.proofs.Common.{authority_parts, is_authority, Parts, Fits
 use Rattle.iri_grammar.specs.Classes.{Tests, uri_tests, userinfo_char, reg_name_char, pchar, path_char, query_char, fragment_char}
 use Rattle.iri_grammar.specs.Classes.{is_ascii_userinfo, is_ascii_reg_name, is_ascii_pchar, is_ascii_path, is_ascii_query}
 use Rattle.iri_grammar.specs.Components.{if_there, is_userinfo, is_path, is_path_segment, is_query, is_fragment}
-use Rattle.iri_grammar.proofs.CutLaws.{both}
+use Rattle.iri_grammar.proofs.splits.CutLaws.{both}
 
 -- ---- texts over a larger class
 over_from-weaken : (p q : ℕ → Bool) → ((c : ℕ) → p c ≡ true → q c ≡ true) → (due : ℕ) (cs : List ℕ) → over_from p due cs ≡ true

@@ -7,12 +7,12 @@ use Rattle.iri_grammar.proofs.Common.{before_any, from_any, ends_scheme, SchemeA
 use Rattle.std.specs.Char.{is_ascii_alphabetic}
 use Rattle.std.proofs.lemmas.Bool.{eqb-true, ltb-true, lt-ltb, false_from_ne_true}
 use Rattle.memchr.specs.Find.{is_byte3, IsFirstByte}
-use Rattle.iri_grammar.proofs.SplitUnique.{scheme_char-below}
-use Rattle.iri_grammar.proofs.CutLaws.{both, and_three, test_apart}
-use Rattle.iri_grammar.proofs.SplitLaws.{letter-is_scheme_char, colon_ends}
+use Rattle.iri_grammar.proofs.splits.SplitUnique.{scheme_char-below}
+use Rattle.iri_grammar.proofs.splits.CutLaws.{both, and_three, test_apart}
+use Rattle.iri_grammar.proofs.splits.SplitLaws.{letter-is_scheme_char, colon_ends}
 use Rattle.iri_grammar.specs.inside.Delimiters.{NoScheme, EndsAuthority}
 use Rattle.std.proofs.lemmas.List.{drop_all, take_all}
-use Rattle.iri_grammar.proofs.AuthorityTexts.{all_below}
+use Rattle.iri_grammar.proofs.authorities.AuthorityTexts.{all_below}
 
 -- ---- the scheme
 -- the run reaches to the end where all pass

@@ -1,0 +1,5 @@
+pub mod AuthorityCuts
+pub mod AuthorityLaws
+pub mod AuthorityTexts
+pub mod LastColons
+pub mod PlainAuthorities

@@ -1,0 +1,6 @@
+pub mod DoubleColons
+pub mod Ipv4Octets
+pub mod Ipv6Groups
+pub mod Ipv6Laws
+pub mod LiteralChars
+pub mod PiecesLaws

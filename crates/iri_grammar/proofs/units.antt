@@ -1,0 +1,9 @@
+pub mod ClassLaws
+pub mod FirstUnits
+pub mod HexDigitTable
+pub mod LackedBytes
+pub mod OverLaws
+pub mod RankTable
+pub mod RunBlocks
+pub mod UnitRuns
+pub mod WideChars
