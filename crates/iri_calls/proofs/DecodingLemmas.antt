@@ -1,7 +1,7 @@
 -- A decoding has at most as many bytes as its text, and is written fragment by fragment.
 use Rattle.iri_calls.proofs.Common.{◌≡◌, ◌+◌, ℕ, List, [], ◌∷◌, length, refl, ap, sym, ◌∙◌, arith, length-append, flat_map, over, over_at}
 use Rattle.iri_percent.specs.Decoding.{decoding, Fragment, fragments, fragment_bytes}
-use Rattle.iri_percent.proofs.DecodingLemmas.{fragments-joined}
+use Rattle.iri_percent.proofs.coding.Fragments.{fragments-joined}
 use Rattle.iri_calls.specs.inside.PlacedLaws.{over_at-none, over_at-both, over_at_start}
 
 -- These fragments are left, and the bytes of those before them stand in the buffer.

@@ -8,12 +8,12 @@ use Rattle.iri_grammar.proofs.hosts.LiteralChars.{is_literal_char, ip_literal-ch
 use Rattle.iri_grammar.specs.Authority.{AuthorityParts, FitsAuthority, ReadsAuthority, recompose_authority, authority_parts, is_authority}
 use Rattle.iri_grammar.proofs.authorities.AuthorityLaws.{reading_is, authority_law}
 use Rattle.iri_percent.specs.NormalHost.{authority_without}
-use Rattle.iri_percent.proofs.NormalLaws.{normal_plains}
-use Rattle.iri_percent.proofs.ClassLaws.{pct-userinfo, pct-reg_name, lowered-reg_name}
-use Rattle.iri_percent.proofs.WholeLaws.{literal-lacks}
+use Rattle.iri_percent.proofs.forms.ByUnits.{normal_plains}
+use Rattle.iri_percent.proofs.forms.Classes.{pct-userinfo, pct-reg_name, lowered-reg_name}
+use Rattle.iri_percent.proofs.units.OfParts.{literal-lacks}
 use Rattle.iri_normal.proofs.HostLaws.{host-stable, ascii-plains}
 use Rattle.iri_normal.proofs.LiteralLaws.{literal-lower}
-use Rattle.iri_percent.proofs.MapKinds.{authority-reads as reads, literal_low as literal-ascii}
+use Rattle.iri_percent.proofs.mapping.Productions.{authority-reads as reads, literal_low as literal-ascii}
 use Rattle.iri_normal.specs.LowerCase as P
 
 -- ---- hosts

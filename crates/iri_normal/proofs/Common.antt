@@ -46,15 +46,15 @@ pub use Rattle.iri_grammar.specs.Split.{split_of}
 pub use Rattle.iri_grammar.specs.Splitters.{parts}
 pub use Rattle.iri_grammar.specs.WholeFault.{absolute_fault, reference_fault, iri_fault}
 pub use Rattle.iri_grammar.specs.inside.PiecesLaws.{more_pieces}
-pub use Rattle.iri_percent.proofs.Authorities.{authority_in}
-pub use Rattle.iri_percent.proofs.ClassLaws.{IsText, ended, letter, over-from_text, pct-path}
-pub use Rattle.iri_percent.proofs.DelimiterLaws.{pct_delimiter, slash}
-pub use Rattle.iri_percent.proofs.NormalLaws.{normal_nil, normal_plain, normal_lone, normal_char}
-pub use Rattle.iri_percent.proofs.Reading.{Reading, done, plain, char, lone, read, whole_plain}
-pub use Rattle.iri_percent.proofs.Stability.{pct-stable, as_it_is-case, lower-case, upper_hex, upper_octet}
-pub use Rattle.iri_percent.proofs.UnitLaws.{Spells, none, more}
-pub use Rattle.iri_percent.proofs.WholeLaws.{userinfo-whole, host-whole, query-whole, fragment-whole, reg_name_percent, path-whole}
-pub use Rattle.iri_percent.proofs.WholeLaws.{path_percent}
+pub use Rattle.iri_percent.proofs.hosts.Authorities.{authority_in}
+pub use Rattle.iri_percent.proofs.forms.Classes.{IsText, ended, letter, over-from_text, pct-path}
+pub use Rattle.iri_percent.proofs.units.AtDelimiters.{pct_delimiter, slash}
+pub use Rattle.iri_percent.proofs.forms.ByUnits.{normal_nil, normal_plain, normal_lone, normal_char}
+pub use Rattle.iri_percent.proofs.units.WholeTriplets.{Reading, done, plain, char, lone, read, whole_plain}
+pub use Rattle.iri_percent.proofs.forms.Stability.{pct-stable, as_it_is-case, lower-case, upper_hex, upper_octet}
+pub use Rattle.iri_percent.proofs.units.AtStart.{Spells, none, more}
+pub use Rattle.iri_percent.proofs.units.OfParts.{userinfo-whole, host-whole, query-whole, fragment-whole, reg_name_percent, path-whole}
+pub use Rattle.iri_percent.proofs.units.OfParts.{path_percent}
 pub use Rattle.iri_percent.specs.NormalHost.{is_dropped, normal_userinfo, normal_port_in, normal_authority_parts_in, normal_authority_in}
 unfoldable pub use Rattle.iri_percent.specs.NormalHost.{is_ascii_host, normal_host, normal_authority}
 pub use Rattle.iri_percent.specs.SchemeRules.{dropped_port}

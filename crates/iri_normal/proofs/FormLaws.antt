@@ -8,7 +8,7 @@ use Rattle.iri_normal.proofs.Common.{becomes_slash, normal_form, normal_form_in,
 use Rattle.std.proofs.lemmas.List.Folds.{list_all-map}
 use Rattle.iri_grammar.specs.Components.{is_letter}
 use Rattle.iri_grammar.proofs.hosts.LiteralChars.{all-weaken}
-use Rattle.iri_percent.proofs.ClassLaws.{pct-query, pct-fragment}
+use Rattle.iri_percent.proofs.forms.Classes.{pct-query, pct-fragment}
 use Rattle.iri_normal.proofs.AuthorityForm.{authority_in-fits, authority_in-stable}
 use Rattle.iri_normal.proofs.PathLaws.{path-over, path-rules, path-stable}
 use Rattle.iri_normal.proofs.SchemeForm.{dropped-still, lowered-twice, normal-empty, normal-is, there-fits, there-one}

@@ -7,8 +7,8 @@ use Rattle.iri_normal.proofs.Common.{Reading, done, plain, char, lone, read, as_
 use mathlib.Core.Bool.{and_assoc}
 use Rattle.std.proofs.lemmas.Bool.{ltb-false}
 use Rattle.iri_percent.specs.NormalHost.{lowered_host}
-use Rattle.iri_percent.proofs.UnitLaws.{hex_apart}
-use Rattle.iri_percent.proofs.Stability.{IsCase, upper_spells, written_percent, normal-stable}
+use Rattle.iri_percent.proofs.units.AtStart.{hex_apart}
+use Rattle.iri_percent.proofs.forms.Stability.{IsCase, upper_spells, written_percent, normal-stable}
 
 abbrev is_ascii : ℕ → Bool
 is_ascii x = nat_lt x 128

@@ -14,7 +14,7 @@ use Rattle.iri_normal.proofs.Common.{normal_parts, normal_path, preserved_path, 
 use Rattle.iri_normal.proofs.Common.{userinfo-whole, host-whole, path-whole, query-whole, fragment-whole}
 use Rattle.iri_grammar.specs.Authority.{FitsAuthority, userinfo_text}
 use Rattle.iri_grammar.proofs.authorities.AuthorityLaws.{authority_recomposed}
-use Rattle.iri_percent.proofs.UnitLaws.{length-spelled}
+use Rattle.iri_percent.proofs.units.AtStart.{length-spelled}
 use Rattle.iri_normal.specs.Target.{target_query, merged, or_base}
 use Rattle.iri_normal.specs.NormalForm.{parts_with, plain_path}
 use Rattle.iri_normal.proofs.CanonLaws.{canonical_in-text}
@@ -23,7 +23,7 @@ use Rattle.iri_normal.proofs.OutputLaws.{closed_text, text_after, text_from, dot
 use Rattle.iri_normal.proofs.StableLaws.{slashed, unsplit, unsplit-pieces}
 use Rattle.iri_normal.proofs.TargetLaws.{target-fits, slash_in_path}
 use Rattle.iri_normal.proofs.PathLaws.{dots-over}
-use Rattle.iri_percent.proofs.MapKinds.{authority-reads as reads}
+use Rattle.iri_percent.proofs.mapping.Productions.{authority-reads as reads}
 
 -- ---- triplets
 length-read : (s : Tests) (f : ℕ → ℕ) (t : List ℕ) → Reading t → length (normal s f t) ≤ length t

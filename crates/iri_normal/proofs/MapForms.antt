@@ -13,15 +13,15 @@ use Rattle.iri_normal.proofs.Common.{slash_or, target, target_under, target_path
 use Rattle.iri_grammar.specs.Authority.{AuthorityParts, FitsAuthority, authority_parts, recompose_authority, is_authority}
 use Rattle.iri_grammar.specs.Classes.{uri_tests, userinfo_char, query_char, fragment_char}
 use Rattle.iri_grammar.proofs.hosts.LiteralChars.{is_literal_char, ip_literal-chars}
-use Rattle.iri_percent.proofs.ClassLaws.{escape, text-from_over}
+use Rattle.iri_percent.proofs.forms.Classes.{escape, text-from_over}
 use Rattle.iri_percent.specs.Mapping.{mapped, mapped_parts}
-use Rattle.iri_percent.proofs.MapDelimiters.{mapped-empty, mapped-slash}
-use Rattle.iri_percent.proofs.MapTexts.{mapped-low, mapped-append, mapped-triplet, mapped-spells, encode-high}
-use Rattle.iri_percent.proofs.MapKinds.{mapped_authority, mapped-recomposed_authority, mapped-recomposed, mapped-authority, authority-reads}
-use Rattle.iri_percent.proofs.MapKinds.{each-low, scheme_low, literal_low, mapped-scheme, mapped-port, mapped-split}
-use Rattle.iri_percent.proofs.Stability.{encode_percent}
-use Rattle.iri_percent.proofs.WholeLaws.{userinfo_percent, query_percent, fragment_percent}
-use Rattle.iri_percent.proofs.MapForms.{mapped-normal, mapped-normal_text}
+use Rattle.iri_percent.proofs.mapping.Delimiters.{mapped-empty, mapped-slash}
+use Rattle.iri_percent.proofs.mapping.Texts.{mapped-low, mapped-append, mapped-triplet, mapped-spells, encode-high}
+use Rattle.iri_percent.proofs.mapping.Productions.{mapped_authority, mapped-recomposed_authority, mapped-recomposed, mapped-authority, authority-reads}
+use Rattle.iri_percent.proofs.mapping.Productions.{each-low, scheme_low, literal_low, mapped-scheme, mapped-port, mapped-split}
+use Rattle.iri_percent.proofs.forms.Stability.{encode_percent}
+use Rattle.iri_percent.proofs.units.OfParts.{userinfo_percent, query_percent, fragment_percent}
+use Rattle.iri_percent.proofs.mapping.NormalForms.{mapped-normal, mapped-normal_text}
 use Rattle.iri_normal.proofs.HostLaws.{ascii-plains, ascii-spelled, ascii-triplet}
 use Rattle.iri_normal.proofs.CanonLaws.{canonical_in-text}
 use Rattle.iri_normal.proofs.SchemeForm.{normal-is, there-both}

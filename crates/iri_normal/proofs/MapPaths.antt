@@ -5,8 +5,8 @@ use Rattle.iri_normal.proofs.Common.{starts_with_slashes, pieces, onto, after_do
 use Rattle.iri_normal.proofs.Common.{is_two_dots, dots, guard, where_there, to_last_slash}
 use Rattle.std.specs.Prelude.{◌/◌, ◌%◌}
 use Rattle.iri_percent.specs.Mapping.{capital_hex, triplet, mapped}
-use Rattle.iri_percent.proofs.MapTexts.{mapped-low, mapped-high, mapped-append}
-use Rattle.iri_percent.proofs.MapDelimiters.{slash-apart, slash_hex, high_apart, mapped-lacks, mapped-slashes}
+use Rattle.iri_percent.proofs.mapping.Texts.{mapped-low, mapped-high, mapped-append}
+use Rattle.iri_percent.proofs.mapping.Delimiters.{slash-apart, slash_hex, high_apart, mapped-lacks, mapped-slashes}
 use Rattle.iri_normal.proofs.OutputLaws.{KeepsSegments, dots-map}
 use Rattle.iri_normal.proofs.PieceLaws.{pieces-some, dot_kinds}
 

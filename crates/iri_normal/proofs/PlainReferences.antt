@@ -19,8 +19,8 @@ use Rattle.iri_grammar.proofs.splits.SplitUnique.{scheme_char-below}
 use Rattle.iri_grammar.proofs.authorities.AuthorityTexts.{all_below}
 use Rattle.iri_grammar.proofs.hosts.LiteralChars.{all-join}
 use Rattle.iri_percent.specs.Units.{IsOutsideTriplets}
-use Rattle.iri_percent.proofs.PlainTexts.{pct-prefix, pct-same, pct-delimited, plain-ascii, plain-lacks, plain_authority, small-lowered}
-use Rattle.iri_percent.proofs.WholeLaws.{lacks-whole, whole-append}
+use Rattle.iri_percent.proofs.forms.PlainTexts.{pct-prefix, pct-same, pct-delimited, plain-ascii, plain-lacks, plain_authority, small-lowered}
+use Rattle.iri_percent.proofs.units.OfParts.{lacks-whole, whole-append}
 use Rattle.iri_normal.specs.inside.Unchanged.{EndsCanonical, EndsParts, PutsPath, IsLowered, KeepsPrefix, LacksTriplets, StandBefore, is_plain_prefix}
 use Rattle.iri_normal.specs.inside.Unchanged.{lacks_triplets_and_dots}
 use Rattle.iri_normal.proofs.PieceLaws.{nothing-is_no_dot}

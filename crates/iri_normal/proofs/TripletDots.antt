@@ -11,11 +11,11 @@ use Rattle.std.proofs.lemmas.List.{map-id}
 use lib.Utf8.{scalar}
 use Rattle.iri_grammar.proofs.units.LackedBytes.{lacks-encodes}
 use Rattle.iri_percent.specs.Units.{octets, first_char}
-use Rattle.iri_percent.proofs.UnitLaws.{encode_bytes, octets_triplet, char_first}
-use Rattle.iri_percent.proofs.Reading.{whole_triplet, percent_follows}
-use Rattle.iri_percent.proofs.Stability.{unreserved_percent}
+use Rattle.iri_percent.proofs.units.AtStart.{encode_bytes, octets_triplet, char_first}
+use Rattle.iri_percent.proofs.units.WholeTriplets.{whole_triplet, percent_follows}
+use Rattle.iri_percent.proofs.forms.Stability.{unreserved_percent}
 use Rattle.iri_normal.proofs.PieceLaws.{dot_kinds}
-use Rattle.iri_percent.proofs.MapForms.{value_small as small}
+use Rattle.iri_percent.proofs.mapping.NormalForms.{value_small as small}
 use Rattle.iri_normal.proofs.DotLemmas.{one_dot as after_dot-point}
 use Rattle.iri_normal.proofs.MapPaths.{after_dot-plain}
 

@@ -1,30 +1,7 @@
 mod Common
-pub mod Characters
-pub mod Changes
-pub mod Hosts
-pub mod PlainTexts
-pub mod DecodingLemmas
-pub mod HexTable
-mod Strays
-pub mod EncodedRuns
-pub mod Spelled
-pub mod CharUnits
-pub mod CharForms
-pub mod EncodedDecoding
-pub mod MapForms
-pub mod MappedRuns
-pub mod Authorities
-pub mod CaseLaws
-pub mod CharLaws
-pub mod ClassLaws
-pub mod MapKinds
-pub mod MapDelimiters
-pub mod MapTexts
-pub mod DelimiterLaws
-pub mod NormalLaws
-pub mod Reading
-pub mod SeamLaws
-pub mod Stability
-pub mod UnitLaws
-pub mod UnitTexts
-pub mod WholeLaws
+pub mod units
+pub mod forms
+pub mod hosts
+pub mod characters
+pub mod coding
+pub mod mapping

@@ -65,7 +65,7 @@ fn is_low(digits: &[u8]) -> bool
 }
 
 // Whether the first byte is ASCII, and so is the octet where it begins a percent-encoded one.
-#[tactic(auto, using(crate::proofs::Hosts::percent_digits))]
+#[tactic(auto, using(crate::proofs::hosts::AsciiHosts::percent_digits))]
 fn is_ascii_prefix(first: u8, tail: &[u8]) -> bool
     requires { whole_triplets (first ∷ tail.now) ≡ true }
     ensures { result ≡ (nat_lt first 128 && cond (first == percent_sign) (octet_below_128 tail.now) true) }

@@ -35,7 +35,7 @@ static CAPITALS: [u8; 256] = *b"\
     ................................";
 
 // The capital form of a hex digit, by a table: an unpredictable branch costs more.
-#[tactic(auto, using(crate::proofs::HexTable::capital_here))]
+#[tactic(auto, using(crate::proofs::characters::HexDigits::capital_here))]
 #[inline(always)]
 pub(crate) fn capital(digit: u8) -> u8
     requires { is_ascii_hexdigit digit ≡ true }
@@ -44,7 +44,7 @@ pub(crate) fn capital(digit: u8) -> u8
     CAPITALS[usize::from(digit)]
 }
 
-#[tactic(auto, using(crate::proofs::HexTable::value_here))]
+#[tactic(auto, using(crate::proofs::characters::HexDigits::value_here))]
 #[inline(always)]
 fn value_of_digit(digit: u8) -> u8
     requires { is_ascii_hexdigit digit ≡ true }

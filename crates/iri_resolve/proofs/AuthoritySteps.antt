@@ -11,14 +11,14 @@ use Rattle.std.proofs.lemmas.Bool.{not-false}
 use Rattle.iri_grammar.specs.Classes.{Tests, IsSpec, unreserved, userinfo_char, reg_name_char, is_ascii_unreserved}
 use Rattle.iri_grammar.specs.Host.{is_reg_name}
 use Rattle.iri_grammar.specs.IpLiteral.{is_ip_literal}
-use Rattle.iri_percent.proofs.Stability.{lower-case}
-use Rattle.iri_percent.proofs.WholeLaws.{literal-lacks, reg_name_percent}
+use Rattle.iri_percent.proofs.forms.Stability.{lower-case}
+use Rattle.iri_percent.proofs.units.OfParts.{literal-lacks, reg_name_percent}
 use Rattle.iri_normal.proofs.HostLaws.{ascii-read}
 use Rattle.iri_normal.proofs.LiteralLaws.{literal-lower}
 use Rattle.iri_normal.specs.LowerCase.{lowered}
 use Rattle.iri_resolve.proofs.ByteLaws.{ByteChange, small_host_letter, IsAsGood, byte_change-over, capital_low}
 use Rattle.iri_resolve.proofs.ChangeKeeps.{TripletChange}
-use Rattle.iri_percent.proofs.ClassLaws.{in_reg_name, upper_unreserved}
+use Rattle.iri_percent.proofs.forms.Classes.{in_reg_name, upper_unreserved}
 
 -- ---- what changes of an authority keep
 pub record AuthorityChange (s : Tests) (a b : List ℕ) : Type 0 where

@@ -10,11 +10,11 @@ use lib.Utf8.{scalar}
 use Rattle.std.proofs.lemmas.Str.Ascii.{uppercase-uppercase}
 use Rattle.iri_grammar.specs.Classes.{is_ascii_unreserved}
 use Rattle.iri_percent.specs.Units.{octet, first_char, two_digits}
-use Rattle.iri_percent.proofs.ClassLaws.{IsText, ended, letter, over-from_text}
-use Rattle.iri_percent.proofs.UnitLaws.{hex_apart, octets_triplet, octets_spelled}
-use Rattle.iri_percent.proofs.NormalLaws.{normal_plains, normal_lone, normal_char}
-use Rattle.iri_percent.proofs.Reading.{Reading, done, plain, char, lone}
-use Rattle.iri_percent.proofs.Stability.{as_it_is-case, upper_hex, upper_octet, encode_percent, unreserved_percent, decoded_octets}
+use Rattle.iri_percent.proofs.forms.Classes.{IsText, ended, letter, over-from_text}
+use Rattle.iri_percent.proofs.units.AtStart.{hex_apart, octets_triplet, octets_spelled}
+use Rattle.iri_percent.proofs.forms.ByUnits.{normal_plains, normal_lone, normal_char}
+use Rattle.iri_percent.proofs.units.WholeTriplets.{Reading, done, plain, char, lone}
+use Rattle.iri_percent.proofs.forms.Stability.{as_it_is-case, upper_hex, upper_octet, encode_percent, unreserved_percent, decoded_octets}
 use Rattle.iri_grammar.proofs.units.UnitRuns.{text_over-append}
 use Rattle.iri_resolve.proofs.ByteLaws.{capital_digit, IsAsGood, byte_change-over, text_over-after, digit_low}
 use Rattle.iri_normal.proofs.TripletDots.{map_same}
@@ -52,7 +52,7 @@ capitals-octets t (lone a b xs p q n r) =
 capitals-octets t (char c sp xs h sps r) =
     ap octets (capitals-spelled sp (encode_utf8 c) xs sps)
     ∙ octets_spelled (map to_ascii_uppercase sp) (encode_utf8 c) (capitals 0 xs)
-    (Rattle.iri_percent.proofs.Stability.upper_spells sp (encode_utf8 c) sps)
+    (Rattle.iri_percent.proofs.forms.Stability.upper_spells sp (encode_utf8 c) sps)
     ∙ ap (λ os. encode_utf8 c ++ os) (capitals-octets xs r)
     ∙ sym (octets_spelled sp (encode_utf8 c) xs sps)
 
@@ -77,7 +77,7 @@ capitals-read s f t (lone a b xs p q n r) =
 capitals-read s f t (char c sp xs h sps r) =
     ap (normal s f) (capitals-spelled sp (encode_utf8 c) xs sps)
     ∙ normal_char s f c (map to_ascii_uppercase sp) (capitals 0 xs) h
-    (Rattle.iri_percent.proofs.Stability.upper_spells sp (encode_utf8 c) sps)
+    (Rattle.iri_percent.proofs.forms.Stability.upper_spells sp (encode_utf8 c) sps)
     ∙ ap (λ z. cond (unreserved s c) (map f (encode_utf8 c)) (map to_ascii_uppercase (map to_ascii_uppercase sp)) ++ z)
     (capitals-read s f xs r)
     ∙ ap (λ z. cond (unreserved s c) (map f (encode_utf8 c)) z ++ normal s f xs) (upper-map sp)

@@ -12,11 +12,11 @@ use Rattle.iri_resolve.proofs.Common.{SchemeLetter, HostLetter, HexDigit, Decode
 use Rattle.std.proofs.Common.{◌≢◌, length-take-le}
 use Rattle.std.proofs.lemmas.List.{append_cancel_left, append_cancel_right}
 use Rattle.iri_grammar.specs.Cut.{delimited}
-use Rattle.iri_percent.proofs.Reading.{Reading, done, plain, char, lone, whole_triplet, whole_after}
-use Rattle.iri_percent.proofs.SeamLaws.{lone-seam}
-use Rattle.iri_percent.proofs.UnitLaws.{units_plain, units_lone, units_char}
-use Rattle.iri_percent.proofs.UnitTexts.{units-text}
-use Rattle.iri_percent.proofs.CharUnits.{char_placed}
+use Rattle.iri_percent.proofs.units.WholeTriplets.{Reading, done, plain, char, lone, whole_triplet, whole_after}
+use Rattle.iri_percent.proofs.forms.Seams.{lone-seam}
+use Rattle.iri_percent.proofs.units.AtStart.{units_plain, units_lone, units_char}
+use Rattle.iri_percent.proofs.units.Joined.{units-text}
+use Rattle.iri_percent.proofs.units.ByCharacters.{char_placed}
 use Rattle.iri_percent.specs.Units.{Plain, Char, Lone, units}
 use Rattle.iri_resolve.proofs.ByteLaws.{ByteChange, small_letter, small_host_letter, capital_digit}
 use Rattle.iri_resolve.proofs.ChangeLaws.{decoding, some_triplets, spelled-leads}

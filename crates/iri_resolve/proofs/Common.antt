@@ -26,16 +26,16 @@ pub use Rattle.iri_normal.specs.DotRemoval.{dots, is_two_dots}
 pub use Rattle.iri_normal.specs.Guard.{guard}
 unfoldable pub use Rattle.iri_normal.specs.NormalForm.{form, normal_path, normal_form}
 pub use Rattle.iri_normal.specs.Resolver.{bytes_of}
-pub use Rattle.iri_percent.proofs.Authorities.{part_whole}
-pub use Rattle.iri_percent.proofs.CaseLaws.{is_decoded}
-pub use Rattle.iri_percent.proofs.ClassLaws.{in_userinfo, other_same, in_path, in_query, in_fragment}
-pub use Rattle.iri_percent.proofs.MapKinds.{authority-reads as reads}
-pub use Rattle.iri_percent.proofs.NormalLaws.{normal_plain, normal_decoded, normal_nil}
-pub use Rattle.iri_percent.proofs.Reading.{read, whole_plain}
-pub use Rattle.iri_percent.proofs.SeamLaws.{leads, normal-seam, whole-percent}
-pub use Rattle.iri_percent.proofs.UnitLaws.{octets_other, encode_bytes, Spells, none, more, spelled, length-spelled}
-pub use Rattle.iri_percent.proofs.WholeLaws.{userinfo-whole, host-whole, userinfo_percent, lacks-whole, path-whole, query-whole}
-pub use Rattle.iri_percent.proofs.WholeLaws.{fragment-whole, path_percent, query_percent, fragment_percent}
+pub use Rattle.iri_percent.proofs.hosts.Authorities.{part_whole}
+pub use Rattle.iri_percent.proofs.forms.Cases.{is_decoded}
+pub use Rattle.iri_percent.proofs.forms.Classes.{in_userinfo, other_same, in_path, in_query, in_fragment}
+pub use Rattle.iri_percent.proofs.mapping.Productions.{authority-reads as reads}
+pub use Rattle.iri_percent.proofs.forms.ByUnits.{normal_plain, normal_decoded, normal_nil}
+pub use Rattle.iri_percent.proofs.units.WholeTriplets.{read, whole_plain}
+pub use Rattle.iri_percent.proofs.forms.Seams.{leads, normal-seam, whole-percent}
+pub use Rattle.iri_percent.proofs.units.AtStart.{octets_other, encode_bytes, Spells, none, more, spelled, length-spelled}
+pub use Rattle.iri_percent.proofs.units.OfParts.{userinfo-whole, host-whole, userinfo_percent, lacks-whole, path-whole, query-whole}
+pub use Rattle.iri_percent.proofs.units.OfParts.{fragment-whole, path_percent, query_percent, fragment_percent}
 pub use Rattle.iri_percent.specs.NormalHost.{is_ascii_host, normal_authority_parts, is_dropped, normal_port, normal_userinfo}
 unfoldable pub use Rattle.iri_percent.specs.NormalHost.{normal_host, normal_authority}
 pub use Rattle.iri_percent.specs.Triplets.{decoded}

@@ -12,13 +12,13 @@ use Rattle.iri_text.specs.declared.shown.show.Stop.{Stop}
 use Rattle.std.proofs.Math.Seq.{get_or-append_seam, set-append_seam, take-append_seam}
 use Rattle.std.proofs.lemmas.Str.{encode_ascii}
 use Rattle.std.proofs.lemmas.List.{length-map}
-use Rattle.iri_percent.proofs.NormalLaws.{normal_kept}
+use Rattle.iri_percent.proofs.forms.ByUnits.{normal_kept}
 use Rattle.iri_percent.specs.inside.Pieces.{case_of}
-use Rattle.iri_percent.proofs.CaseLaws.{encode_case}
-use Rattle.iri_percent.proofs.Changes.{case_is, decodes}
-use Rattle.iri_percent.proofs.Reading.{whole_triplet, percent_follows}
-use Rattle.iri_percent.proofs.Stability.{upper_hex, encode_percent, unreserved_percent}
-use Rattle.iri_percent.proofs.WholeLaws.{whole-append}
+use Rattle.iri_percent.proofs.forms.Cases.{encode_case}
+use Rattle.iri_percent.proofs.forms.Changes.{case_is, decodes}
+use Rattle.iri_percent.proofs.units.WholeTriplets.{whole_triplet, percent_follows}
+use Rattle.iri_percent.proofs.forms.Stability.{upper_hex, encode_percent, unreserved_percent}
+use Rattle.iri_percent.proofs.units.OfParts.{whole-append}
 use Rattle.iri_resolve.specs.NormalSteps.{Prefix, byte_prefix, digit_steps, prefix_of, triplet_prefix}
 use Rattle.iri_resolve.proofs.ChangeKeeps.{capital-keeps, decoding-keeps}
 use Rattle.iri_resolve.proofs.Going.{Going, all_gone, going_on, gone_wrong}

@@ -10,7 +10,7 @@ use Rattle.iri_grammar.specs.Cut.{before, after}
 use Rattle.iri_grammar.specs.Pieces.{pieces, onto}
 use Rattle.iri_grammar.specs.inside.PiecesLaws.{more_pieces}
 use Rattle.iri_grammar.proofs.hosts.PiecesLaws.{pieces_cut}
-use Rattle.iri_percent.proofs.DelimiterLaws.{pct_delimiter, slash}
+use Rattle.iri_percent.proofs.units.AtDelimiters.{pct_delimiter, slash}
 use Rattle.iri_normal.specs.DotRemoval.{is_all, is_one_dot}
 use Rattle.iri_normal.specs.Dots.{any_dot_segment, has_dot_segment, is_dot_segment}
 use Rattle.iri_resolve.specs.inside.GuardAlone.{is_after_slash, is_guard_alone}

@@ -4,7 +4,7 @@ use Rattle.iri_resolve.proofs.Common.{ap, arith, drop, is_ascii_hexdigit, to_asc
 use Rattle.iri_resolve.proofs.Common.{set-append_seam, nat_tests, Tests, Parts, octets, whole_triplets, decoded, CanonMode, is_small_digit}
 use Rattle.iri_resolve.proofs.Common.{with_capital_digit, with_character, with_decoded, step_in, onward, replayed_in, Step}
 use Rattle.std.proofs.Math.Seq.{take-append_seam, drop-append_seam, drop-append-add}
-use Rattle.iri_percent.proofs.SeamLaws.{whole-after}
+use Rattle.iri_percent.proofs.forms.Seams.{whole-after}
 
 -- ---- steps one after the other
 pub replayed_in-append : (s : Tests) (c : CanonMode) (t u : Parts) (l m : List Step) → replayed_in s c t l ≡ Some u

@@ -13,7 +13,7 @@ use Rattle.iri_grammar.proofs.splits.SplitUnique.{one_split}
 use Rattle.iri_percent.specs.NormalHost.{normal_authority_in, normal_authority_parts_in, normal_port_in}
 use Rattle.iri_percent.specs.SchemeRules.{default_port, is_either}
 use Rattle.iri_percent.specs.declared.canon_mode.CanonMode.TheVariants.{Default, Scheme}
-use Rattle.iri_percent.proofs.Authorities.{authority_in}
+use Rattle.iri_percent.proofs.hosts.Authorities.{authority_in}
 use Rattle.iri_normal.specs.LowerCase.{where_there}
 use Rattle.iri_normal.specs.NormalForm.{becomes_slash, normal_form, normal_form_in, normal_parts, normal_path, slash_or}
 use Rattle.iri_resolve.specs.Steps.{Joined, JoinedIn}

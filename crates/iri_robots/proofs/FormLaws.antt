@@ -3,8 +3,8 @@ use Rattle.iri_robots.proofs.Common.{◌≡◌, ℕ, List, ◌∷◌, ◌++◌, 
 use Rattle.iri_grammar.specs.Classes.{uri_tests}
 use Rattle.iri_percent.specs.Mapping.{mapped}
 use Rattle.iri_percent.specs.Triplets.{normal, as_it_is}
-use Rattle.iri_percent.proofs.MapTexts.{mapped-append, mapped-low}
-use Rattle.iri_percent.proofs.DelimiterLaws.{normal_delimiter}
+use Rattle.iri_percent.proofs.mapping.Texts.{mapped-append, mapped-low}
+use Rattle.iri_percent.proofs.units.AtDelimiters.{normal_delimiter}
 
 pub compared_delimiter : (p q : List ℕ) → compared (p ++ 63 ∷ q) ≡ compared p ++ 63 ∷ compared q
 unfolding compared

@@ -16,15 +16,15 @@ use Rattle.iri_percent.specs.Triplets.{normal, as_it_is}
 use Rattle.iri_percent.specs.ByteForm.{written}
 use Rattle.iri_percent.specs.Mapping.{capital_hex, triplet, mapped}
 use Rattle.iri_percent.specs.Triplets.{decoded}
-use Rattle.iri_percent.proofs.Changes.{upper_digit}
-use Rattle.iri_percent.proofs.CharLaws.{normal-by_bytes}
-use Rattle.iri_percent.proofs.Characters.{unreserved_low}
-use Rattle.iri_percent.proofs.CharUnits.{no_two, units_stray}
-use Rattle.iri_percent.proofs.MapForms.{ascii-decoded, uri-decoded}
-use Rattle.iri_percent.proofs.MapTexts.{mapped-low, mapped-high, mapped-triplet, capital_is_hex, first_digit, second_digit, octet_of}
-use Rattle.iri_percent.proofs.NormalLaws.{normal_nil, normal_plain, normal_decoded, normal_kept}
-use Rattle.iri_percent.proofs.Spelled.{hex_below}
-use Rattle.iri_percent.proofs.UnitLaws.{Spells, none, more, octets_triplet}
+use Rattle.iri_percent.proofs.forms.Changes.{upper_digit}
+use Rattle.iri_percent.proofs.units.ByBytes.{normal-by_bytes}
+use Rattle.iri_percent.proofs.characters.Spellings.{unreserved_low}
+use Rattle.iri_percent.proofs.units.ByCharacters.{no_two, units_stray}
+use Rattle.iri_percent.proofs.mapping.NormalForms.{ascii-decoded, uri-decoded}
+use Rattle.iri_percent.proofs.mapping.Texts.{mapped-low, mapped-high, mapped-triplet, capital_is_hex, first_digit, second_digit, octet_of}
+use Rattle.iri_percent.proofs.forms.ByUnits.{normal_nil, normal_plain, normal_decoded, normal_kept}
+use Rattle.iri_percent.proofs.coding.SpelledTriplets.{hex_below}
+use Rattle.iri_percent.proofs.units.AtStart.{Spells, none, more, octets_triplet}
 use Rattle.iri_robots.proofs.FormLaws.{compared_delimiter}
 use Rattle.iri_robots.specs.declared.compared.Written.TheVariants.{Run, Char, Triplet}
 

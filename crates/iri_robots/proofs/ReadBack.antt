@@ -14,8 +14,8 @@ use Rattle.iri_grammar.proofs.splits.CutLaws.{lacks-append, lacks-other}
 use Rattle.iri_grammar.proofs.hosts.Ipv6Laws.{pieces_before}
 use Rattle.iri_percent.specs.Mapping.{capital_hex}
 use Rattle.iri_percent.specs.Units.{octet, two_digits}
-use Rattle.iri_percent.proofs.MapForms.{unreserved_ascii}
-use Rattle.iri_percent.proofs.CharUnits.{no_two}
+use Rattle.iri_percent.proofs.mapping.NormalForms.{unreserved_ascii}
+use Rattle.iri_percent.proofs.units.ByCharacters.{no_two}
 use Rattle.iri_robots.specs.Compared.{compared}
 use Rattle.iri_robots.specs.FileLines.{FileLine, AgentLine, RuleLine, OtherLine, keyed, parted, line_of, line_of_text, trimmed, all_blank}
 use Rattle.iri_grammar.specs.Blanks.{is_blank}

@@ -16,10 +16,10 @@ use Rattle.std.proofs.lemmas.Str.{encodes-chars, encode_ascii, chars-IsAscii}
 use Rattle.iri_grammar.specs.Classes.{IsSpec}
 use Rattle.iri_percent.specs.Units.{Char, Stray, is_triplet, octet, octets, well_formed, first_char, triplet_unit, byte_unit, unit_text}
 use Rattle.iri_percent.specs.Units.{units_from, Lone, IsOutsideTriplets}
-use Rattle.iri_percent.proofs.UnitTexts.{unit_prefix}
-use Rattle.iri_percent.proofs.UnitLaws.{first_char_is, char_first, octets_other, byte_other, units_from_drop}
-use Rattle.iri_percent.proofs.DelimiterLaws.{char_within, unit_within, units_delimiter, triplet_more}
-use Rattle.iri_percent.proofs.Characters.{first_of_four}
+use Rattle.iri_percent.proofs.units.Joined.{unit_prefix}
+use Rattle.iri_percent.proofs.units.AtStart.{first_char_is, char_first, octets_other, byte_other, units_from_drop}
+use Rattle.iri_percent.proofs.units.AtDelimiters.{char_within, unit_within, units_delimiter, triplet_more}
+use Rattle.iri_percent.proofs.characters.Spellings.{first_of_four}
 use Rattle.iri_text.specs.inside.Through.{after}
 use Rattle.iri_template.specs.inside.UnitSteps.{is_settled}
 use Rattle.std.specs.Str.{IsAscii}

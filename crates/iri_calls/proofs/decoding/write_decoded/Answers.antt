@@ -1,7 +1,7 @@
 use Rattle.iri_calls.proofs.Common.{◌+◌, length, ap, sym, subst, ◌∙◌, arith, length-append, flat_map}
 use Rattle.iri_percent.specs.Decoding.{fragments, fragment_bytes}
 use Rattle.iri_percent.specs.FragmentViews.{fragment, fragments_left}
-use Rattle.iri_percent.proofs.DecodingLemmas.{decoding-shorter}
+use Rattle.iri_percent.proofs.coding.Fragments.{decoding-shorter}
 use Rattle.iri_calls.proofs.DecodingLemmas.{Writing, writing_begun, writing_next, writing_end}
 use Rattle.iri_calls.proofs.decoding.write_decoded.Goals as goal
 

@@ -1,4 +1,4 @@
-use Rattle.iri_percent.proofs.DecodingLemmas.{decoding-shorter}
+use Rattle.iri_percent.proofs.coding.Fragments.{decoding-shorter}
 use Rattle.iri_calls.proofs.laws.decoded_bytes_are_few.Goals as goal
 
 pub returns : goal.returns

@@ -1,5 +1,5 @@
 use Rattle.iri_normal.proofs.Common.{is_query, is_fragment, now_of, query-whole, fragment-whole}
-use Rattle.iri_percent.proofs.Authorities.{part_whole}
+use Rattle.iri_percent.proofs.hosts.Authorities.{part_whole}
 use Rattle.iri_normal.proofs.form.show_tail.Goals as goal
 
 pub show_delimited-requires-clause-part : goal.show_delimited-requires-clause-part

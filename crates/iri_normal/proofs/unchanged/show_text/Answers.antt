@@ -1,5 +1,5 @@
 use Rattle.iri_normal.proofs.Common.{subst, sym, Shows}
-use Rattle.iri_percent.proofs.PlainTexts.{pct-same}
+use Rattle.iri_percent.proofs.forms.PlainTexts.{pct-same}
 use Rattle.iri_normal.proofs.unchanged.show_text.Goals as goal
 
 pub returns-then-bare : goal.returns-then-bare

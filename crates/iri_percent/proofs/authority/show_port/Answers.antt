@@ -1,6 +1,6 @@
 use Rattle.iri_percent.proofs.Common.{subst, Shows}
 use Rattle.iri_text.proofs.Compose.{shows_exit, shows_then}
-use Rattle.iri_percent.proofs.Authorities.{port_in}
+use Rattle.iri_percent.proofs.hosts.Authorities.{port_in}
 use Rattle.iri_percent.proofs.authority.show_port.Goals as goal
 
 pub returns-in_err-put : goal.returns-in_err-put

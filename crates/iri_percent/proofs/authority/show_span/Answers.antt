@@ -1,7 +1,7 @@
 use Rattle.iri_percent.proofs.Common.{◌≡◌, true, sym, subst, if_there, is_userinfo, whole_triplets}
 use Rattle.iri_grammar.specs.Spans.{span_parts}
-use Rattle.iri_percent.proofs.Authorities.{part_whole}
-use Rattle.iri_percent.proofs.WholeLaws.{userinfo-whole}
+use Rattle.iri_percent.proofs.hosts.Authorities.{part_whole}
+use Rattle.iri_percent.proofs.units.OfParts.{userinfo-whole}
 use Rattle.iri_percent.proofs.authority.show_span.Goals as goal
 
 pub show_userinfo-requires : goal.show_userinfo-requires

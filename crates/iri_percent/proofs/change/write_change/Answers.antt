@@ -1,5 +1,5 @@
 use Rattle.std.proofs.Common.{sym, ◌∙◌}
-use Rattle.iri_percent.proofs.Changes.{letter_delimiter, triplet_delimiter, writes_letter}
+use Rattle.iri_percent.proofs.forms.Changes.{letter_delimiter, triplet_delimiter, writes_letter}
 use Rattle.iri_percent.proofs.change.write_change.Goals as goal
 
 pub returns-then-is_letter-clause-writes : goal.returns-then-is_letter-clause-writes

@@ -1,5 +1,5 @@
 use Rattle.std.proofs.Common.{◌++◌, take, ap, ◌∙◌, arith}
-use Rattle.iri_percent.proofs.Characters.{encode_two, encode_three, encode_four}
+use Rattle.iri_percent.proofs.characters.Spellings.{encode_two, encode_three, encode_four}
 use Rattle.iri_percent.proofs.change.write_char.Goals as goal
 
 pub returns-then-code-lt2048-clause-text : goal.returns-then-code-lt2048-clause-text

@@ -1,6 +1,6 @@
 use Rattle.iri_percent.proofs.Common.{◌*◌, ◌∷◌, ap, sym, ◌∙◌, arith, len_utf8, octets, decoded, Writes}
-use Rattle.iri_percent.proofs.Changes.{digits, writes_char, writes_octet, at_octet}
-use Rattle.iri_percent.proofs.Characters.{past_ascii}
+use Rattle.iri_percent.proofs.forms.Changes.{digits, writes_char, writes_octet, at_octet}
+use Rattle.iri_percent.proofs.characters.Spellings.{past_ascii}
 use Rattle.iri_percent.proofs.change.write_triplet.Goals.{then-octet-ge192+in_default, else-octet-ge192}
 use Rattle.iri_percent.proofs.change.write_triplet.Goals as goal
 

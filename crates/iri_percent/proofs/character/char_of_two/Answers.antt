@@ -1,5 +1,5 @@
 use Rattle.iri_percent.proofs.Common.{◌+◌, ◌*◌, ◌∷◌, ap, sym, ◌∙◌, octets, first_char, char_from}
-use Rattle.iri_percent.proofs.Characters.{ends_at_one, two_octets}
+use Rattle.iri_percent.proofs.characters.Spellings.{ends_at_one, two_octets}
 use Rattle.iri_percent.proofs.character.char_of_two.Goals as goal
 
 pub returns-in_err-a : goal.returns-in_err-a

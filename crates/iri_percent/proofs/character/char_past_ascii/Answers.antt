@@ -1,5 +1,5 @@
 use Rattle.iri_percent.proofs.Common.{Some, None, cond, ap, sym, ◌∙◌, octets}
-use Rattle.iri_percent.proofs.Characters.{high_decoded}
+use Rattle.iri_percent.proofs.characters.Spellings.{high_decoded}
 use Rattle.iri_percent.proofs.character.char_past_ascii.Goals as goal
 
 pub returns-then-is_nonascii_char_unreserved : goal.returns-then-is_nonascii_char_unreserved

@@ -1,5 +1,5 @@
 use Rattle.iri_percent.proofs.Common.{Some, ap, sym, ◌∙◌, arith, octets}
-use Rattle.iri_percent.proofs.Characters.{none_decoded, ascii_decoded, low_decoded}
+use Rattle.iri_percent.proofs.characters.Spellings.{none_decoded, ascii_decoded, low_decoded}
 use Rattle.iri_percent.proofs.character.decoded_char.Goals as goal
 
 pub returns-in_err-octet : goal.returns-in_err-octet

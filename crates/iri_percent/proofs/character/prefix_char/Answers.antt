@@ -1,5 +1,5 @@
 use Rattle.iri_percent.proofs.Common.{Some, ap, sym, ◌∙◌, arith, octets}
-use Rattle.iri_percent.proofs.Characters.{ascii_first, middle_none}
+use Rattle.iri_percent.proofs.characters.Spellings.{ascii_first, middle_none}
 use Rattle.iri_percent.proofs.character.prefix_char.Goals as goal
 
 pub returns-in-0-to-127 : goal.returns-in-0-to-127

@@ -1,5 +1,5 @@
 use Rattle.iri_percent.proofs.Common.{sym, ◌∙◌, octets}
-use Rattle.iri_percent.proofs.Characters.{empty_none}
+use Rattle.iri_percent.proofs.characters.Spellings.{empty_none}
 use Rattle.iri_percent.proofs.character.triplets_char.Goals as goal
 
 pub returns-in_err-lead : goal.returns-in_err-lead

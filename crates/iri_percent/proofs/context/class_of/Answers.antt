@@ -1,5 +1,5 @@
 use Rattle.iri_percent.proofs.Common.{sym, ap, ◌∙◌, keeps}
-use Rattle.iri_percent.proofs.EncodedRuns.{user_is_reg_name}
+use Rattle.iri_percent.proofs.coding.EncodedRuns.{user_is_reg_name}
 use Rattle.iri_percent.proofs.context.class_of.Goals as goal
 
 pub returns-in-UserOrPassword : goal.returns-in-UserOrPassword

@@ -1,6 +1,6 @@
 use Rattle.iri_percent.proofs.Common.{Some, None, ◌-◌, length, take, drop, sym, ◌∙◌, ap, take_rest, has_triplet, octets}
 use Rattle.iri_grammar.proofs.splits.FirstBytes.{found}
-use Rattle.iri_percent.proofs.DecodingLemmas.{at_percent, no_percent, triplet-found, triplet-passed}
+use Rattle.iri_percent.proofs.coding.Fragments.{at_percent, no_percent, triplet-found, triplet-passed}
 use Rattle.iri_percent.proofs.decode.has_triplet.Goals as goal
 
 pub returns-in-Some-first_octet : goal.returns-in-Some-first_octet

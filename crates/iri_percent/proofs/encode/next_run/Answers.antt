@@ -1,7 +1,7 @@
 use Rattle.iri_percent.proofs.Common.{◌-◌, sym, ap, ◌∙◌, length, refl, arith, class_test}
 use Rattle.iri_grammar.proofs.Ranges.{range_prefix}
 use Rattle.iri_grammar.proofs.units.FirstUnits.{char_shorter}
-use Rattle.iri_percent.proofs.EncodedRuns.{run_from_char, run_boundary, run_prefix, run_within}
+use Rattle.iri_percent.proofs.coding.EncodedRuns.{run_from_char, run_boundary, run_prefix, run_within}
 use Rattle.iri_percent.proofs.encode.next_run.Goals as goal
 
 pub range-requires-clause-end_boundary : goal.range-requires-clause-end_boundary

@@ -1,6 +1,6 @@
 use Rattle.iri_percent.proofs.Common.{true, false, sym, subst, class_test, ascii_test, is_other, IsPastRun}
 use Rattle.iri_grammar.proofs.units.ClassLaws.{class_has_ascii}
-use Rattle.iri_percent.proofs.EncodedRuns.{past_ascii, other_ascii}
+use Rattle.iri_percent.proofs.coding.EncodedRuns.{past_ascii, other_ascii}
 use Rattle.iri_percent.proofs.encode.past_ascii_run.Goals as goal
 
 pub returns-then-stands : goal.returns-then-stands

@@ -1,7 +1,7 @@
 use Rattle.iri_percent.proofs.Common.{sym, ap, ◌∙◌, length, arith, class_test}
 use Rattle.std.specs.Cmp.{booleans_Decides}
 use Rattle.iri_grammar.proofs.units.FirstUnits.{char_shorter}
-use Rattle.iri_percent.proofs.EncodedRuns.{past_none, run_from_char}
+use Rattle.iri_percent.proofs.coding.EncodedRuns.{past_none, run_from_char}
 use Rattle.iri_percent.proofs.encode.past_char.Goals as goal
 
 pub returns-then-has-stands : goal.returns-then-has-stands

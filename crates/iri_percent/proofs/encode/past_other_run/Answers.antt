@@ -1,6 +1,6 @@
 use Rattle.iri_percent.proofs.Common.{sym, ap, ◌∙◌, subst, IsCharBoundary, IsCharBoundary-from_drop, run_of, is_other}
 use Rattle.iri_grammar.proofs.units.FirstUnits.{run_text, run_of_le}
-use Rattle.iri_percent.proofs.EncodedRuns.{other_below}
+use Rattle.iri_percent.proofs.coding.EncodedRuns.{other_below}
 use Rattle.iri_percent.proofs.encode.past_other_run.Goals as goal
 
 pub range_from-requires : goal.range_from-requires

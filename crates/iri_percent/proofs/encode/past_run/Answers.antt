@@ -1,5 +1,5 @@
 use Rattle.iri_grammar.specs.ClassTests.{class_test}
-use Rattle.iri_percent.proofs.EncodedRuns.{past_none, past_more}
+use Rattle.iri_percent.proofs.coding.EncodedRuns.{past_none, past_more}
 use Rattle.iri_percent.proofs.encode.past_run.Goals as goal
 
 pub run-init : goal.run-init

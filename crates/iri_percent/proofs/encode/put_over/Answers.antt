@@ -1,6 +1,6 @@
 use Rattle.iri_percent.proofs.Common.{◌++◌, Ok, sym, ap, ◌∙◌, subst, append-nil, class_test, Shows, shown_more, shown_exit, shows_all}
 use Rattle.iri_percent.proofs.Common.{encoded, run_text}
-use Rattle.iri_percent.proofs.EncodedRuns.{encoded-none, run_shown}
+use Rattle.iri_percent.proofs.coding.EncodedRuns.{encoded-none, run_shown}
 use Rattle.iri_percent.proofs.encode.put_over.Goals as goal
 
 pub returns-in_err-put_run : goal.returns-in_err-put_run

@@ -1,4 +1,4 @@
-use Rattle.iri_percent.proofs.DecodingLemmas.{run-first, from-drop}
+use Rattle.iri_percent.proofs.coding.Fragments.{run-first, from-drop}
 use Rattle.iri_percent.proofs.fragments.split_fragment.Goals as goal
 
 pub returns-clause-first : goal.returns-clause-first

@@ -1,5 +1,5 @@
 use Rattle.iri_percent.proofs.Common.{drop, ap, sym, ◌∙◌, ◌∷◌, take_rest, fragments, Octet, Percent, octets}
-use Rattle.iri_percent.proofs.DecodingLemmas.{octet-first, stray-first}
+use Rattle.iri_percent.proofs.coding.Fragments.{octet-first, stray-first}
 use Rattle.iri_percent.proofs.fragments.split_percent.Goals as goal
 
 pub returns-in-Some-clause-first : goal.returns-in-Some-clause-first

@@ -1,5 +1,5 @@
 use Rattle.iri_percent.proofs.Common.{◌&&◌, ◌-◌, length, take, drop, ap, sym, ◌∙◌, arith, is_ascii_host}
-use Rattle.iri_percent.proofs.Hosts.{step, ascii_nil}
+use Rattle.iri_percent.proofs.hosts.AsciiHosts.{step, ascii_nil}
 use Rattle.iri_percent.proofs.host.is_ascii_host.Goals as goal
 
 pub returns-then-not-is_ascii_prefix : goal.returns-then-not-is_ascii_prefix

@@ -1,5 +1,5 @@
 use Rattle.iri_percent.proofs.Common.{◌≤◌, length, ap, sym, ◌∙◌, arith, list_all, take_rest, is_plain_byte}
-use Rattle.iri_percent.proofs.Hosts.{plain_four}
+use Rattle.iri_percent.proofs.hosts.AsciiHosts.{plain_four}
 use Rattle.iri_percent.proofs.host.past_plain_fours.Goals as goal
 
 pub fours-preserved : goal.fours-preserved

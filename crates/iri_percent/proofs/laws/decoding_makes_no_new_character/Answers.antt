@@ -1,6 +1,6 @@
 use Rattle.iri_percent.specs.Triplets.{as_it_is}
-use Rattle.iri_percent.proofs.Stability.{as_it_is-case, units-normal}
-use Rattle.iri_percent.proofs.CharForms.{units-formed}
+use Rattle.iri_percent.proofs.forms.Stability.{as_it_is-case, units-normal}
+use Rattle.iri_percent.proofs.units.InNormalForm.{units-formed}
 use Rattle.iri_percent.proofs.laws.decoding_makes_no_new_character.Goals as goal
 
 pub returns : goal.returns

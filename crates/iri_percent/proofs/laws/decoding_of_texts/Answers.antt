@@ -1,4 +1,4 @@
-use Rattle.iri_percent.proofs.DecodingLemmas.{fragments-joined, decoding-same, same-decoding}
+use Rattle.iri_percent.proofs.coding.Fragments.{fragments-joined, decoding-same, same-decoding}
 use Rattle.iri_percent.proofs.laws.decoding_of_texts.Goals as goal
 
 pub returns : goal.returns

@@ -1,5 +1,5 @@
 use Rattle.iri_percent.specs.Encoding.{keeps}
-use Rattle.iri_percent.proofs.EncodedDecoding.{keeps_no_percent, decoding-encoded}
+use Rattle.iri_percent.proofs.coding.DecodedAgain.{keeps_no_percent, decoding-encoded}
 use Rattle.iri_percent.proofs.laws.decoding_undoes_encoding.Goals as goal
 
 pub returns : goal.returns

@@ -1,4 +1,4 @@
-use Rattle.iri_percent.proofs.DelimiterLaws.{pct_delimiter}
+use Rattle.iri_percent.proofs.units.AtDelimiters.{pct_delimiter}
 use Rattle.iri_percent.proofs.laws.delimiters_part_triplet_forms.Goals as goal
 
 pub returns : goal.returns

@@ -1,5 +1,5 @@
-use Rattle.iri_percent.proofs.MapKinds.{mapped-reference, mapped-iri, mapped-absolute, mapped-relative, mapped-query, mapped-fragment}
-use Rattle.iri_percent.proofs.MapKinds.{mapped-split}
+use Rattle.iri_percent.proofs.mapping.Productions.{mapped-reference, mapped-iri, mapped-absolute, mapped-relative, mapped-query, mapped-fragment}
+use Rattle.iri_percent.proofs.mapping.Productions.{mapped-split}
 use Rattle.iri_percent.proofs.laws.mapped_texts_are_uris.Goals as goal
 
 pub returns : goal.returns

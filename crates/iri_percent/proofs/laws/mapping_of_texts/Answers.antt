@@ -1,6 +1,6 @@
-use Rattle.iri_percent.proofs.MapTexts.{mapped-append}
-use Rattle.iri_percent.proofs.MapForms.{mapped-in_ascii, mapped-by_chars}
-use Rattle.iri_percent.proofs.MappedRuns.{mapped-of_ascii}
+use Rattle.iri_percent.proofs.mapping.Texts.{mapped-append}
+use Rattle.iri_percent.proofs.mapping.NormalForms.{mapped-in_ascii, mapped-by_chars}
+use Rattle.iri_percent.proofs.mapping.Runs.{mapped-of_ascii}
 use Rattle.iri_percent.proofs.laws.mapping_of_texts.Goals as goal
 
 pub returns : goal.returns

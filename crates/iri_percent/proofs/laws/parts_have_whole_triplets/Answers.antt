@@ -1,4 +1,4 @@
-use Rattle.iri_percent.proofs.WholeLaws.{userinfo-whole, host-whole, path-whole, segment-whole, query-whole, fragment-whole}
+use Rattle.iri_percent.proofs.units.OfParts.{userinfo-whole, host-whole, path-whole, segment-whole, query-whole, fragment-whole}
 use Rattle.iri_percent.proofs.laws.parts_have_whole_triplets.Goals as goal
 
 pub returns-clause-userinfo : goal.returns-clause-userinfo

@@ -1,5 +1,5 @@
 use Rattle.iri_percent.specs.Triplets.{as_it_is}
-use Rattle.iri_percent.proofs.Stability.{as_it_is-case, pct-stable, whole-normal}
+use Rattle.iri_percent.proofs.forms.Stability.{as_it_is-case, pct-stable, whole-normal}
 use Rattle.iri_percent.proofs.laws.triplet_form_is_stable.Goals as goal
 
 pub returns-clause-whole : goal.returns-clause-whole

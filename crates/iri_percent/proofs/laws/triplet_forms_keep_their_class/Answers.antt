@@ -1,4 +1,4 @@
-use Rattle.iri_percent.proofs.ClassLaws.{pct-userinfo, pct-reg_name, pct-path, pct-segment, pct-query, pct-fragment}
+use Rattle.iri_percent.proofs.forms.Classes.{pct-userinfo, pct-reg_name, pct-path, pct-segment, pct-query, pct-fragment}
 use Rattle.iri_percent.proofs.laws.triplet_forms_keep_their_class.Goals as goal
 
 pub returns-clause-userinfo : goal.returns-clause-userinfo

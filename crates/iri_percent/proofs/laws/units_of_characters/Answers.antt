@@ -1,6 +1,6 @@
 use Rattle.iri_percent.specs.Triplets.{as_it_is}
-use Rattle.iri_percent.proofs.CharLaws.{units-by_chars, normal-by_bytes}
-use Rattle.iri_percent.proofs.CharUnits.{units-of_chars, char_units-text}
+use Rattle.iri_percent.proofs.units.ByBytes.{units-by_chars, normal-by_bytes}
+use Rattle.iri_percent.proofs.units.ByCharacters.{units-of_chars, char_units-text}
 use Rattle.iri_percent.proofs.laws.units_of_characters.Goals as goal
 
 pub returns : goal.returns

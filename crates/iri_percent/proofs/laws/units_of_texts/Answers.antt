@@ -1,6 +1,6 @@
 use Rattle.iri_percent.proofs.Common.{◌∙◌, ap, first_char}
-use Rattle.iri_percent.proofs.UnitLaws.{first_char_is, char_first}
-use Rattle.iri_percent.proofs.UnitTexts.{units-text}
+use Rattle.iri_percent.proofs.units.AtStart.{first_char_is, char_first}
+use Rattle.iri_percent.proofs.units.Joined.{units-text}
 use Rattle.iri_percent.proofs.laws.units_of_texts.Goals as goal
 
 pub returns-clause-whole : goal.returns-clause-whole

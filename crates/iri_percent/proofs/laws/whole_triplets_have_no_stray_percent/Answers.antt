@@ -1,4 +1,4 @@
-use Rattle.iri_percent.proofs.Strays.{whole-iff-no-stray, whole-iff-no-stray-char}
+use Rattle.iri_percent.proofs.units.StrayPercents.{whole-iff-no-stray, whole-iff-no-stray-char}
 use Rattle.iri_percent.proofs.laws.whole_triplets_have_no_stray_percent.Goals as goal
 
 pub returns : goal.returns

@@ -1,7 +1,7 @@
 use Rattle.iri_percent.proofs.Common.{true, false, ◌++◌, Ok, length, drop, sym, ap, ◌∙◌, subst, append-nil, arith, eqb-true, IsAscii}
 use Rattle.iri_percent.proofs.Common.{run_of, Shows, shown_more, shown_exit, shows_all, mapped, triplets, goes_on}
 use Rattle.std.proofs.lemmas.Bool.{eqb-false}
-use Rattle.iri_percent.proofs.MappedRuns.{low-ascii, one_run, two_runs, shorter_by, mapped-none}
+use Rattle.iri_percent.proofs.mapping.Runs.{low-ascii, one_run, two_runs, shorter_by, mapped-none}
 use Rattle.iri_percent.proofs.mapped.put_runs.Goals as goal
 
 pub put_ascii-requires : goal.put_ascii-requires

@@ -1,5 +1,5 @@
 use Rattle.iri_percent.proofs.Common.{sym, subst, Shows}
-use Rattle.iri_percent.proofs.MappedRuns.{mapped-of_ascii}
+use Rattle.iri_percent.proofs.mapping.Runs.{mapped-of_ascii}
 use Rattle.iri_percent.proofs.mapped.show_mapped.Goals as goal
 
 pub returns-then-is_ascii : goal.returns-then-is_ascii

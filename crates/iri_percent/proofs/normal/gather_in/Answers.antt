@@ -1,6 +1,6 @@
 use Rattle.iri_percent.proofs.Common.{◌≡◌, ◌+◌, take, get_or, ap, sym, ◌∙◌, subst, arith, IsUtf8, take_rest, stays, Becomes}
 use Rattle.std.proofs.lemmas.Str.{IsUtf8-nil, IsUtf8-append}
-use Rattle.iri_percent.proofs.Changes.{gathers, so_far, joined}
+use Rattle.iri_percent.proofs.forms.Changes.{gathers, so_far, joined}
 use Rattle.iri_percent.proofs.normal.gather_in.Goals as goal
 
 pub changes-init : goal.changes-init

@@ -1,4 +1,4 @@
-use Rattle.iri_percent.proofs.Changes.{first_candidate}
+use Rattle.iri_percent.proofs.forms.Changes.{first_candidate}
 use Rattle.iri_percent.proofs.normal.next_candidate.Goals as goal
 
 pub returns : goal.returns

@@ -1,5 +1,5 @@
 use Rattle.std.proofs.Common.{arith}
-use Rattle.iri_percent.proofs.Changes.{four_more}
+use Rattle.iri_percent.proofs.forms.Changes.{four_more}
 use Rattle.iri_percent.proofs.normal.past_fours.Goals as goal
 
 pub fours-preserved : goal.fours-preserved

@@ -1,5 +1,5 @@
 use Rattle.iri_percent.proofs.Common.{◌++◌, take, subst, sym, ap, ◌∙◌, shown_more, whole_triplets, Becomes}
-use Rattle.iri_percent.proofs.Changes.{boundary, one_change}
+use Rattle.iri_percent.proofs.forms.Changes.{boundary, one_change}
 use Rattle.iri_percent.proofs.normal.show_normal.Goals as goal
 
 pub range_from-rest-requires : goal.range_from-rest-requires

@@ -1,5 +1,5 @@
 use Rattle.std.proofs.Common.{sym, arith}
-use Rattle.iri_percent.proofs.HexTable.{digit_here, none_here}
+use Rattle.iri_percent.proofs.characters.HexDigits.{digit_here, none_here}
 use Rattle.iri_percent.proofs.octets.hex_value.Goals as goal
 
 pub returns-then-value-lt64 : goal.returns-then-value-lt64

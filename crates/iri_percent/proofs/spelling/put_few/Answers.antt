@@ -1,5 +1,5 @@
 use Rattle.iri_percent.proofs.Common.{sym, subst, arith, IsUtf8}
-use Rattle.iri_percent.proofs.Spelled.{triplets-utf8}
+use Rattle.iri_percent.proofs.coding.SpelledTriplets.{triplets-utf8}
 use Rattle.iri_percent.proofs.spelling.put_few.Goals as goal
 
 pub from_utf8_unchecked-requires : goal.from_utf8_unchecked-requires

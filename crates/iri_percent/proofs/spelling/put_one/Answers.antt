@@ -1,5 +1,5 @@
 use Rattle.iri_percent.proofs.Common.{ℕ, zero, suc, ◌<◌, ◌/◌, [], ◌∷◌, get_or, sym, ap, ◌∙◌, subst, arith, IsUtf8, capital_hex}
-use Rattle.iri_percent.proofs.Spelled.{triplets-utf8}
+use Rattle.iri_percent.proofs.coding.SpelledTriplets.{triplets-utf8}
 use Rattle.iri_percent.proofs.spelling.put_one.Goals as goal
 
 one_small : (o : ℕ) → o < 256 → (i : ℕ) → get_or (o ∷ []) i 0 < 256

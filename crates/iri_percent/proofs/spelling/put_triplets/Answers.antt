@@ -1,6 +1,6 @@
 use Rattle.iri_percent.proofs.Common.{◌++◌, sym, ◌∙◌, subst, Shows, shown_more, shown_exit, triplets}
 use Rattle.iri_text.proofs.Compose.{shown_then}
-use Rattle.iri_percent.proofs.Spelled.{triplets_split}
+use Rattle.iri_percent.proofs.coding.SpelledTriplets.{triplets_split}
 use Rattle.iri_percent.proofs.spelling.put_triplets.Goals as goal
 
 pub returns-in_err-put_few : goal.returns-in_err-put_few

@@ -1,5 +1,5 @@
 use Rattle.std.proofs.Common.{◌+◌, ◌∙◌, refl, arith, length-set}
-use Rattle.iri_percent.proofs.Spelled.{one_spelled}
+use Rattle.iri_percent.proofs.coding.SpelledTriplets.{one_spelled}
 use Rattle.iri_percent.proofs.spelling.spell.Goals as goal
 
 pub loop-octet-preserved : goal.loop-octet-preserved

@@ -1,5 +1,5 @@
 use Rattle.std.proofs.Common.{arith}
-use Rattle.iri_percent.proofs.Changes.{triplet_room}
+use Rattle.iri_percent.proofs.forms.Changes.{triplet_room}
 use Rattle.iri_resolve.proofs.component_steps.push_prefix.Goals as goal
 
 pub bounds-text-1 : goal.bounds-text-1

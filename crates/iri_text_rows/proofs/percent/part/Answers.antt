@@ -1,7 +1,7 @@
 use Rattle.iri_grammar.specs.Components.{is_query}
 use Rattle.iri_grammar.proofs.faults.FaultLaws.{passed}
 use Rattle.iri_grammar.specs.declared.error.ErrorKind.TheVariants.{InvalidQuery}
-use Rattle.iri_percent.proofs.WholeLaws.{query-whole}
+use Rattle.iri_percent.proofs.units.OfParts.{query-whole}
 use Rattle.iri_text_rows.proofs.percent.part.Goals as goal
 
 pub new-requires : goal.new-requires

@@ -2,7 +2,7 @@ use Rattle.iri_percent.proofs.Common.{sym, subst, FitsAuthority, Shows}
 use Rattle.iri_grammar.specs.OptionalSlices.{now_of}
 use Rattle.iri_grammar.specs.Spans.{span_parts}
 use Rattle.iri_grammar.proofs.authorities.AuthorityLaws.{reads}
-use Rattle.iri_percent.proofs.Authorities.{authority_in}
+use Rattle.iri_percent.proofs.hosts.Authorities.{authority_in}
 use Rattle.iri_percent.proofs.authority.NormalizedAuthorityShow.show.Goals as goal
 
 pub show_span-requires : goal.show_span-requires

@@ -1,6 +1,6 @@
 use Rattle.iri_percent.proofs.Common.{◌++◌, ap, ◌∙◌, flat_map, fragment_bytes}
 use Rattle.iri_percent.specs.FragmentViews.{fragments_left}
-use Rattle.iri_percent.proofs.DecodingLemmas.{fragments-joined, fragments-most}
+use Rattle.iri_percent.proofs.coding.Fragments.{fragments-joined, fragments-most}
 use Rattle.iri_percent.proofs.decode.PercentDecodedWhatwgBytes.into_bytes.Goals as goal
 
 pub loop-fragment-init : goal.loop-fragment-init

@@ -1,5 +1,5 @@
 use Rattle.std.proofs.Common.{sym, ◌∙◌}
-use Rattle.iri_percent.proofs.DecodingLemmas.{decoding-same}
+use Rattle.iri_percent.proofs.coding.Fragments.{decoding-same}
 use Rattle.iri_percent.proofs.decode.PercentDecodedWhatwgBytes.to_bytes.Goals as goal
 
 pub returns-else-has_triplet-clause-decoded : goal.returns-else-has_triplet-clause-decoded

@@ -1,5 +1,5 @@
 use Rattle.std.proofs.Common.{length, refl, sym, ◌∙◌, eqb-true}
-use Rattle.iri_percent.proofs.DecodingLemmas.{none-left}
+use Rattle.iri_percent.proofs.coding.Fragments.{none-left}
 use Rattle.iri_percent.proofs.fragments.PercentDecodedBytesFragmentsIterator.next.Goals as goal
 
 pub returns-then-is_empty-clause-steps : goal.returns-then-is_empty-clause-steps

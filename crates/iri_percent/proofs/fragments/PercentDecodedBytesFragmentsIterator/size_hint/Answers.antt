@@ -1,5 +1,5 @@
 use Rattle.std.proofs.Common.{arith}
-use Rattle.iri_percent.proofs.DecodingLemmas.{fragments-some, fragments-most}
+use Rattle.iri_percent.proofs.coding.Fragments.{fragments-some, fragments-most}
 use Rattle.iri_percent.proofs.fragments.PercentDecodedBytesFragmentsIterator.size_hint.Goals as goal
 
 pub returns-clause-lower : goal.returns-clause-lower

@@ -1,7 +1,7 @@
 use Rattle.iri_percent.proofs.Common.{◌≡◌, ap, sym, ◌∙◌, subst, true, list_all, Shows, whole_triplets, normal, is_ascii_host, is_plain_byte}
 use Rattle.iri_percent.proofs.Common.{case_of}
-use Rattle.iri_percent.proofs.WholeLaws.{host-whole}
-use Rattle.iri_percent.proofs.Hosts.{plain_host, host_case}
+use Rattle.iri_percent.proofs.units.OfParts.{host-whole}
+use Rattle.iri_percent.proofs.hosts.AsciiHosts.{plain_host, host_case}
 use Rattle.iri_percent.proofs.host.NormalizedHostShow.show.Goals as goal
 
 pub returns-then-is_plain : goal.returns-then-is_plain

@@ -1,4 +1,4 @@
-use Rattle.iri_percent.proofs.MapKinds.{absolute-maps}
+use Rattle.iri_percent.proofs.mapping.Productions.{absolute-maps}
 use Rattle.iri_percent.proofs.mapped_kind.AbsoluteMappedKind.mapped_is_valid.Goals as goal
 
 pub returns : goal.returns

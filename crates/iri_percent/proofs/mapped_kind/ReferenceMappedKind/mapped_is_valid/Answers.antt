@@ -1,4 +1,4 @@
-use Rattle.iri_percent.proofs.MapKinds.{reference-maps}
+use Rattle.iri_percent.proofs.mapping.Productions.{reference-maps}
 use Rattle.iri_percent.proofs.mapped_kind.ReferenceMappedKind.mapped_is_valid.Goals as goal
 
 pub returns : goal.returns

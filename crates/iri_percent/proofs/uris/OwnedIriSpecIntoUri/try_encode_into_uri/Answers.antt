@@ -2,7 +2,7 @@ use Rattle.std.proofs.Common.{◌≡◌, Result, Ok, Err, IfOk, MatchResult, sym
 use Rattle.std.specs.Str.{IsAscii, IsNotAscii}
 use Rattle.iri_owned.specs.OwnedText.{OwnedText}
 use Rattle.iri_percent.specs.Mapping.{mapped}
-use Rattle.iri_percent.proofs.MappedRuns.{mapped-of_ascii}
+use Rattle.iri_percent.proofs.mapping.Runs.{mapped-of_ascii}
 use Rattle.iri_percent.proofs.uris.OwnedIriSpecIntoUri.try_encode_into_uri.Goals as goal
 
 stays : (r : Result OwnedText OwnedText) (t : OwnedText) → IsAscii t.text

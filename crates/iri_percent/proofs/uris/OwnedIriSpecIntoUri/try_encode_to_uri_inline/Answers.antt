@@ -1,6 +1,6 @@
 use Rattle.iri_percent.proofs.Common.{sym, subst, IsAscii, iri_tests, iri_is_spec}
 use Rattle.std.specs.String.{string_bytes}
-use Rattle.iri_percent.proofs.MappedRuns.{mapped-of_ascii}
+use Rattle.iri_percent.proofs.mapping.Runs.{mapped-of_ascii}
 use Rattle.iri_percent.proofs.uris.OwnedIriSpecIntoUri.try_encode_to_uri_inline.Goals as goal
 
 pub replace_text-requires : goal.replace_text-requires

@@ -1,6 +1,6 @@
 use Rattle.iri_percent.proofs.Common.{◌≡◌, None, sym, ap, subst, ◌∙◌, IsAscii, uri_tests, iri_tests, iri_is_spec}
 use Rattle.std.specs.String.{string_bytes}
-use Rattle.iri_percent.proofs.MappedRuns.{mapped-of_ascii}
+use Rattle.iri_percent.proofs.mapping.Runs.{mapped-of_ascii}
 use Rattle.iri_percent.proofs.uris.OwnedIriSpecIntoUri.try_into_uri.Goals as goal
 
 pub from_valid-requires : goal.from_valid-requires

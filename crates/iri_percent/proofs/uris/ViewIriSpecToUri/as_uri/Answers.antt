@@ -1,5 +1,5 @@
 use Rattle.iri_percent.proofs.Common.{◌≡◌, None, subst, uri_tests, iri_tests, iri_is_spec}
-use Rattle.iri_percent.proofs.MappedRuns.{mapped-of_ascii}
+use Rattle.iri_percent.proofs.mapping.Runs.{mapped-of_ascii}
 use Rattle.iri_percent.proofs.uris.ViewIriSpecToUri.as_uri.Goals as goal
 
 pub from_valid-requires : goal.from_valid-requires

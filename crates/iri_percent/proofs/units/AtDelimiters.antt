@@ -6,10 +6,10 @@ use Rattle.iri_percent.proofs.Common.{byte_unit, first_unit, unit_text, units_fr
 use Rattle.std.proofs.lemmas.List.{take-append-le}
 use Rattle.std.proofs.Math.Bool.{and-false}
 use Rattle.std.proofs.lemmas.Grind.{flat_map-append}
-use Rattle.iri_percent.proofs.CharLaws.{normal-by_bytes}
-use Rattle.iri_percent.proofs.UnitLaws.{first_char_is, units_plain}
+use Rattle.iri_percent.proofs.units.ByBytes.{normal-by_bytes}
+use Rattle.iri_percent.proofs.units.AtStart.{first_char_is, units_plain}
 use Rattle.iri_percent.specs.Units.{IsOutsideTriplets}
-use Rattle.iri_percent.proofs.UnitTexts.{unit_prefix}
+use Rattle.iri_percent.proofs.units.Joined.{unit_prefix}
 
 no_second : (x m b : ℕ) → IsOutsideTriplets m → is_triplet x m b ≡ false
 no_second x m b k = ap (λ v. x == 37 && (v && is_ascii_hexdigit b)) k.digit ∙ and-false (x == 37)

@@ -2,7 +2,7 @@
 use Rattle.iri_percent.proofs.Common.{◌≡◌, ℕ, ◌<◌, true, false, cond, not, ◌&&◌, List, [], ◌∷◌, ◌++◌, refl, sym, ◌∙◌, ap, arith, ◌==◌, ◌/◌}
 use Rattle.iri_percent.proofs.Common.{◌%◌, nat_lt, nat_tests, before, lacks, capital_hex, triplet, mapped}
 use Rattle.iri_grammar.specs.Parts.{is_empty, starts_with_slash, starts_with_slashes}
-use Rattle.iri_percent.proofs.MapTexts.{mapped-low, mapped-high}
+use Rattle.iri_percent.proofs.mapping.Texts.{mapped-low, mapped-high}
 
 -- an ASCII byte that stands in no triplet
 pub record IsApart (m : ℕ) : Type 0 where

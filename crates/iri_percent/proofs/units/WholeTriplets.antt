@@ -2,8 +2,8 @@
 use Rattle.iri_percent.proofs.Common.{◌≡◌, ℕ, zero, suc, ◌≤◌, true, false, List, [], ◌∷◌, ◌++◌, Some, None, length, refl, sym, ◌∙◌, ap}
 use Rattle.iri_percent.proofs.Common.{subst, arith, length-append, eqb-true, ◌==◌, is_ascii_hexdigit, encode_utf8, scalar, both, octets}
 use Rattle.iri_percent.proofs.Common.{first_char, two_digits, whole_triplets}
-use Rattle.iri_percent.proofs.UnitLaws.{Spells, none, more, hex_apart, first_char_is}
-use Rattle.iri_percent.proofs.NormalLaws.{PrefixTriplet, prefix_triplet}
+use Rattle.iri_percent.proofs.units.AtStart.{Spells, none, more, hex_apart, first_char_is}
+use Rattle.iri_percent.proofs.forms.ByUnits.{PrefixTriplet, prefix_triplet}
 
 pub data Reading : List ℕ → Type 0 where
   done : Reading []

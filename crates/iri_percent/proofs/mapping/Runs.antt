@@ -2,7 +2,7 @@
 use Rattle.iri_percent.proofs.Common.{nat_lt, IsAscii, lt-ltb, IsAscii-cons, IsAscii-nil, run_of, triplet, mapped, triplets, goes_on}
 use Rattle.std.proofs.Common.{◌≡◌, ℕ, suc, ◌<◌, true, false, cond, not, List, [], ◌∷◌, ◌++◌, length, take, drop, refl, sym, ◌∙◌, ap, subst}
 use Rattle.std.proofs.Common.{arith, append_assoc, length-drop, ltb-true}
-use Rattle.iri_percent.proofs.MapTexts.{mapped-low, mapped-high}
+use Rattle.iri_percent.proofs.mapping.Texts.{mapped-low, mapped-high}
 
 pub low-run : (t : List ℕ) → mapped t ≡ take (run_of (goes_on false) t) t ++ mapped (drop (run_of (goes_on false) t) t)
 low-run [] = refl

@@ -10,12 +10,12 @@ use Rattle.std.specs.Prelude.{MatchOption}
 use Rattle.std.proofs.lemmas.Str.{IsUtf8-encode, IsUtf8-from_ascii, lead_after_ascii}
 use Rattle.std.proofs.lemmas.List.{get_or_append_left}
 use Rattle.iri_grammar.proofs.units.FirstUnits.{hex_is_ascii}
-use Rattle.iri_percent.proofs.Characters.{ascii_decoded, low_decoded, past_ascii, unreserved_low}
-use Rattle.iri_percent.proofs.UnitLaws.{octets_triplet, Spells, none, more, spelled, Spelled, length-spelled}
-use Rattle.iri_percent.proofs.NormalLaws.{normal_nil, normal_plain, normal_decoded, normal_kept}
-use Rattle.iri_percent.proofs.Reading.{whole_plain, whole_triplet, whole_after, Follows, percent_follows}
-use Rattle.iri_percent.proofs.CaseLaws.{encode_case, is_decoded}
-use Rattle.iri_percent.proofs.Stability.{IsCase, as_it_is-case, lower-case}
+use Rattle.iri_percent.proofs.characters.Spellings.{ascii_decoded, low_decoded, past_ascii, unreserved_low}
+use Rattle.iri_percent.proofs.units.AtStart.{octets_triplet, Spells, none, more, spelled, Spelled, length-spelled}
+use Rattle.iri_percent.proofs.forms.ByUnits.{normal_nil, normal_plain, normal_decoded, normal_kept}
+use Rattle.iri_percent.proofs.units.WholeTriplets.{whole_plain, whole_triplet, whole_after, Follows, percent_follows}
+use Rattle.iri_percent.proofs.forms.Cases.{encode_case, is_decoded}
+use Rattle.iri_percent.proofs.forms.Stability.{IsCase, as_it_is-case, lower-case}
 use Rattle.iri_percent.specs.inside.Pieces.{octet_text, CandidateAt, FirstCandidate}
 
 -- ---- runs

@@ -3,9 +3,9 @@ use Rattle.iri_percent.proofs.Common.{◌≡◌, ℕ, true, false, cond, List, [
 use Rattle.iri_percent.proofs.Common.{list_all, is_ascii_hexdigit, to_ascii_uppercase, encode_utf8, scalar, Tests, unreserved, lacks, both}
 use Rattle.iri_percent.proofs.Common.{TextUnit, Plain, Char, Lone, octet, octets, first_char, units, normal, written, decoded}
 use Rattle.iri_percent.proofs.Common.{unreserved_only, flat_map}
-use Rattle.iri_percent.proofs.CharLaws.{normal-by_bytes}
-use Rattle.iri_percent.proofs.UnitLaws.{Spells, none, more, spelled, octets_triplet, BeginsChar, first_char_is, is_continuation}
-use Rattle.iri_percent.proofs.UnitLaws.{encode_bytes, continuation_none, units_plain, units_lone, units_char, lacks_first}
+use Rattle.iri_percent.proofs.units.ByBytes.{normal-by_bytes}
+use Rattle.iri_percent.proofs.units.AtStart.{Spells, none, more, spelled, octets_triplet, BeginsChar, first_char_is, is_continuation}
+use Rattle.iri_percent.proofs.units.AtStart.{encode_bytes, continuation_none, units_plain, units_lone, units_char, lacks_first}
 
 pub normal_nil : (s : Tests) (f : ℕ → ℕ) → normal s f [] ≡ []
 unfolding normal Rattle.iri_percent.specs.CharUnits.char_units_from

@@ -22,10 +22,10 @@ use Rattle.iri_grammar.proofs.splits.SplitUnique.{split_is}
 use Rattle.iri_grammar.specs.WholeFault.{reference_fault, iri_fault, absolute_fault, relative_fault}
 use Rattle.iri_grammar.specs.declared.error.ErrorKind.TheVariants.{InvalidQuery, InvalidFragment}
 use Rattle.iri_percent.specs.Mapping.{mapped_parts}
-use Rattle.iri_percent.proofs.MapDelimiters.{slash-apart, colon-apart, mapped-lacks, mapped-before, mapped-empty, mapped-slash}
-use Rattle.iri_percent.proofs.MapDelimiters.{mapped-slashes}
-use Rattle.iri_percent.proofs.MapTexts.{mapped-low, mapped-append, mapped-over, uri-spec}
-use Rattle.iri_percent.proofs.WholeLaws.{reg_name_percent, userinfo_percent, path_percent, query_percent, fragment_percent}
+use Rattle.iri_percent.proofs.mapping.Delimiters.{slash-apart, colon-apart, mapped-lacks, mapped-before, mapped-empty, mapped-slash}
+use Rattle.iri_percent.proofs.mapping.Delimiters.{mapped-slashes}
+use Rattle.iri_percent.proofs.mapping.Texts.{mapped-low, mapped-append, mapped-over, uri-spec}
+use Rattle.iri_percent.proofs.units.OfParts.{reg_name_percent, userinfo_percent, path_percent, query_percent, fragment_percent}
 
 abbrev pub mapped_authority : AuthorityParts → AuthorityParts
 mapped_authority a = record { userinfo = option_map mapped a.userinfo; host = mapped a.host; port = option_map mapped a.port }

@@ -4,13 +4,13 @@ use Rattle.iri_percent.proofs.Common.{◌/◌, ◌%◌, nat_lt, not, flat_map, l
 use Rattle.iri_percent.proofs.Common.{encode_ascii, encodes-chars, scalars-chars, nat_tests, Tests, IsSpec, both, capital_hex, triplets}
 use Rattle.iri_percent.proofs.Common.{keeps, encoded, encoded_char, decoding}
 use Rattle.iri_grammar.proofs.units.ClassLaws.{class_has_no_percent}
-use Rattle.iri_percent.proofs.MapTexts.{is_high, encode-high, high_small, octet_of, capital_is_hex, first_digit, second_digit}
-use Rattle.iri_percent.proofs.Stability.{encode_percent}
-use Rattle.iri_percent.proofs.ClassLaws.{class_percent}
+use Rattle.iri_percent.proofs.mapping.Texts.{is_high, encode-high, high_small, octet_of, capital_is_hex, first_digit, second_digit}
+use Rattle.iri_percent.proofs.forms.Stability.{encode_percent}
+use Rattle.iri_percent.proofs.forms.Classes.{class_percent}
 use Rattle.iri_percent.specs.declared.context.Context.{Context}
 use Rattle.iri_percent.specs.declared.context.Context.TheVariants.{RegName, UserOrPassword, PathSegment, Path, Query, Fragment, Unreserved}
 use Rattle.iri_percent.specs.declared.context.Context.TheVariants.{Any}
-use Rattle.iri_percent.proofs.DecodingLemmas.{decoding-triplet, decoding-plains}
+use Rattle.iri_percent.proofs.coding.Fragments.{decoding-triplet, decoding-plains}
 use Rattle.iri_grammar.specs.declared.class.Class.TheVariants as C
 
 -- `%` is never kept

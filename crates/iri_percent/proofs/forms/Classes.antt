@@ -10,11 +10,11 @@ use Rattle.std.specs.Prelude.{codes}
 use Rattle.std.specs.Char.{is_ascii_hexdigit, is_ascii_uppercase, char_set_contains, to_ascii_uppercase, to_ascii_lowercase}
 use Rattle.std.proofs.lemmas.Str.{chars-encodes, is_utf8-from_IsUtf8}
 use Rattle.iri_grammar.proofs.units.OverLaws.{units-from_over, over-from_units}
-use Rattle.iri_percent.proofs.UnitLaws.{Spells, none, more, Spelled, spelled, length-spelled, encode_bytes, encodes_triplet}
-use Rattle.iri_percent.proofs.NormalLaws.{normal_nil, normal_plains, normal_decoded, normal_kept}
-use Rattle.iri_percent.proofs.Stability.{IsCase, as_it_is-case, lower-case, upper_hex, encode_percent}
-use Rattle.iri_percent.proofs.CaseLaws.{encode_case, case_scalar, is_decoded}
-use Rattle.iri_percent.proofs.WholeLaws.{reg_name_percent, userinfo_percent, pchar_percent, path_percent, query_percent, fragment_percent}
+use Rattle.iri_percent.proofs.units.AtStart.{Spells, none, more, Spelled, spelled, length-spelled, encode_bytes, encodes_triplet}
+use Rattle.iri_percent.proofs.forms.ByUnits.{normal_nil, normal_plains, normal_decoded, normal_kept}
+use Rattle.iri_percent.proofs.forms.Stability.{IsCase, as_it_is-case, lower-case, upper_hex, encode_percent}
+use Rattle.iri_percent.proofs.forms.Cases.{encode_case, case_scalar, is_decoded}
+use Rattle.iri_percent.proofs.units.OfParts.{reg_name_percent, userinfo_percent, pchar_percent, path_percent, query_percent, fragment_percent}
 
 -- ---- texts over a class, by their bytes
 pub data IsText (p : ℕ → Bool) : List ℕ → Type 0 where

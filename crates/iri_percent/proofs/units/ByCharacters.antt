@@ -5,12 +5,12 @@ use Rattle.iri_percent.proofs.Common.{flat_map, list_all, is_ascii_hexdigit, cha
 use Rattle.iri_percent.proofs.Common.{encode_ascii, encodes-chars, scalars-chars, nat_tests, both, TextUnit, Plain, Char, Lone, Stray}
 use Rattle.iri_percent.proofs.Common.{IllFormed, octet, octets, first_char, triplet_unit, first_unit, unit_text, units_from, units}
 use Rattle.iri_percent.proofs.Common.{two_digits, by_character, char_unit_text, char_units_from, char_units, plains, byte_units}
-use Rattle.iri_percent.proofs.UnitLaws.{Spells, none, more, octets_other, octets_triplet, octets_spelled, first_char_is, char_first}
-use Rattle.iri_percent.proofs.UnitLaws.{encode_bytes, encodes_triplet, byte_other, units_plain, units_lone, units_char}
-use Rattle.iri_percent.proofs.CharLaws.{percent_same, units-by_chars}
-use Rattle.iri_percent.proofs.NormalLaws.{PrefixTriplet, prefix_triplet}
-use Rattle.iri_percent.proofs.MapTexts.{is_high, encode-high}
-use Rattle.iri_percent.proofs.UnitTexts.{units-text}
+use Rattle.iri_percent.proofs.units.AtStart.{Spells, none, more, octets_other, octets_triplet, octets_spelled, first_char_is, char_first}
+use Rattle.iri_percent.proofs.units.AtStart.{encode_bytes, encodes_triplet, byte_other, units_plain, units_lone, units_char}
+use Rattle.iri_percent.proofs.units.ByBytes.{percent_same, units-by_chars}
+use Rattle.iri_percent.proofs.forms.ByUnits.{PrefixTriplet, prefix_triplet}
+use Rattle.iri_percent.proofs.mapping.Texts.{is_high, encode-high}
+use Rattle.iri_percent.proofs.units.Joined.{units-text}
 use Rattle.iri_percent.specs.CharUnits.{first_char_unit}
 use Rattle.iri_grammar.proofs.units.FirstUnits.{past_hex as high_no_hex}
 

@@ -5,7 +5,7 @@ use Rattle.std.proofs.Common.{◌≡◌, ◌≢◌, ℕ, suc, ◌<◌, ◌≤◌
 use Rattle.std.proofs.Common.{min, refl, length-drop, get_or-drop, sym, ◌∙◌, ap, subst, arith, eqb-true}
 use Rattle.iri_grammar.specs.Cut.{from, CutAt, NoCut}
 use Rattle.iri_percent.specs.Decoding.{Fragment, Run, before_fragments, byte_before}
-use Rattle.iri_percent.proofs.UnitLaws.{lacks_first}
+use Rattle.iri_percent.proofs.units.AtStart.{lacks_first}
 
 -- ---- decoding from the left
 pub decoding-triplet : (a b : ℕ) (xs : List ℕ) → is_ascii_hexdigit a ≡ true → is_ascii_hexdigit b ≡ true

@@ -6,8 +6,8 @@ use Rattle.iri_percent.proofs.Common.{nat_tests, lt-ltb, le-ltb, Tests, IsSpec, 
 use Rattle.iri_percent.proofs.Common.{unreserved_only, char_from}
 use Rattle.iri_grammar.specs.inside.Runs.{begins_with_more}
 use Rattle.iri_grammar.proofs.units.WideChars.{spelled_in_three, spelled_in_two}
-use Rattle.iri_percent.proofs.UnitLaws.{BeginsChar, first_char_is, char_first, none_before, continuation_none, is_continuation}
-use Rattle.iri_percent.proofs.UnitLaws.{next_continues}
+use Rattle.iri_percent.proofs.units.AtStart.{BeginsChar, first_char_is, char_first, none_before, continuation_none, is_continuation}
+use Rattle.iri_percent.proofs.units.AtStart.{next_continues}
 
 pub empty_none : (os : List ℕ) → os ≡ [] → first_char os ≡ None
 unfolding first_char chars

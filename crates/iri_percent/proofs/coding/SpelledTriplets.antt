@@ -5,7 +5,7 @@ use Rattle.std.proofs.Common.{set, length-set}
 use Rattle.std.proofs.Math.Seq.{take-suc}
 use Rattle.std.proofs.lemmas.Str.{IsUtf8-from_ascii}
 use Rattle.std.proofs.lemmas.List.{take_more_set}
-use Rattle.iri_percent.proofs.EncodedRuns.{triplets-append}
+use Rattle.iri_percent.proofs.coding.EncodedRuns.{triplets-append}
 
 three_set : (buf : List ℕ) (n a b d : ℕ) → n + 2 < length buf
     → take (n + 3) (set (set (set buf n a) (n + 1) b) (n + 2) d) ≡ take n buf ++ (a ∷ b ∷ d ∷ [])

@@ -8,11 +8,11 @@ use Rattle.std.proofs.lemmas.Str.Ascii.{lowercase-lowercase, lowercase_ascii, up
 use Rattle.iri_grammar.proofs.splits.CutLaws.{by_test, lacks-other}
 use Rattle.iri_grammar.proofs.units.LackedBytes.{lacks-encodes}
 use Rattle.std.proofs.lemmas.Grind.{flat_map-append}
-use Rattle.iri_percent.proofs.CharLaws.{written_plains, normal-by_bytes}
-use Rattle.iri_percent.proofs.UnitLaws.{Spells, none, more, octets_other, octets_triplet, octets_spelled, encode_bytes, none_before}
-use Rattle.iri_percent.proofs.UnitLaws.{lacks_first, units_plain, units_plains, units_lone, units_char}
-use Rattle.iri_percent.proofs.NormalLaws.{normal_nil, normal_plain, normal_lone, normal_char}
-use Rattle.iri_percent.proofs.Reading.{Reading, done, plain, char, lone, whole_plain, whole_triplet, whole_after, read}
+use Rattle.iri_percent.proofs.units.ByBytes.{written_plains, normal-by_bytes}
+use Rattle.iri_percent.proofs.units.AtStart.{Spells, none, more, octets_other, octets_triplet, octets_spelled, encode_bytes, none_before}
+use Rattle.iri_percent.proofs.units.AtStart.{lacks_first, units_plain, units_plains, units_lone, units_char}
+use Rattle.iri_percent.proofs.forms.ByUnits.{normal_nil, normal_plain, normal_lone, normal_char}
+use Rattle.iri_percent.proofs.units.WholeTriplets.{Reading, done, plain, char, lone, whole_plain, whole_triplet, whole_after, read}
 pub use Rattle.std.proofs.lemmas.Str.Ascii.{uppercase-uppercase as upper_twice}
 
 -- what may be done to characters outside triplets: it makes no `%`, and once is enough

@@ -4,9 +4,9 @@ use Rattle.iri_percent.proofs.Common.{arith, append_assoc, ltb-true, ◌/◌, �
 use Rattle.iri_percent.proofs.Common.{encode, scalar, encode_ascii, nat_tests, IsSpec, uri_tests, both, text_over, octet, capital_hex}
 use Rattle.iri_percent.proofs.Common.{triplet, mapped}
 use Rattle.std.specs.Int.{is_in_range}
-use Rattle.iri_percent.proofs.ClassLaws.{IsText, ended, letter, escape, text-from_over, over-from_text}
+use Rattle.iri_percent.proofs.forms.Classes.{IsText, ended, letter, escape, text-from_over, over-from_text}
 use Rattle.iri_grammar.proofs.hosts.LiteralChars.{all-weaken}
-use Rattle.iri_percent.proofs.UnitLaws.{encode_bytes, is_continuation, Spells, none, more}
+use Rattle.iri_percent.proofs.units.AtStart.{encode_bytes, is_continuation, Spells, none, more}
 
 -- ---- bytes
 pub mapped-low : (x : ℕ) (xs : List ℕ) → nat_lt x 128 ≡ true → mapped (x ∷ xs) ≡ x ∷ mapped xs

@@ -3,9 +3,9 @@ use Rattle.iri_percent.proofs.Common.{◌≡◌, ℕ, Bool, true, false, not, �
 use Rattle.iri_percent.proofs.Common.{append_assoc, ◌==◌, list_all, is_ascii_hexdigit, encode_utf8, to_ascii_uppercase, cond, map, not-true}
 use Rattle.iri_percent.proofs.Common.{Tests, unreserved, both, octet, octets, is_triplet, first_char, two_digits, whole_triplets, normal}
 use Rattle.std.proofs.Common.{◌⊎◌, inl, inr}
-use Rattle.iri_percent.proofs.UnitLaws.{octets_other, octets_triplet, first_char_is, char_first, is_continuation, encode_bytes}
-use Rattle.iri_percent.proofs.NormalLaws.{normal_nil, normal_plain, normal_lone, normal_char}
-use Rattle.iri_percent.proofs.Reading.{Reading, done, plain, char, lone, whole_plain, whole_triplet, whole_after, read}
+use Rattle.iri_percent.proofs.units.AtStart.{octets_other, octets_triplet, first_char_is, char_first, is_continuation, encode_bytes}
+use Rattle.iri_percent.proofs.forms.ByUnits.{normal_nil, normal_plain, normal_lone, normal_char}
+use Rattle.iri_percent.proofs.units.WholeTriplets.{Reading, done, plain, char, lone, whole_plain, whole_triplet, whole_after, read}
 
 -- octets that don't go on with a character
 abbrev pub leads : List ℕ → Bool

@@ -16,11 +16,11 @@ use Rattle.iri_grammar.proofs.splits.CutLaws.{lacks-append, test_apart}
 use Rattle.iri_grammar.proofs.authorities.PlainAuthorities.{port_small}
 use Rattle.iri_percent.specs.Units.{IsOutsideTriplets}
 use Rattle.iri_percent.specs.NormalHost.{normal_authority_parts, normal_port, normal_userinfo}
-use Rattle.iri_percent.proofs.Changes.{run_all}
-use Rattle.iri_percent.proofs.Hosts.{host_case}
-use Rattle.iri_percent.proofs.DelimiterLaws.{pct_delimiter}
-use Rattle.iri_percent.proofs.NormalLaws.{normal_nil, normal_plains}
-use Rattle.iri_percent.proofs.UnitLaws.{lacks_first}
+use Rattle.iri_percent.proofs.forms.Changes.{run_all}
+use Rattle.iri_percent.proofs.hosts.AsciiHosts.{host_case}
+use Rattle.iri_percent.proofs.units.AtDelimiters.{pct_delimiter}
+use Rattle.iri_percent.proofs.forms.ByUnits.{normal_nil, normal_plains}
+use Rattle.iri_percent.proofs.units.AtStart.{lacks_first}
 
 -- ---- without a triplet
 lacks-stays : (t : List ℕ) → lacks 37 t ≡ true → NoCandidate false t (length t)

@@ -6,12 +6,12 @@ use Rattle.iri_percent.proofs.Common.{two_digits, units, units_from, whole_tripl
 use Rattle.std.proofs.Common.{◌≢◌, ◌↔◌, true≢false}
 use Rattle.std.specs.List.{All}
 use Rattle.std.proofs.lemmas.List.Elements.{All-cons}
-use Rattle.iri_percent.proofs.CharLaws.{units-by_chars}
-use Rattle.iri_percent.proofs.CharUnits.{units_stray}
-use Rattle.iri_percent.proofs.UnitLaws.{units_plain, units_lone, units_char, first_char_is}
-use Rattle.iri_percent.proofs.NormalLaws.{PrefixTriplet, prefix_triplet}
-use Rattle.iri_percent.proofs.Reading.{Reading, done, plain, char, lone, Follows, whole_plain, whole_triplet, whole_after, digits_follow}
-use Rattle.iri_percent.proofs.Reading.{read}
+use Rattle.iri_percent.proofs.units.ByBytes.{units-by_chars}
+use Rattle.iri_percent.proofs.units.ByCharacters.{units_stray}
+use Rattle.iri_percent.proofs.units.AtStart.{units_plain, units_lone, units_char, first_char_is}
+use Rattle.iri_percent.proofs.forms.ByUnits.{PrefixTriplet, prefix_triplet}
+use Rattle.iri_percent.proofs.units.WholeTriplets.{Reading, done, plain, char, lone, Follows, whole_plain, whole_triplet, whole_after, digits_follow}
+use Rattle.iri_percent.proofs.units.WholeTriplets.{read}
 
 abbrev is_stray : TextUnit → Bool
 is_stray (Plain x) = false

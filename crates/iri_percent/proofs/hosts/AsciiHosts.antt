@@ -5,7 +5,7 @@ use Rattle.iri_percent.proofs.Common.{to_ascii_lowercase, take_rest, not-true, T
 use Rattle.iri_percent.proofs.Common.{is_ascii_host, is_plain_byte, normal_host, case_of, stays, NoCandidate}
 use mathlib.Core.Bool.{and_assoc}
 use Rattle.iri_percent.specs.NormalHost.{octet_below_128}
-use Rattle.iri_percent.proofs.Changes.{run_all}
+use Rattle.iri_percent.proofs.forms.Changes.{run_all}
 
 pub percent_digits : (x : ℕ) (xs : List ℕ) → x ≡ 37 → whole_triplets (x ∷ xs) ≡ true → two_digits xs ≡ true
 unfolding whole_triplets

@@ -4,12 +4,12 @@ use Rattle.iri_percent.proofs.Common.{is_ascii_hexdigit, to_ascii_uppercase, cha
 use Rattle.iri_percent.proofs.Common.{scalars-chars, map-id, Tests, IsSpec, unreserved, both, Plain, Char, Lone, octets, first_char, units}
 use Rattle.iri_percent.proofs.Common.{two_digits, whole_triplets, char_units, char_units_from, pct, as_it_is, normal_unit, flat_map}
 use Rattle.iri_percent.specs.Triplets.{unit_in_form}
-use Rattle.iri_percent.proofs.UnitLaws.{Spells, encodes_triplet, units_lone}
-use Rattle.iri_percent.proofs.NormalLaws.{normal_nil, normal_plains, normal_lone, normal_char}
-use Rattle.iri_percent.proofs.Reading.{whole_triplet, whole_after}
-use Rattle.iri_percent.proofs.Stability.{as_it_is-case, upper_spells, unreserved_percent, encode_percent, whole_plains, units-normal}
-use Rattle.iri_percent.proofs.CharUnits.{CharReading, done, plain, char, lone, stray, read, percent_unit, char_units_char, char_units_plain}
-use Rattle.iri_percent.proofs.CharUnits.{encodes_spelled, encodes_percent, octets_encoded}
+use Rattle.iri_percent.proofs.units.AtStart.{Spells, encodes_triplet, units_lone}
+use Rattle.iri_percent.proofs.forms.ByUnits.{normal_nil, normal_plains, normal_lone, normal_char}
+use Rattle.iri_percent.proofs.units.WholeTriplets.{whole_triplet, whole_after}
+use Rattle.iri_percent.proofs.forms.Stability.{as_it_is-case, upper_spells, unreserved_percent, encode_percent, whole_plains, units-normal}
+use Rattle.iri_percent.proofs.units.ByCharacters.{CharReading, done, plain, char, lone, stray, read, percent_unit, char_units_char, char_units_plain}
+use Rattle.iri_percent.proofs.units.ByCharacters.{encodes_spelled, encodes_percent, octets_encoded}
 
 abbrev IsFormed : Tests → List ℕ → Type 0
 IsFormed s t = char_units (pct s t) ≡ map (unit_in_form s) (char_units t)

@@ -3,8 +3,8 @@ use Rattle.iri_percent.proofs.Common.{◌≡◌, ℕ, suc, ◌<◌, ◌≤◌, t
 use Rattle.iri_percent.proofs.Common.{ap, subst, arith, append-nil, ltb-true, ltb-false, map, encode_utf8, ltb, scalar, low_scalar}
 use Rattle.iri_percent.proofs.Common.{encode_ascii, Tests, unreserved, first_char, decoded, unreserved_only}
 use Rattle.std.proofs.lemmas.Str.{inside_one}
-use Rattle.iri_percent.proofs.UnitLaws.{BeginsChar, first_char_is}
-use Rattle.iri_percent.proofs.Stability.{IsCase}
+use Rattle.iri_percent.proofs.units.AtStart.{BeginsChar, first_char_is}
+use Rattle.iri_percent.proofs.forms.Stability.{IsCase}
 
 map_high : (f : ℕ → ℕ) (xs : List ℕ) → ((x : ℕ) → 128 ≤ x → f x ≡ x) → ((k : ℕ) → k < length xs → 128 ≤ get_or xs k 0) → map f xs ≡ xs
 map_high f [] h p = refl

@@ -7,17 +7,17 @@ use Rattle.iri_percent.proofs.Common.{IsAscii-cons, IsAscii-nil, Tests, IsSpec, 
 use Rattle.iri_percent.proofs.Common.{octet, octets, first_char, normal, decoded, unreserved_only, capital_hex, triplet, mapped, triplets}
 use Rattle.std.proofs.lemmas.Str.{IsAscii-append}
 use Rattle.std.proofs.Math.Bool.{or-false}
-use Rattle.iri_percent.proofs.ClassLaws.{IsText, ended, letter, escape, text-from_over, after_spelled}
-use Rattle.iri_percent.proofs.UnitLaws.{Spells, none, more, spelled, length-spelled, octets_triplet, char_first, encode_bytes}
-use Rattle.iri_percent.proofs.NormalLaws.{normal_nil, normal_plain, normal_plains, normal_char, normal_decoded, normal_kept}
-use Rattle.iri_percent.proofs.CaseLaws.{encode_case, is_decoded}
-use Rattle.iri_percent.proofs.Stability.{IsCase, encode_percent, upper_hex}
-use Rattle.iri_percent.proofs.Characters.{unreserved_low}
-use Rattle.iri_percent.proofs.Spelled.{hex_below}
+use Rattle.iri_percent.proofs.forms.Classes.{IsText, ended, letter, escape, text-from_over, after_spelled}
+use Rattle.iri_percent.proofs.units.AtStart.{Spells, none, more, spelled, length-spelled, octets_triplet, char_first, encode_bytes}
+use Rattle.iri_percent.proofs.forms.ByUnits.{normal_nil, normal_plain, normal_plains, normal_char, normal_decoded, normal_kept}
+use Rattle.iri_percent.proofs.forms.Cases.{encode_case, is_decoded}
+use Rattle.iri_percent.proofs.forms.Stability.{IsCase, encode_percent, upper_hex}
+use Rattle.iri_percent.proofs.characters.Spellings.{unreserved_low}
+use Rattle.iri_percent.proofs.coding.SpelledTriplets.{hex_below}
 use Rattle.iri_percent.specs.Mapping.{mapped_char}
-use Rattle.iri_percent.proofs.MapTexts.{mapped-low, mapped-high, mapped-append, mapped-triplet, mapped-spelled, mapped-spells, is_high}
-use Rattle.iri_percent.proofs.MapTexts.{high_past, high_small, first_digit, second_digit, encode-high, uri-spec}
-pub use Rattle.iri_percent.proofs.Characters.{unreserved_low as unreserved_ascii}
+use Rattle.iri_percent.proofs.mapping.Texts.{mapped-low, mapped-high, mapped-append, mapped-triplet, mapped-spelled, mapped-spells, is_high}
+use Rattle.iri_percent.proofs.mapping.Texts.{high_past, high_small, first_digit, second_digit, encode-high, uri-spec}
+pub use Rattle.iri_percent.proofs.characters.Spellings.{unreserved_low as unreserved_ascii}
 use Rattle.iri_percent.proofs.Common.{flat_map}
 
 -- ---- triplets in capital

@@ -6,8 +6,8 @@ use Rattle.iri_percent.proofs.Common.{IllFormed, octets, first_char, triplet_uni
 use Rattle.iri_percent.proofs.Common.{char_unit_text, char_units_from, char_units, plains, byte_units, normal, written, all-lacks}
 use Rattle.std.proofs.lemmas.Grind.{flat_map-append}
 use Rattle.iri_percent.specs.Triplets.{unit_form}
-use Rattle.iri_percent.proofs.UnitLaws.{BeginsChar, first_char_is, is_continuation, encode_bytes, units_from_drop, byte_other, units_plain}
-use Rattle.iri_percent.proofs.UnitLaws.{units_plains}
+use Rattle.iri_percent.proofs.units.AtStart.{BeginsChar, first_char_is, is_continuation, encode_bytes, units_from_drop, byte_other, units_plain}
+use Rattle.iri_percent.proofs.units.AtStart.{units_plains}
 
 -- a unit that is the same in both readings
 pub record IsSame (u : TextUnit) (o : Option ℕ) : Type 0 where

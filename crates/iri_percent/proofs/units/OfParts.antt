@@ -5,13 +5,13 @@ use Rattle.iri_percent.proofs.Common.{userinfo_char, pchar, path_char, query_cha
 use Rattle.iri_percent.proofs.Common.{is_ascii_pchar, is_ascii_path, is_ascii_query, is_ascii_unreserved, is_sub_delim, is_userinfo}
 use Rattle.iri_percent.proofs.Common.{is_path, is_path_segment, is_query, is_fragment, lacks, both, by_test, all-lacks, is_host}
 use Rattle.iri_percent.proofs.Common.{is_reg_name, over, text_over, IsOver, two_digits, whole_triplets}
-use Rattle.iri_percent.proofs.UnitLaws.{encodes_triplet, lacks_first}
+use Rattle.iri_percent.proofs.units.AtStart.{encodes_triplet, lacks_first}
 use Rattle.iri_grammar.specs.IpLiteral.{is_ip_literal}
 use Rattle.iri_grammar.proofs.hosts.LiteralChars.{is_literal_char, ip_literal-chars}
 use Rattle.iri_grammar.specs.Over.{done, plain, triplet}
 use Rattle.iri_grammar.proofs.units.OverLaws.{units-from_over}
-use Rattle.iri_percent.proofs.Reading.{whole_plain, whole_triplet}
-use Rattle.iri_percent.proofs.Stability.{encode_percent, whole_plains}
+use Rattle.iri_percent.proofs.units.WholeTriplets.{whole_plain, whole_triplet}
+use Rattle.iri_percent.proofs.forms.Stability.{encode_percent, whole_plains}
 
 whole_nil : whole_triplets [] ≡ true
 unfolding whole_triplets

@@ -1,0 +1,3 @@
+-- Characters in octets, and hex digits.
+pub mod Spellings
+pub mod HexDigits

@@ -1,0 +1,3 @@
+-- Hosts and authorities in normal form.
+pub mod AsciiHosts
+pub mod Authorities
