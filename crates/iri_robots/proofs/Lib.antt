@@ -13,3 +13,6 @@ pub mod Decisions
 pub mod EscapeLemmas
 pub mod ReadBack
 pub mod FileCuts
+pub mod Settled
+pub mod Readings
+pub mod LastParts

@@ -76,7 +76,7 @@ pub data FitsEscape (a : Bool) (l m : ℕ) (q s : List ℕ) : Type 0 where
   by_special : (t : List ℕ) → s ≡ m ∷ t → Fits a q t → FitsEscape a l m q s
   by_triplet : (t : List ℕ) → s ≡ 37 ∷ 50 ∷ l ∷ t → Fits a q t → FitsEscape a l m q s
 
-one_special : (l m n : ℕ) → IsEscape l m → IsEscape l n → m ≡ n
+pub one_special : (l m n : ℕ) → IsEscape l m → IsEscape l n → m ≡ n
 one_special l m n star_escape star_escape = refl
 one_special l m n dollar_escape dollar_escape = refl
 

@@ -74,7 +74,7 @@ pub some_left : (n : ℕ) → (n == 0) ≡ false → 0 < n
 some_left zero h = cc
 some_left (suc n) h = omega arith
 
-none_left : (s : List ℕ) → (length s == 0) ≡ true → s ≡ []
+pub none_left : (s : List ℕ) → (length s == 0) ≡ true → s ≡ []
 none_left s h = nil_from_length s (eqb-true (length s) 0 h)
 
 -- ---- up to a `*`

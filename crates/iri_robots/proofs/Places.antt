@@ -1,14 +1,14 @@
 -- Where the prefix of a pattern stands in a text, and what that leaves of the text.
-use Rattle.std.proofs.Common.{◌≡◌, ◌≢◌, ◌↔◌, ℕ, zero, suc, ◌+◌, ◌-◌, ◌<◌, ◌≤◌, Bool, true, List, [], ◌∷◌, ◌++◌, Option, Some, None, length, take, drop, slice_index}
+use Rattle.std.proofs.Common.{◌≡◌, ◌≢◌, ◌↔◌, ℕ, zero, suc, ◌+◌, ◌<◌, ◌≤◌, Bool, true, List, [], ◌∷◌, ◌++◌, Option, Some, None, length, take, drop, slice_index}
 use Rattle.std.proofs.Common.{refl, sym, ◌∙◌, ap, subst, arith, length-drop, eqb-true, ⊎_elim}
 use Rattle.std.specs.Prelude.{MatchOption, is_some, false, ◌==◌}
-use Rattle.std.proofs.lemmas.List.{length-take-le, drop_all, get_or-take, get_or-append-add, length-append}
-use Rattle.std.proofs.lemmas.Bool.{eq-eqb, cases_lt}
+use Rattle.std.proofs.lemmas.List.{length-take-le, get_or-take, get_or-append-add, length-append}
+use Rattle.std.proofs.lemmas.Bool.{cases_lt}
 use Rattle.std.proofs.Math.Seq.{drop-append_seam}
-use Rattle.memchr.specs.Find.{OccursAt, FindsNeedle, IsFirstByte, is_byte}
-use Rattle.iri_robots.specs.inside.Fits.{Fits, ended, star, escaped, same, IsSuffix, whole, later, FitsNot, NoEscape, EscapeOf, Sticks}
-use Rattle.iri_robots.specs.inside.Plain.{IsPlainAt, HasPlainPrefix, KeepsFits, Keeps, StandsNot, SticksBefore}
-use Rattle.iri_robots.proofs.Moves.{suffix_split, suffix_trans, fits_star, star_fits, same_prefix, fits_prefix, FitsPrefix, by_same, by_escape}
+use Rattle.memchr.specs.Find.{OccursAt, FindsNeedle}
+use Rattle.iri_robots.specs.inside.Fits.{Fits, IsSuffix, whole, later, FitsNot, NoEscape}
+use Rattle.iri_robots.specs.inside.Plain.{IsPlainAt, HasPlainPrefix, KeepsFits, Keeps}
+use Rattle.iri_robots.proofs.Moves.{suffix_split, suffix_trans, fits_star, star_fits, same_prefix}
 
 -- ---- what is left of a text
 
@@ -131,49 +131,6 @@ kept_both a q s s' s'' h k =
     let n = k.within in
     record { fits = (λ f. k.fits.0 (h.fits.0 f), λ f. h.fits.1 (k.fits.1 f)); within = omega arith }
 
-pub not_kept : (a : Bool) (q s s' : List ℕ) → KeepsFits a q s s' → FitsNot a (42 ∷ q) s' → FitsNot a (42 ∷ q) s
-not_kept a q s s' h k = record { none = λ f. k.none (h.fits.0 f) }
-
--- ---- the end of an anchored pattern
-
-pub no_more_bytes : (q s : List ℕ) → ((k : ℕ) → k < length q → slice_index q k ≢ 42) → Fits true q s → length s ≤ length q
-no_more_bytes q s n (ended s' h) = omega (arith, ap length (h refl))
-no_more_bytes q s n (star t q' s' f) = absurd (n 0 (omega arith) refl)
-no_more_bytes q s n (escaped l m q' s' e f) = let k = no_more_bytes q' s' (λ j i. n (suc (suc (suc j))) (omega arith)) f in omega arith
-no_more_bytes q s n (same c q' s' h f) = let k = no_more_bytes q' s' (λ j i. n (suc j) (omega arith)) f in omega arith
-
-end_onward : (q s : List ℕ) (i : ℕ) → i + length q ≤ length s → ((k : ℕ) → k < length q → slice_index q k ≢ 42) → Fits true (42 ∷ q) s
-    → Fits true (42 ∷ q) (drop i s)
-end_onward q s i l n f =
-    let k = fits_star true q s f in
-    let t = suffix_split k.rest s k.is_suffix in
-    let m = no_more_bytes q k.rest n k.fits in
-    let w = ap length t.1 ∙ length-append t.0 k.rest in
-    star_fits true q k.rest (drop i s) (left_over t.0 k.rest s i t.1 (omega arith)) k.fits
-
-pub end_kept : (q s rest : List ℕ) (i : ℕ) → i + length q ≤ length s → ((k : ℕ) → k < length q → slice_index q k ≢ 42) → rest ≡ drop i s
-    → KeepsFits true q s rest
-end_kept q s rest i l n e =
-    let w = ap length e ∙ length-drop i s in
-    record {
-      fits = subst (λ x. Fits true (42 ∷ q) s ↔ Fits true (42 ∷ q) x) (sym e) (
-        end_onward q s i l n,
-        star_later true q (drop i s) s (drop_suffix
-            i s),
-      );
-      within = omega arith;
-    }
-
-pub no_star_at : (q : List ℕ) → IsFirstByte (is_byte 42) q None → (k : ℕ) → k < length q → slice_index q k ≢ 42
-no_star_at q h k l e = h k (omega arith) l (eq-eqb (slice_index q k) 42 e)
-
-pub end_for : (a : Bool) (q s rest : List ℕ) (r : Option ℕ) → a ≡ true → length q < length s → is_some r ≡ false → IsFirstByte (is_byte 42) q r
-    → rest ≡ drop (length s - length q) s → KeepsFits a q s rest
-end_for a q s rest None t l n h e =
-    let w : length s - length q + length q ≤ length s = omega arith in
-    subst (λ x. KeepsFits x q s rest) (sym t) (end_kept q s rest (length s - length q) w (no_star_at q h) e)
-end_for a q s rest (Some k) t l n h e = cc
-
 -- ---- no place is left
 
 suffix_nil : (r : List ℕ) → IsSuffix r [] → r ≡ []
@@ -185,122 +142,5 @@ nothing_left a q [] n h = record {
 }
 nothing_left a q (x ∷ s) n h = let k = eqb-true (length (x ∷ s)) 0 h in absurd (omega arith)
 
-pub found_stands : (q s rest : List ℕ) (n i : ℕ) → HasPlainPrefix q n → FindsNeedle s (take n q) 0 (Some i) → rest ≡ drop i s
-    → Keeps q s rest × (n ≤ length rest)
-found_stands q s rest n i h m e =
-    let k = length-take-le n q h.within in
-    let o = m.1.fits in
-    let l = ap length e ∙ length-drop i s in
-    (λ a. prefix_found a q s rest n i h m e, omega arith)
-
--- ---- the escape after a plain prefix
-
-fits_past : (a : Bool) (q s : List ℕ) (n : ℕ) → ((k : ℕ) → k < n → IsPlainAt q k) → n ≤ length q → Fits a q s → Fits a (drop n q) (drop n s)
-fits_past a q s zero h l f = f
-fits_past a [] s (suc n) h l f = absurd (omega arith)
-fits_past a (c ∷ q) s (suc n) h l f =
-    let p = h 0 (omega arith) in
-    let k = same_prefix a c q s p.no_star p.no_escape f in
-    let i = fits_past a q k.0 n (λ j m. let r = h (suc j) (omega arith) in record { no_star = r.no_star; no_escape = r.no_escape }) (omega arith) k.2 in
-    subst (λ x. Fits a (drop n q) (drop (suc n) x)) (sym k.1) i
-
-no_text : (a : Bool) (c : ℕ) (q : List ℕ) → FitsPrefix a c q [] → ⊥
-no_text a c q (by_same t e f) = cc
-no_text a c q (by_escape l m q' t e p h g f) = cc
-
-escape_wants : (a : Bool) (q : List ℕ) (m : ℕ) → EscapeOf q m → Fits a q [] → ⊥
-escape_wants a q m e f =
-    let g = subst (λ x. Fits a x []) e.text f in
-    no_text a 37 (50 ∷ e.letter ∷ e.rest) (fits_prefix a 37 (50 ∷ e.letter ∷ e.rest) [] (λ h. omega arith) g)
-
-drop_empty : (n : ℕ) (s : List ℕ) → s ≡ [] → drop n s ≡ s
-drop_empty zero s e = refl
-drop_empty (suc n) [] e = refl
-drop_empty (suc n) (x ∷ s) e = cc
-
-drop_one : (n j : ℕ) (s : List ℕ) → drop (suc n) (drop j s) ≡ drop n (drop (suc j) s)
-drop_one n zero [] = sym (drop_empty n [] refl)
-drop_one n zero (x ∷ s) = refl
-drop_one n (suc j) [] = sym (drop_empty n [] refl)
-drop_one n (suc j) (x ∷ s) = drop_one n j s
-
-drop_swap : (j n : ℕ) (s : List ℕ) → drop j (drop n s) ≡ drop n (drop j s)
-drop_swap zero n s = refl
-drop_swap (suc j) zero s = refl
-drop_swap (suc j) (suc n) [] = refl
-drop_swap (suc j) (suc n) (x ∷ s) = drop_swap (suc j) n s ∙ sym (drop_one n j s)
-
--- where what follows the plain prefix fits, after so much of the text
-past_prefix : (a : Bool) (q t r s : List ℕ) (n : ℕ) → HasPlainPrefix q n → s ≡ t ++ r → Fits a q r
-    → Fits a (drop n q) (drop (length t) (drop n s))
-past_prefix a q t r s n h e f =
-    let g = fits_past a q r n h.plain h.within f in
-    let k : drop (length t) s ≡ r = ap (λ x. drop (length t) x) e ∙ drop-append_seam t r in
-    let w : n + length t ≡ length t + n = omega arith in
-    let d : drop (length t) (drop n s) ≡ drop n r = drop_swap (length t) n s ∙ ap (λ x. drop n x) k in
-    subst (λ x. Fits a (drop n q) x) (sym d) g
-
-escape_onward : (a : Bool) (q s : List ℕ) (n i : ℕ) → HasPlainPrefix q n → SticksBefore (drop n q) (drop n s) i → Fits a (42 ∷ q) s
-    → Fits a (42 ∷ q) (drop i s)
-escape_onward a q s n i h m f =
-    let k = fits_star a q s f in
-    let t = suffix_split k.rest s k.is_suffix in
-    let o = past_prefix a q t.0 k.rest s n h t.1 k.fits in
-    let l : i ≤ length t.0 = ⊎_elim (λ y. absurd ((m.sticks (length t.0) y a).none o)) (λ y. y) (cases_lt (length t.0) i) in
-    star_fits a q k.rest (drop i s) (left_over t.0 k.rest s i t.1 l) k.fits
-
-pub escape_kept : (q s rest : List ℕ) (n i : ℕ) → HasPlainPrefix q n → SticksBefore (drop n q) (drop n s) i → rest ≡ drop i s → Keeps q s rest
-escape_kept q s rest n i h m e a =
-    let l = ap length e ∙ length-drop i s in
-    record {
-      fits = subst (λ x. Fits a (42 ∷ q) s ↔ Fits a (42 ∷ q) x) (sym e) (
-        escape_onward a q s n i h m,
-        star_later a q (drop i s) s (drop_suffix
-            i s),
-      );
-      within = omega arith;
-    }
-
-pub escape_missing : (q s : List ℕ) (n m : ℕ) → HasPlainPrefix q n → EscapeOf (drop n q) m
-    → SticksBefore (drop n q) (drop n s) (length (drop n s)) → StandsNot q s
-escape_missing q s n m h e b a = record {
-  none = λ f.
-      let k = fits_star a q s f in
-      let t = suffix_split k.rest s k.is_suffix in
-      let o = past_prefix a q t.0 k.rest s n h t.1 k.fits in
-      ⊎_elim (λ y. (b.sticks (length t.0) y a).none o) (λ y. escape_wants a (drop n q) m e (subst (λ x. Fits a (drop n q) x) (drop_all (length
-      t.0) (drop n s) y) o)) (cases_lt (length t.0) (length (drop n s)));
-}
-
-pub sticks_none : (q s : List ℕ) → SticksBefore q s 0
-sticks_none q s = record { within = omega arith; sticks = λ k l. absurd (omega arith) }
-
-pub sticks_more : (q s r : List ℕ) (i : ℕ) → SticksBefore q s i → i < length s → r ≡ drop i s → Sticks q r → SticksBefore q s (i + 1)
-sticks_more q s r i h l e k =
-    let here : Sticks q (drop i s) = subst (λ x. Sticks q x) e k in
-    record {
-      within = omega arith;
-      sticks = λ j m. ⊎_elim (λ y. h.sticks j y) (λ y. let w : i ≡ j = omega arith in subst (λ x. Sticks q (drop x s)) w here) (cases_lt j i);
-    }
-
-pub sticks_all : (q s : List ℕ) (i : ℕ) → SticksBefore q s i → length s ≤ i → SticksBefore q s (length s)
-sticks_all q s i h l = record { within = omega arith; sticks = λ k m. h.sticks k (omega arith) }
-
--- ---- the same at the parts of pattern and text that the code takes
-
-pub missing_at : (q s q' s' : List ℕ) (n m : ℕ) → HasPlainPrefix q n → EscapeOf (drop n q) m → q' ≡ drop n q → s' ≡ drop n s
-    → SticksBefore q' s' (length s') → StandsNot q s
-missing_at q s q' s' n m h e d k b =
-    escape_missing q s n m h e (subst (λ x. SticksBefore x (drop n s) (length (drop n s))) d (subst (λ x. SticksBefore q' x (length x)) k b))
-
-pub kept_at : (q s q' s' rest : List ℕ) (n i : ℕ) → HasPlainPrefix q n → q' ≡ drop n q → s' ≡ drop n s → SticksBefore q' s' i
-    → rest ≡ drop i s → Keeps q s rest
-kept_at q s q' s' rest n i h d k b e =
-    escape_kept q s rest n i h (subst (λ x. SticksBefore x (drop n s) i) d (subst (λ x. SticksBefore q' x i) k b)) e
-
-pub smaller_at : (s s' t rest : List ℕ) (n i : ℕ) → s' ≡ drop n s → i ≤ length s' → i ≢ 0 → length s ≤ length t → rest ≡ drop i s
-    → length rest < length t
-smaller_at s s' t rest n i k l m w e =
-    let a = ap length k ∙ length-drop n s in
-    let b = ap length e ∙ length-drop i s in
-    omega arith
+pub found_stands : (q s rest : List ℕ) (n i : ℕ) → HasPlainPrefix q n → FindsNeedle s (take n q) 0 (Some i) → rest ≡ drop i s → Keeps q s rest
+found_stands q s rest n i h m e a = prefix_found a q s rest n i h m e

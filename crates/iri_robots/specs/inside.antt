@@ -7,3 +7,6 @@ pub mod BestRule
 pub mod Prefixes
 pub mod EscapeScans
 pub mod RulesLeft
+pub mod Periods
+pub mod Escaped
+pub mod Ends

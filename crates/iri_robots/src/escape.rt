@@ -90,7 +90,7 @@ fn read_written(scan: Scan, written: Written<'_>) -> Option<Scan>
 }
 
 // Whether the compared form of a pattern has more escapes than so many. A search takes no more time than the lengths of
-// pattern and text as many times as it has escapes, and once more.
+// pattern and text as many times as it has escapes, and once more, and that only where it has both `$` and `%24`.
 pub(crate) fn has_more_escapes(pattern: &[u8], most: usize) -> bool
     ensures { result ≡ nat_lt most (escapes (compared pattern.now)) }
 {

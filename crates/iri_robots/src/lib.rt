@@ -22,18 +22,22 @@
 //!
 //! Not proved: that memory is allocated, so that a `feed_line` of a record or a `subject_of` that always answered
 //! `AllocError`, and a `new` that answered `Memory` to each product token, would keep their contracts; tests show that
-//! each succeeds with ample memory. How long a search takes: what stands between two `*` is searched for its prefix up
-//! to its first `%2A` or `%24`, and for that escape, so a match takes time in the lengths of pattern and text, times
-//! one more than the pattern's escapes (each `%2A`, `%24` and `$`) at worst. `feed_line_within` bounds these for a file
-//! that nobody vouches for. The words of the errors' `Display`, which `thiserror` makes and a test reads, and the text
-//! of their `Debug`. The file is neither fetched nor kept, and lines are not cut out of it here.
+//! each succeeds with ample memory. How long a search takes. What stands between two `*` is found at
+//! its leftmost place, and what a `$` anchors is compared from the end, so a match takes time in the lengths of pattern
+//! and text. Only where both `$` and `%24` stand between two `*` it may take these times one more than the pattern's
+//! escapes (each `%2A`, `%24` and `$`): `feed_line_within` bounds these for a file that nobody vouches for. The words of
+//! the errors' `Display`, which `thiserror` makes and a test reads, and the text of their `Debug`. The file is neither
+//! fetched nor kept, and lines are not cut out of it here.
 #![tactic(auto)]
 
 mod compared;
 mod escape;
+mod escaped;
 pub mod laws;
 mod line;
+mod needle;
 mod pattern;
+mod periods;
 mod record;
 mod robots;
 mod rule;

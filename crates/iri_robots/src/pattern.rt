@@ -1,12 +1,14 @@
-// Patterns of rules. What stands between two `*` is found at its leftmost place by a search for its prefix up to the
-// first escape, and for that escape. Where it has no escape, the search goes through pattern and text once.
+// Patterns of rules. What stands between two `*` is found at its leftmost place: plain bytes by `memmem`, and what has
+// an escape by a search of its own. What a `$` anchors is compared from the end.
 ghost use Rattle.std.specs.Prelude.{◌≡◌, ◌≢◌, ◌↔◌, ◌<◌, ◌≤◌, ◌∷◌, true, MatchOption, length, drop, slice_index};
 ghost use Rattle.iri_grammar.specs.Characters.{asterisk};
 ghost use Rattle.iri_robots.specs.Patterns.{Matches};
 ghost use Rattle.iri_robots.specs.inside.Reaching.{HasReached};
 ghost use Rattle.iri_robots.specs.inside.Fits.{EscapeOf, NoEscape, Fits, FitsNot, Sticks, Takes};
-ghost use Rattle.iri_robots.specs.inside.Plain.{HasPlainPrefix, KeepsFits, Keeps, StandsNot, SticksBefore};
+ghost use Rattle.iri_robots.specs.inside.Plain.{HasPlainPrefix, Keeps, StandsNot};
+ghost use Rattle.iri_robots.specs.inside.Ends.{EndsWith, HasLastEscape, HasNoStar};
 
+use crate::needle::from_needle;
 use memchr::{memchr, memmem};
 
 // So much of the pattern is filled by so much of the text.
@@ -27,7 +29,7 @@ enum Reached<'a> {
 }
 
 // The character that an escape at the start of the pattern stands for.
-fn escaped_special(pattern: &[u8]) -> Option<u8>
+pub(crate) fn escaped_special(pattern: &[u8]) -> Option<u8>
     ensures { MatchOption result (NoEscape pattern.now) (λ m. EscapeOf pattern.now m) }
 {
     if pattern.len() < 3 || pattern[0] != b'%' || pattern[1] != b'2' {
@@ -105,12 +107,13 @@ fn reach_star<'a>(pattern: &'a [u8], text: &'a [u8], anchored: bool) -> Reached<
     }
 }
 
-// How many bytes of the pattern, from its start on, are no `*` and begin no escape, but for those past so many.
+// How many bytes of the pattern, from its start on, are no `*` and begin no escape, but for those past one more than so
+// many.
 fn plain_len(pattern: &[u8], most: usize) -> usize
     ensures { HasPlainPrefix pattern.now result }
 {
     let mut len = 0;
-    while len < most && len < pattern.len() {
+    while len <= most && len < pattern.len() {
         if pattern[len] == b'*' || escaped_special(&pattern[len..]).is_some() {
             return len;
         }
@@ -119,21 +122,10 @@ fn plain_len(pattern: &[u8], most: usize) -> usize
     len
 }
 
-// What an anchored pattern without `*` can fill up to the end of the text: no more bytes than it has itself.
-fn end_of<'a>(pattern: &[u8], text: &'a [u8], anchored: bool) -> &'a [u8]
-    ensures { KeepsFits anchored pattern.now text.now result.now }
-{
-    if !anchored || text.len() <= pattern.len() || memchr(b'*', pattern).is_some() {
-        return text;
-    }
-    &text[text.len() - pattern.len()..]
-}
-
 // The text from the leftmost place on where so many plain bytes stand that the pattern begins with.
 fn from_plain<'a>(pattern: &[u8], plain: usize, text: &'a [u8]) -> Option<&'a [u8]>
     requires { HasPlainPrefix pattern.now plain }
-    ensures { MatchOption result (StandsNot pattern.now text.now)
-        (λ rest. Keeps pattern.now text.now rest.now × (plain ≤ length rest.now)) }
+    ensures { MatchOption result (StandsNot pattern.now text.now) (λ rest. Keeps pattern.now text.now rest.now) }
 {
     match memmem::find(text, &pattern[..plain]) {
         Some(place) => Some(&text[place..]),
@@ -141,51 +133,75 @@ fn from_plain<'a>(pattern: &[u8], plain: usize, text: &'a [u8]) -> Option<&'a [u
     }
 }
 
-// The leftmost place in the text where the escape is filled that the pattern begins with.
-fn escape_place(pattern: &[u8], text: &[u8], special: u8) -> Option<usize>
-    requires { EscapeOf pattern.now special }
-    ensures { MatchOption result (SticksBefore pattern.now text.now (length text.now))
-        (λ i. SticksBefore pattern.now text.now i) }
-{
-    let mut place = 0;
-    while place < text.len() {
-        if take_escape(pattern, &text[place..], special).is_some() {
-            return Some(place);
-        }
-        place += 1;
-    }
-    None
-}
-
-// The text from the leftmost place on where so many plain bytes and the escape after them stand.
-fn from_escape<'a>(pattern: &[u8], plain: usize, special: u8, text: &'a [u8]) -> Option<&'a [u8]>
-    requires { HasPlainPrefix pattern.now plain × EscapeOf (drop plain pattern.now) special }
-    ensures { MatchOption result (StandsNot pattern.now text.now) (λ rest. Keeps pattern.now text.now rest.now) }
-{
-    let mut text = text;
-    while let Some(found) = from_plain(pattern, plain, text) {
-        let Some(place) = escape_place(&pattern[plain..], &found[plain..], special) else {
-            return None;
-        };
-        if place == 0 {
-            return Some(found);
-        }
-        text = &found[place..];
-    }
-    None
-}
-
-// The text from the leftmost place on where the pattern may stand: its plain prefix, and the escape after it, stand
-// there.
+// The text from the leftmost place on where the pattern up to its first `*` may stand.
 fn from_prefix<'a>(pattern: &[u8], text: &'a [u8]) -> Option<&'a [u8]>
     ensures { MatchOption result (StandsNot pattern.now text.now) (λ rest. Keeps pattern.now text.now rest.now) }
 {
     // More than the text has can't stand in it: a short link doesn't pay for a long pattern.
     let plain = plain_len(pattern, text.len());
     match escaped_special(&pattern[plain..]) {
-        Some(special) => from_escape(pattern, plain, special, text),
+        Some(_) => from_needle(pattern, text),
         None => from_plain(pattern, plain, text),
     }
+}
+
+// The pattern ends with the escape of this special character.
+fn has_last_escape(pattern: &[u8], special: u8) -> bool
+    ensures { (result ≡ true) ↔ HasLastEscape pattern.now special }
+{
+    if pattern.len() < 3 {
+        return false;
+    }
+    match escaped_special(&pattern[pattern.len() - 3..]) {
+        Some(last) => last == special,
+        None => false,
+    }
+}
+
+// What of a pattern without `*` the last byte of the text fills, where the pattern ends with it.
+fn take_last(pattern: &[u8], text: &[u8]) -> Option<usize>
+    requires { (0 < length pattern.now) × HasNoStar pattern.now }
+    ensures { MatchOption result (FitsNot true (asterisk ∷ pattern.now) text.now) (λ n. EndsWith pattern.now text.now n) }
+{
+    let Some((byte, _)) = text.split_last() else {
+        return None;
+    };
+    if has_last_escape(pattern, *byte) {
+        return Some(3);
+    }
+    if *byte != pattern[pattern.len() - 1] {
+        return None;
+    }
+    Some(1)
+}
+
+// A pattern without `*` is filled at the end of the text.
+fn fits_at_end(pattern: &[u8], text: &[u8]) -> bool
+    requires { HasNoStar pattern.now }
+    ensures { (result ≡ true) ↔ Fits true (asterisk ∷ pattern.now) text.now }
+{
+    let mut pattern = pattern;
+    let mut text = text;
+    while !pattern.is_empty() {
+        match take_last(pattern, text) {
+            Some(taken) => {
+                pattern = &pattern[..pattern.len() - taken];
+                text = &text[..text.len() - 1];
+            }
+            None => return false,
+        }
+    }
+    true
+}
+
+// The pattern is anchored and has no `*`.
+fn is_last(pattern: &[u8], anchored: bool) -> bool
+    ensures { result ≡ true → (anchored ≡ true) × HasNoStar pattern.now }
+{
+    if !anchored {
+        return false;
+    }
+    memchr(b'*', pattern).is_none()
 }
 
 // What follows a `*`: it stands somewhere in the text.
@@ -193,13 +209,19 @@ fn fits_after_star(pattern: &[u8], text: &[u8], anchored: bool) -> bool
     ensures { (result ≡ true) ↔ Fits anchored (asterisk ∷ pattern.now) text.now }
 {
     let mut pattern = pattern;
-    let mut text = end_of(pattern, text, anchored);
-    while let Some(found) = from_prefix(pattern, text) {
+    let mut text = text;
+    loop {
+        if is_last(pattern, anchored) {
+            return fits_at_end(pattern, text);
+        }
+        let Some(found) = from_prefix(pattern, text) else {
+            return false;
+        };
         match reach_star(pattern, found, anchored) {
             Reached::End => return true,
             Reached::Star(rest, place) => {
                 pattern = rest;
-                text = end_of(rest, place, anchored);
+                text = place;
             }
             Reached::Nowhere => {
                 if found.is_empty() {
@@ -209,7 +231,6 @@ fn fits_after_star(pattern: &[u8], text: &[u8], anchored: bool) -> bool
             }
         }
     }
-    false
 }
 
 // The text, or where the pattern isn't anchored a prefix of it, is a filling of the pattern.

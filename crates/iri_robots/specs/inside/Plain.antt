@@ -1,7 +1,7 @@
 -- The prefix of a pattern that has no escape, and where it stands in a text.
 use Rattle.std.specs.Prelude.{◌≢◌, ◌↔◌, ℕ, ◌<◌, ◌≤◌, Bool, List, ◌∷◌, length, drop, slice_index}
 use Rattle.iri_grammar.specs.Characters.{asterisk}
-use Rattle.iri_robots.specs.inside.Fits.{Fits, NoEscape, FitsNot, Sticks}
+use Rattle.iri_robots.specs.inside.Fits.{Fits, NoEscape, FitsNot}
 
 -- no `*` and no escape begins there in the pattern
 pub record IsPlainAt (q : List ℕ) (k : ℕ) : Type 0 where
@@ -25,8 +25,3 @@ Keeps q s rest = (anchored : Bool) → KeepsFits anchored q s rest
 -- the pattern stands nowhere in the text, anchored or not
 abbrev pub StandsNot : List ℕ → List ℕ → Type 0
 StandsNot q s = (anchored : Bool) → FitsNot anchored (asterisk ∷ q) s
-
--- the pattern fits at none of the first i places, which lie in the text
-pub record SticksBefore (q s : List ℕ) (i : ℕ) : Type 0 where
-  pub within : i ≤ length s
-  pub sticks : (k : ℕ) → k < i → Sticks q (drop k s)

@@ -1,8 +1,8 @@
 use Rattle.iri_robots.proofs.Common.{◌↔◌, ◌+◌, ◌∷◌, length, Fits}
 use Rattle.iri_robots.proofs.pattern.fits_after_star.Given as goal
 
-abbrev pub invariant-loop-found : goal.invariant-loop-found
-invariant-loop-found l = Fits l.anchored (42 ∷ l.fn.pattern) l.fn.text ↔ Fits l.anchored (42 ∷ l.pattern) l.text
+abbrev pub invariant-loop-pattern : goal.invariant-loop-pattern
+invariant-loop-pattern l = Fits l.anchored (42 ∷ l.fn.pattern) l.fn.text ↔ Fits l.anchored (42 ∷ l.pattern) l.text
 
-abbrev pub decreases-loop-found : goal.decreases-loop-found
-decreases-loop-found l = length l.pattern + length l.text
+abbrev pub decreases-loop-pattern : goal.decreases-loop-pattern
+decreases-loop-pattern l = length l.pattern + length l.text
