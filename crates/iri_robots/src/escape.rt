@@ -1,5 +1,5 @@
 // How many escapes the compared form of a pattern has: `%2A`, `%24` and `$`. It is read byte by byte and not kept, so
-// that no memory is taken.
+// that nothing is allocated.
 ghost use Rattle.std.specs.Prelude.{◌≡◌, ◌∷◌, [], nat_lt};
 ghost use Rattle.iri_robots.specs.Compared.{compared};
 ghost use Rattle.iri_robots.specs.Patterns.{escapes};

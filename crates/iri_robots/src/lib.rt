@@ -18,7 +18,7 @@
 //! there is. A pattern matches exactly
 //! where the text, or without a `$` at its end a prefix of it, is a filling of the pattern. The verdict is allow
 //! exactly where the text is `/robots.txt`, where no rule for the token matches, or where an allow rule is among the
-//! longest that match; it takes no memory.
+//! longest that match; it allocates nothing.
 //!
 //! Not proved: that memory is allocated, so that a `feed_line` of a record or a `subject_of` that always answered
 //! `AllocError`, and a `new` that answered `Memory` to each product token, would keep their contracts; tests show that

@@ -140,7 +140,13 @@ fn from_prefix<'a>(pattern: &[u8], text: &'a [u8]) -> Option<&'a [u8]>
     // More than the text has can't stand in it: a short link doesn't pay for a long pattern.
     let plain = plain_len(pattern, text.len());
     match escaped_special(&pattern[plain..]) {
-        Some(_) => from_needle(pattern, text),
+        Some(special) => {
+            // A needle would end before this `%24`, since the `$` before it is read as it is.
+            if special == b'$' && memchr(b'$', &pattern[..plain]).is_some() {
+                return from_plain(pattern, plain, text);
+            }
+            from_needle(pattern, text)
+        }
         None => from_plain(pattern, plain, text),
     }
 }
@@ -246,7 +252,7 @@ fn fits(pattern: &[u8], text: &[u8], anchored: bool) -> bool
 
 /// Whether the pattern matches the text (RFC 9309 sections 2.2.2 and 2.2.3): the text, or where no `$` ends the pattern
 /// a prefix of it, is the pattern with some text for each `*`. `%2A` and `%24` match `*` and `$` too. An empty pattern
-/// matches nothing. It takes no memory.
+/// matches nothing. It allocates nothing.
 ///
 /// ```
 /// use iri::robots::matches;

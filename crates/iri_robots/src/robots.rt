@@ -221,7 +221,7 @@ impl Robots {
 
     /// What the lines so far say of a text, as a rule: that of the longest pattern in bytes that matches, and of an
     /// allow rule where patterns are equally long. The path of the robots file itself, and what no rule matches, is
-    /// allowed (RFC 9309 section 2.2.2). It takes no memory.
+    /// allowed (RFC 9309 section 2.2.2). It allocates nothing.
     pub fn verdict(&self, subject: &str) -> Verdict
         ensures { (result ≡ Verdict.Allow)
             ↔ IsAllowed (rules_for (string_bytes self.now.token) (record_texts self.now.records.items)) subject.now }

@@ -132,7 +132,7 @@ fn best_in(lines: &[u8], text: &[u8]) -> Option<Best>
 }
 
 /// What the rules of lines say of a text, as [`Robots::verdict`]: over the lines that [`rule_lines`] writes it is what
-/// the robots file says for that crawler. It takes no memory.
+/// the robots file says for that crawler. It allocates nothing.
 ///
 /// ```
 /// use iri::robots::{Verdict, lines_verdict};

@@ -57,7 +57,7 @@ pub fn subject_of<S: Spec>(alloc: Global, target: RiStr<'_, S>) -> Result<Text, 
     subject_of_split(alloc, &SplitView::of(target))
 }
 
-/// The same of a target that was split into its parts before.
+/// What of a target the rules speak of, as [`subject_of`], where the target was split into its parts before.
 ///
 /// # Errors
 ///
