@@ -1,6 +1,6 @@
 -- The units of a text (RFC 3986 sections 2.1 and 6.2.2.2, RFC 3987 section 5.3.2.3). A text is the list of its bytes.
-use Rattle.std.specs.Prelude.{◌≡◌, ℕ, zero, suc, ◌+◌, ◌*◌, ◌-◌, Bool, true, false, cond, ◌&&◌, ◌==◌, List, [], ◌∷◌, Option, Some, None, length}
-use Rattle.std.specs.Prelude.{take}
+use Rattle.std.specs.Prelude.{◌≡◌, ℕ, zero, suc, ◌+◌, ◌*◌, ◌-◌, Bool, true, false, cond, ◌&&◌, ◌==◌, List, [], ◌∷◌, Option, Some, None}
+use Rattle.std.specs.Prelude.{length, take}
 use Rattle.std.specs.Char.{is_ascii_hexdigit, digit_value, len_utf8, encode_utf8}
 use Rattle.std.specs.Str.{chars}
 use lib.Utf8.{scalar}
