@@ -14,25 +14,31 @@ pub trait MappedKind: Kind {
 }
 
 impl MappedKind for Reference {
+    #[tactic(auto, using(crate::proofs::mapping::Productions::reference_maps))]
     fn mapped_is_valid() {}
 }
 
 impl MappedKind for Iri {
+    #[tactic(auto, using(crate::proofs::mapping::Productions::iri_maps))]
     fn mapped_is_valid() {}
 }
 
 impl MappedKind for Absolute {
+    #[tactic(auto, using(crate::proofs::mapping::Productions::absolute_maps))]
     fn mapped_is_valid() {}
 }
 
 impl MappedKind for Relative {
+    #[tactic(auto, using(crate::proofs::mapping::Productions::relative_maps))]
     fn mapped_is_valid() {}
 }
 
 impl MappedKind for Query {
+    #[tactic(auto, using(crate::proofs::mapping::Productions::query_maps))]
     fn mapped_is_valid() {}
 }
 
 impl MappedKind for Fragment {
+    #[tactic(auto, using(crate::proofs::mapping::Productions::fragment_maps))]
     fn mapped_is_valid() {}
 }

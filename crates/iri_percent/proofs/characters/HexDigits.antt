@@ -24,27 +24,22 @@ second false q e h = cc
 is_digit : (b : ℕ) → b < 256 → get_or VALUES b 0 < 64 → is_ascii_hexdigit b ≡ true
 is_digit b h l = sym (agree_below_at is_value is_ascii_hexdigit 256 b values h) ∙ lt-ltb (get_or VALUES b 0) 64 l
 
+pub value_here : (b n : ℕ) → b ≡ n → b < 256 → is_ascii_hexdigit b ≡ true → get_or VALUES n 0 % 16 ≡ digit_value b
+value_here b n e l h = subst (λ m. get_or VALUES m 0 % 16 ≡ digit_value b) e
+    (eqb-true (get_or VALUES b 0 % 16) (digit_value b) (second (is_ascii_hexdigit b) (nat_eq (get_or VALUES b 0 % 16) (digit_value b)) h
+    (agree_below_at is_right (λ _. true) 256 b right l)))
+
 -- a digit
 pub digit_here : (b n : ℕ) → b ≡ n → b < 256 → get_or VALUES n 0 < 64
     → (is_ascii_hexdigit b ≡ true) × (get_or VALUES n 0 % 16 ≡ digit_value b) × (get_or VALUES n 0 % 16 < 16)
-digit_here b n e h = subst (λ m. get_or VALUES m 0 < 64
-    → (is_ascii_hexdigit b ≡ true) × (get_or VALUES m 0 % 16 ≡ digit_value b) × (get_or VALUES m 0 % 16 < 16)) e
-    (λ l. (
-      is_digit b h l,
-      eqb-true (get_or VALUES b 0 % 16) (digit_value b) (second (is_ascii_hexdigit b) (nat_eq (get_or VALUES b 0 % 16) (digit_value b))
-          (is_digit b h l) (agree_below_at is_right (λ _. true) 256 b right h)),
-      mod_below (get_or VALUES b 0) 16 (omega arith),
-    ))
+digit_here b n e h l =
+    let d = is_digit b h (subst (λ m. get_or VALUES m 0 < 64) (sym e) l) in
+    (d, value_here b n e h d, mod_below (get_or VALUES n 0) 16 (omega arith))
 
 -- no digit
 pub none_here : (b n : ℕ) → b ≡ n → b < 256 → 64 ≤ get_or VALUES n 0 → is_ascii_hexdigit b ≡ false
 none_here b n e h = subst (λ m. 64 ≤ get_or VALUES m 0 → is_ascii_hexdigit b ≡ false) e
     (λ l. sym (agree_below_at is_value is_ascii_hexdigit 256 b values h) ∙ le-ltb (get_or VALUES b 0) 64 l)
-
-pub value_here : (b n : ℕ) → b ≡ n → b < 256 → is_ascii_hexdigit b ≡ true → get_or VALUES n 0 % 16 ≡ digit_value b
-value_here b n e l h = subst (λ m. get_or VALUES m 0 % 16 ≡ digit_value b) e
-    (eqb-true (get_or VALUES b 0 % 16) (digit_value b) (second (is_ascii_hexdigit b) (nat_eq (get_or VALUES b 0 % 16) (digit_value b)) h
-    (agree_below_at is_right (λ _. true) 256 b right l)))
 
 -- ---- the capital form
 abbrev is_capital : ℕ → Bool

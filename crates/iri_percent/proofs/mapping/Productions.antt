@@ -211,21 +211,21 @@ mapped-split s t k h = split_is uri_tests (mapped t) (mapped_parts h.0) uri-spec
     ∙ ap mapped_parts (sym (split_is s t h.0 k h.1))
 
 -- ---- what has no fault has none, mapped
-pub reference-maps : (s : Tests) → IsSpec s → (t : List ℕ) → reference_fault s t ≡ None → reference_fault uri_tests (mapped t) ≡ None
-reference-maps s k t h = (reference-law uri_tests uri-spec (mapped t)).1 (mapped-reference s t k ((reference-law s k t).0 h))
+pub reference_maps : (s : Tests) → IsSpec s → (t : List ℕ) → reference_fault s t ≡ None → reference_fault uri_tests (mapped t) ≡ None
+reference_maps s k t h = (reference-law uri_tests uri-spec (mapped t)).1 (mapped-reference s t k ((reference-law s k t).0 h))
 
-pub iri-maps : (s : Tests) → IsSpec s → (t : List ℕ) → iri_fault s t ≡ None → iri_fault uri_tests (mapped t) ≡ None
-iri-maps s k t h = (iri-law uri_tests uri-spec (mapped t)).1 (mapped-iri s t k ((iri-law s k t).0 h))
+pub iri_maps : (s : Tests) → IsSpec s → (t : List ℕ) → iri_fault s t ≡ None → iri_fault uri_tests (mapped t) ≡ None
+iri_maps s k t h = (iri-law uri_tests uri-spec (mapped t)).1 (mapped-iri s t k ((iri-law s k t).0 h))
 
-pub absolute-maps : (s : Tests) → IsSpec s → (t : List ℕ) → absolute_fault s t ≡ None → absolute_fault uri_tests (mapped t) ≡ None
-absolute-maps s k t h = (absolute-law uri_tests uri-spec (mapped t)).1 (mapped-absolute s t k ((absolute-law s k t).0 h))
+pub absolute_maps : (s : Tests) → IsSpec s → (t : List ℕ) → absolute_fault s t ≡ None → absolute_fault uri_tests (mapped t) ≡ None
+absolute_maps s k t h = (absolute-law uri_tests uri-spec (mapped t)).1 (mapped-absolute s t k ((absolute-law s k t).0 h))
 
-pub relative-maps : (s : Tests) → IsSpec s → (t : List ℕ) → relative_fault s t ≡ None → relative_fault uri_tests (mapped t) ≡ None
-relative-maps s k t h = (relative-law uri_tests uri-spec (mapped t)).1 (mapped-relative s t k ((relative-law s k t).0 h))
+pub relative_maps : (s : Tests) → IsSpec s → (t : List ℕ) → relative_fault s t ≡ None → relative_fault uri_tests (mapped t) ≡ None
+relative_maps s k t h = (relative-law uri_tests uri-spec (mapped t)).1 (mapped-relative s t k ((relative-law s k t).0 h))
 
-pub query-maps : (s : Tests) → IsSpec s → (t : List ℕ) → query_fault s t ≡ None → query_fault uri_tests (mapped t) ≡ None
-query-maps s k t h = no_fault (is_query uri_tests (mapped t)) InvalidQuery (mapped-query s t k (passed (is_query s t) InvalidQuery h))
+pub query_maps : (s : Tests) → IsSpec s → (t : List ℕ) → query_fault s t ≡ None → query_fault uri_tests (mapped t) ≡ None
+query_maps s k t h = no_fault (is_query uri_tests (mapped t)) InvalidQuery (mapped-query s t k (passed (is_query s t) InvalidQuery h))
 
-pub fragment-maps : (s : Tests) → IsSpec s → (t : List ℕ) → fragment_fault s t ≡ None → fragment_fault uri_tests (mapped t) ≡ None
-fragment-maps s k t h = no_fault (is_fragment uri_tests (mapped t)) InvalidFragment
+pub fragment_maps : (s : Tests) → IsSpec s → (t : List ℕ) → fragment_fault s t ≡ None → fragment_fault uri_tests (mapped t) ≡ None
+fragment_maps s k t h = no_fault (is_fragment uri_tests (mapped t)) InvalidFragment
     (mapped-fragment s t k (passed (is_fragment s t) InvalidFragment h))

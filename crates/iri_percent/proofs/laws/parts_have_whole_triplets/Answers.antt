@@ -1,20 +1,15 @@
 use Rattle.iri_percent.proofs.units.OfParts.{userinfo-whole, host-whole, path-whole, segment-whole, query-whole, fragment-whole}
 use Rattle.iri_percent.proofs.laws.parts_have_whole_triplets.Goals as goal
 
-pub returns-clause-userinfo : goal.returns-clause-userinfo
-returns-clause-userinfo g c t h = userinfo-whole g.S.Spec.tests t g.met.S.Spec.lawful h
-
-pub returns-clause-host : goal.returns-clause-host
-returns-clause-host g c t h = host-whole g.S.Spec.tests t g.met.S.Spec.lawful h
-
-pub returns-clause-path : goal.returns-clause-path
-returns-clause-path g c t h = path-whole g.S.Spec.tests t g.met.S.Spec.lawful h
-
-pub returns-clause-path_segment : goal.returns-clause-path_segment
-returns-clause-path_segment g c t h = segment-whole g.S.Spec.tests t g.met.S.Spec.lawful h
-
-pub returns-clause-query : goal.returns-clause-query
-returns-clause-query g c t h = query-whole g.S.Spec.tests t g.met.S.Spec.lawful h
-
-pub returns-clause-fragment : goal.returns-clause-fragment
-returns-clause-fragment g c t h = fragment-whole g.S.Spec.tests t g.met.S.Spec.lawful h
+pub returns : goal.returns
+returns g c =
+    let s = g.S.Spec.tests in
+    let k = g.met.S.Spec.lawful in
+    record {
+      userinfo = λ t h. userinfo-whole s t k h;
+      host = λ t h. host-whole s t k h;
+      path = λ t h. path-whole s t k h;
+      path_segment = λ t h. segment-whole s t k h;
+      query = λ t h. query-whole s t k h;
+      fragment = λ t h. fragment-whole s t k h;
+    }
