@@ -7,7 +7,7 @@ use Rattle.iri_grammar.specs.WholeFault.{reference_fault, iri_fault, absolute_fa
 use Rattle.iri_grammar.specs.declared.error.ErrorKind.{ErrorKind}
 use Rattle.iri_percent.specs.Mapping.{mapped}
 use Rattle.iri_percent.specs.declared.canon_mode.CanonMode.{CanonMode}
-use Rattle.iri_normal.specs.IsNormalized.{IsInMode}
+use Rattle.iri_normal.specs.NormalForm.{IsInMode}
 use Rattle.iri_normal.specs.NormalForm.{canonical_in}
 use Rattle.iri_normal.specs.declared.mode.Mode.{Mode}
 use Rattle.iri_calls.specs.Numbers.{grammar_of, fault_numbered, form_numbered, mode_numbered}

@@ -1,6 +1,6 @@
 // Normal forms, and tests of being in one (RFC 3986 sections 6.2.2 and 6.2.3).
 ghost use Rattle.std.specs.Prelude.{◌≡◌, ◌↔◌, true, option_map};
-ghost use Rattle.iri_normal.specs.IsNormalized.{IsInMode};
+ghost use Rattle.iri_normal.specs.NormalForm.{IsInMode};
 ghost use Rattle.iri_types.specs.Texts.{text};
 ghost use Rattle.iri_calls.specs.inside.Forms.{form_mode};
 ghost use Rattle.iri_calls.specs.Numbers.{form_numbered};

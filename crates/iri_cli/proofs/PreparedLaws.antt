@@ -1,4 +1,5 @@
 -- A prepared base is an absolute URI again, is no longer than the base, and has the same canonical texts.
+use Rattle.std.specs.Prelude.{option_map}
 use Rattle.iri_cli.proofs.Common.{◌≡◌, ℕ, ◌≤◌, true, false, cond, ◌&&◌, List, [], ◌∷◌, ◌++◌, Option, Some, None, length, refl, ap, sym, ◌∙◌}
 use Rattle.iri_cli.proofs.Common.{arith, append_assoc, append-nil, is_some, IsSome, Tests, IsSpec, Parts, IsAbsolute, path_rules, recompose}
 use Rattle.iri_cli.proofs.Common.{is_empty, starts_with_slash, split_of, CanonMode, canonical_in, bytes_fault, absolute_fault}
@@ -11,7 +12,6 @@ use Rattle.iri_grammar.specs.Cut.{delimited}
 use Rattle.iri_grammar.specs.Authority.{is_authority}
 use Rattle.iri_grammar.specs.Components.{if_there}
 use Rattle.iri_grammar.proofs.splits.SplitUnique.{split_is}
-use Rattle.iri_normal.specs.LowerCase.{where_there}
 use Rattle.iri_normal.specs.DotRemoval.{dots}
 use Rattle.iri_normal.specs.Target.{target, target_under, target_path, merge_prefix, to_last_slash}
 use Rattle.iri_percent.specs.NormalHost.{normal_authority, normal_authority_in}
@@ -33,7 +33,7 @@ use Rattle.iri_cli.proofs.BytesLemmas.{base_absolute}
 -- ---- the prepared base is valid
 rules-fit : (f g : List ℕ → List ℕ) (scheme authority : Option (List ℕ)) (path : List ℕ) → IsSome scheme
     → path_rules scheme authority path ≡ true
-    → path_rules (where_there f scheme) (where_there g authority) (prepared_path (is_some authority) path) ≡ true
+    → path_rules (option_map f scheme) (option_map g authority) (prepared_path (is_some authority) path) ≡ true
 rules-fit f g None authority path i h = cc
 rules-fit f g (Some x) None path i h = rules_kept x None path h
 rules-fit f g (Some x) (Some a) path i h = rules_kept x (Some a) path h
@@ -106,7 +106,7 @@ authority_again s d x k h =
     ∙ (ap (without d) (authority-stable s x k h) ∙ without-normal s d x k h)
 
 authority_same : (s : Tests) (d o : Option (List ℕ)) → IsSpec s → if_there (is_authority s) o ≡ true
-    → where_there (normal_authority_in s d) (where_there (normal_authority s) o) ≡ where_there (normal_authority_in s d) o
+    → option_map (normal_authority_in s d) (option_map (normal_authority s) o) ≡ option_map (normal_authority_in s d) o
 authority_same s d None k h = refl
 authority_same s d (Some x) k h = ap Some (authority_again s d x k h)
 

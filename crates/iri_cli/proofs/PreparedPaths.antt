@@ -8,9 +8,10 @@ use Rattle.std.proofs.Math.Bool.{and-false}
 use Rattle.std.proofs.lemmas.Bool.{not-true}
 use Rattle.iri_grammar.proofs.hosts.Ipv6Laws.{joined_pieces}
 use Rattle.iri_grammar.proofs.units.UnitRuns.{text_over-append}
-use Rattle.iri_normal.specs.DotRemoval.{is_two_dots, without_last, dots}
+use Rattle.iri_normal.specs.DotRemoval.{without_last, dots}
+use Rattle.iri_normal.specs.Dots.{is_two_dots}
 use Rattle.iri_normal.specs.Dots.{is_dot_segment, any_dot_segment, has_dot_segment}
-use Rattle.iri_normal.specs.Guard.{guard}
+use Rattle.iri_normal.specs.DotRemoval.{guard}
 use Rattle.iri_normal.specs.Target.{to_last_slash, last_segment, ends_at_slash}
 use Rattle.iri_normal.specs.inside.Written.{but_last, left, closing, written_segments, written}
 use Rattle.iri_normal.proofs.LengthLaws.{length-dots, length-last}
@@ -19,7 +20,7 @@ use Rattle.iri_normal.proofs.PieceLaws.{nothing-is_no_dot}
 use Rattle.iri_normal.proofs.SchemeForm.{begun}
 use Rattle.iri_normal.proofs.SegmentLemmas.{alone, ended}
 use Rattle.iri_normal.proofs.SlashLemmas.{at_last_slash, ends, none_prefix}
-use Rattle.iri_normal.proofs.StableLaws.{guarded-stable, no_dots-same}
+use Rattle.iri_normal.proofs.StableLaws.{guarded_stable, no_dots_same}
 use Rattle.iri_normal.proofs.TargetLaws.{cut_over}
 use Rattle.iri_normal.proofs.WrittenLemmas.{written-dots, written-ends, written-two}
 use Rattle.iri_cli.specs.canon.Prepared.{prepared_path}
@@ -48,7 +49,7 @@ onto_dots f r h = ap (λ b. written b r) (sym (written-dots f)) ∙ (sym (writte
 directory_dots : (stands : Bool) (path r : List ℕ) → dots (directory_of stands path ++ r) ≡ dots (to_last_slash path ++ r)
 directory_dots stands path r =
     sym (onto_dots (directory_of stands path) r (directory_ends stands path))
-    ∙ (ap (λ b. written b r) (guarded-stable (to_last_slash path) stands) ∙ onto_dots (to_last_slash path) r (ends path))
+    ∙ (ap (λ b. written b r) (guarded_stable (to_last_slash path) stands) ∙ onto_dots (to_last_slash path) r (ends path))
 
 pub whole_dots : (stands : Bool) (path : List ℕ) → dots (prepared_path stands path) ≡ dots path
 whole_dots stands path = directory_dots stands path (last_segment path) ∙ ap dots (at_last_slash path).0
@@ -197,7 +198,7 @@ dotted : (f : List ℕ) → not (starts_with_slashes f) ≡ true → starts_with
 dotted f h e =
     elim (has_dot_segment f) as (λ b. has_dot_segment f ≡ b → b ≡ true) [
       | true ↦ λ _. refl
-      | false ↦ λ n. let k : not (starts_with_slashes (dots f)) ≡ true = ap (λ z. not (starts_with_slashes z)) (no_dots-same f n) ∙ h in cc
+      | false ↦ λ n. let k : not (starts_with_slashes (dots f)) ≡ true = ap (λ z. not (starts_with_slashes z)) (no_dots_same f n) ∙ h in cc
     ] refl
 
 directory_short : (scheme a : Option (List ℕ)) (path : List ℕ) → IsSome scheme → path_rules scheme a path ≡ true

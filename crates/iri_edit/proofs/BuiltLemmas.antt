@@ -1,7 +1,8 @@
 -- Parts without a fault make a text of the kind, and so does their normal form.
+use Rattle.std.specs.Prelude.{unwrap_or}
 use Rattle.iri_edit.proofs.Common.{◌≡◌, ℕ, Bool, true, false, cond, List, [], Option, Some, None, refl, sym, ◌∙◌, ap, ◌&&◌, ◌||◌, is_some}
 use Rattle.iri_edit.proofs.Common.{chars, is_utf8, is_authority, Tests, IsSpec, if_there, is_userinfo, is_fragment, both, is_host}
-use Rattle.iri_edit.proofs.Common.{over_from, Fits, path_rules, recompose, split_of, ErrorKind, Given, given_authority, or_empty}
+use Rattle.iri_edit.proofs.Common.{over_from, Fits, path_rules, recompose, split_of, ErrorKind, Given, given_authority}
 use Rattle.iri_grammar.specs.Components.{is_scheme, is_port, is_path, is_query}
 use Rattle.iri_grammar.specs.Fault.{part_fault, scheme_fault, userinfo_fault, host_fault, port_fault, path_fault, query_fault}
 use Rattle.iri_grammar.specs.Fault.{fragment_fault}
@@ -12,8 +13,7 @@ use Rattle.iri_grammar.specs.declared.error.ErrorKind.TheVariants.{InvalidScheme
 use Rattle.iri_grammar.specs.declared.error.ErrorKind.TheVariants.{InvalidQuery, InvalidFragment}
 use Rattle.iri_normal.proofs.FormLaws.{form-fits}
 use Rattle.iri_percent.specs.Triplets.{pct}
-use Rattle.iri_normal.specs.LowerCase.{lowered}
-use Rattle.iri_normal.specs.NormalForm.{form, normal_form}
+use Rattle.iri_normal.specs.NormalForm.{lowered, form, normal_form}
 use Rattle.iri_edit.specs.Built.{built_fault, built_text, components_fault, given_parts}
 use Rattle.iri_edit.proofs.KindLemmas.{IsWhole}
 use Rattle.iri_normal.proofs.PathLaws.{stands-still as same-some}
@@ -22,7 +22,7 @@ empty_host : (s : Tests) → is_host s [] ≡ true
 unfolding over_from chars is_utf8
 empty_host s = refl
 
-host-there : (s : Tests) (o : Option (List ℕ)) → if_there (is_host s) o ≡ true → is_host s (or_empty o) ≡ true
+host-there : (s : Tests) (o : Option (List ℕ)) → if_there (is_host s) o ≡ true → is_host s (unwrap_or o []) ≡ true
 host-there s None h = empty_host s
 host-there s (Some x) h = h
 
@@ -40,7 +40,7 @@ components-fit s k g h rules =
     let four = neither (part_fault port_fault g.port) _ three.1 in
     let five = neither (path_fault s g.path) _ four.1 in
     let six = neither (part_fault (query_fault s) g.query) (part_fault (fragment_fault s) g.fragment) five.1 in
-    let authority = made-authority s k (record { userinfo = g.userinfo; host = or_empty g.host; port = g.port })
+    let authority = made-authority s k (record { userinfo = g.userinfo; host = unwrap_or g.host []; port = g.port })
     (record {
       userinfo = there (is_userinfo s) InvalidUserInfo g.userinfo two.0;
       host = host-there s g.host (there (is_host s) InvalidHost g.host three.0);

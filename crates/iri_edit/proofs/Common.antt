@@ -20,16 +20,15 @@ pub use Rattle.iri_grammar.specs.Split.{split_of}
 pub use Rattle.iri_grammar.specs.WholeFault.{reference_fault}
 pub use Rattle.iri_grammar.specs.declared.error.ErrorKind.{ErrorKind}
 pub use Rattle.iri_owned.specs.Spliced.{spliced}
-pub use Rattle.iri_text.specs.Shown.{Shows}
 pub use Rattle.iri_types.specs.Texts.{text}
 pub use Rattle.iri_edit.specs.Builders.{given}
-pub use Rattle.iri_edit.specs.Built.{Given, given_authority, or_empty}
+pub use Rattle.iri_edit.specs.Built.{Given, given_authority}
 pub use Rattle.iri_edit.specs.Edited.{edited_authority, edited_parts}
 unfoldable pub use Rattle.iri_edit.specs.Edited.{edited}
 pub use Rattle.iri_edit.specs.Fragment.{fragment_replaced}
 unfoldable pub use Rattle.iri_edit.specs.Fragment.{with_fragment}
 pub use Rattle.iri_edit.specs.Host.{host_replaced, with_host, is_replaced}
-pub use Rattle.iri_edit.specs.Password.{masked, user_alone, user_with, where_userinfo, with_password, with_userinfo, without_password}
+pub use Rattle.iri_edit.specs.Password.{masked, user_alone, user_with, with_password, with_userinfo, without_password}
 pub use Rattle.iri_edit.specs.Password.{password_in, userinfo_in}
 unfoldable pub use Rattle.iri_edit.specs.Password.{password_of}
 pub use Rattle.iri_edit.specs.inside.Places.{IsFragmentAt, IsAuthorityAt, IsPasswordAt, IsHostAt}

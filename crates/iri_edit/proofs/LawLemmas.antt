@@ -1,9 +1,10 @@
 -- What edits keep of a text.
+use Rattle.std.specs.Prelude.{option_map}
 use Rattle.iri_edit.proofs.Common.{◌≡◌, ℕ, true, List, [], Option, Some, None, refl, ◌∙◌, ap, AuthorityParts, FitsAuthority}
 use Rattle.iri_edit.proofs.Common.{authority_parts, is_authority, recompose_authority, reads, Tests, IsSpec, if_there, is_fragment}
 use Rattle.iri_edit.proofs.Common.{is_userinfo, is_host, recompose, split_of, reference_fault, edited, edited_authority, edited_parts}
 use Rattle.iri_edit.proofs.Common.{fragment_replaced, with_fragment, host_replaced, with_host, masked, user_alone, user_with}
-use Rattle.iri_edit.proofs.Common.{where_userinfo, with_password, with_userinfo, without_password}
+use Rattle.iri_edit.proofs.Common.{with_password, with_userinfo, without_password}
 use Rattle.iri_grammar.proofs.faults.MadeLaws.{made-reading, made-split, split-fits}
 use Rattle.iri_edit.proofs.KindLemmas.{edited-fits, fragment-fits, host_replaced-fits}
 use Rattle.iri_edit.proofs.UserLemmas.{nothing-fits, user_alone-fits, user_with-fits, with_userinfo-fits, user_with-twice}
@@ -36,7 +37,7 @@ module _ (s : Tests) (k : IsSpec s) where
   fragment-split t f h v = made-split s k (fragment_replaced f (split_of t)) (fragment-fits s f v (split_of t) (split-fits s t h))
 
   -- ---- masked again
-  user-again : (o : Option (List ℕ)) → where_userinfo (user_with []) (where_userinfo (user_with []) o) ≡ where_userinfo (user_with []) o
+  user-again : (o : Option (List ℕ)) → option_map (user_with []) (option_map (user_with []) o) ≡ option_map (user_with []) o
   user-again None = refl
   user-again (Some u) = ap Some (user_with-twice [] u)
 

@@ -2,14 +2,15 @@
 use Rattle.iri_edit.proofs.Common.{not, ◌&&◌, IsCharBoundary, append-nil, is_some, authority_parts, recompose_authority, userinfo_text}
 use Rattle.iri_edit.proofs.Common.{authority_recomposed, Tests, before, after, lacks, delimited, joined, is_host, recompose, scheme_text}
 use Rattle.iri_edit.proofs.Common.{authority_text, split_of, edited, edited_authority, host_replaced, password_of, password_in, userinfo_in}
-use Rattle.iri_edit.proofs.Common.{user_with, user_alone, where_userinfo, with_userinfo, IsAuthorityAt, IsPasswordAt, IsHostAt}
-use Rattle.std.proofs.Common.{◌≡◌, ℕ, ◌+◌, ◌<◌, ◌≤◌, ◌^◌, true, false, cond, List, [], ◌∷◌, ◌++◌, length, get_or, take, drop, Option, Some}
-use Rattle.std.proofs.Common.{None, refl, sym, ◌∙◌, ap, subst, arith, append_assoc, length-append}
+use Rattle.iri_edit.proofs.Common.{user_with, user_alone, with_userinfo, IsAuthorityAt, IsPasswordAt, IsHostAt, ◌≡◌, ℕ, ◌+◌, ◌≤◌, true}
+use Rattle.iri_edit.proofs.Common.{false, cond, List, [], ◌∷◌, ◌++◌, length, take, drop, Option, Some, None, refl, sym, ◌∙◌, ap, subst}
+use Rattle.iri_edit.proofs.Common.{arith, append_assoc, length-append}
+use Rattle.std.proofs.Common.{◌<◌, ◌^◌, get_or}
 use Rattle.std.specs.Str.{IsUtf8}
 use Rattle.std.proofs.lemmas.Str.{IsUtf8-append, IsUtf8-drop, IsUtf8-take, IsCharBoundary-before_ascii, IsCharBoundary-after_ascii}
 use Rattle.std.proofs.lemmas.Str.{IsCharBoundary-from_take}
 use Rattle.std.proofs.Math.Seq.{drop-append_seam, get_or-append_seam, take-append_seam}
-use Rattle.std.specs.Prelude.{◌==◌}
+use Rattle.std.specs.Prelude.{◌==◌, option_map}
 use Rattle.iri_grammar.proofs.authorities.AuthorityTexts.{host-utf8}
 use Rattle.iri_grammar.proofs.splits.SplitLaws.{recompose_split}
 use Rattle.iri_edit.specs.Host.{host_in}
@@ -54,7 +55,7 @@ userinfo-place a u h = sym (append_assoc u (64 ∷ []) (rest_of a))
 userinfo-edited : (f : List ℕ → List ℕ) (a u : List ℕ) → (authority_parts a).userinfo ≡ Some u
     → recompose_authority (with_userinfo f (authority_parts a)) ≡ f u ++ 64 ∷ rest_of a
 unfolding recompose_authority rest_of
-userinfo-edited f a u h = ap (λ o. userinfo_text (where_userinfo f o) ++ rest_of a) h ∙ append_assoc (f u) (64 ∷ []) (rest_of a)
+userinfo-edited f a u h = ap (λ o. userinfo_text (option_map f o) ++ rest_of a) h ∙ append_assoc (f u) (64 ∷ []) (rest_of a)
 
 -- a colon stands in it exactly where something may follow one
 pub lacks-told : (u : List ℕ) → lacks 58 u ≡ not (is_some (after 58 u))

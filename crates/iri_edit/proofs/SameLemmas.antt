@@ -1,8 +1,9 @@
 -- A text without a password stays as it is.
+use Rattle.std.specs.Prelude.{option_map}
 use Rattle.iri_edit.proofs.Common.{◌≡◌, ℕ, cond, List, ◌∷◌, ◌++◌, Option, Some, None, refl, sym, ◌∙◌, ap, not, is_some, append-nil}
 use Rattle.iri_edit.proofs.Common.{authority_parts, recompose_authority, authority_recomposed, before, after, delimited, joined, recompose}
 use Rattle.iri_edit.proofs.Common.{split_of, edited, edited_authority, password_of, password_in, userinfo_in, user_with, user_alone}
-use Rattle.iri_edit.proofs.Common.{where_userinfo, with_userinfo, with_password, without_password}
+use Rattle.iri_edit.proofs.Common.{with_userinfo, with_password, without_password}
 use Rattle.iri_grammar.proofs.splits.SplitLaws.{recompose_split}
 use Rattle.iri_edit.proofs.PlaceLemmas.{lacks-told}
 
@@ -13,7 +14,7 @@ user_alone-same : (u : List ℕ) → after 58 u ≡ None → user_alone u ≡ u
 user_alone-same u h = sym (append-nil (before 58 u)) ∙ (ap (λ o. before 58 u ++ delimited 58 o) (sym h) ∙ joined 58 u)
 
 module _ (f : List ℕ → List ℕ) (same : (u : List ℕ) → after 58 u ≡ None → f u ≡ u) where
-  same-userinfo : (o : Option (List ℕ)) → password_in o ≡ None → where_userinfo f o ≡ o
+  same-userinfo : (o : Option (List ℕ)) → password_in o ≡ None → option_map f o ≡ o
   same-userinfo None h = refl
   same-userinfo (Some u) h = ap Some (same u h)
 

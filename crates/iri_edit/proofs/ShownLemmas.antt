@@ -1,6 +1,7 @@
 -- What a builder shows, part by part.
+use Rattle.std.specs.Prelude.{unwrap_or}
 use Rattle.iri_edit.proofs.Common.{◌≡◌, ℕ, true, cond, List, [], ◌∷◌, ◌++◌, Option, Some, None, refl, sym, ◌∙◌, ap, ◌||◌, is_some}
-use Rattle.iri_edit.proofs.Common.{recompose_authority, userinfo_text, delimited, authority_text, Given, given_authority, or_empty}
+use Rattle.iri_edit.proofs.Common.{recompose_authority, userinfo_text, delimited, authority_text, Given, given_authority}
 use Rattle.std.specs.Borrow.{Bor}
 use Rattle.iri_grammar.specs.OptionalSlices.{now_of}
 use Rattle.iri_edit.specs.inside.Rules.{ended}
@@ -13,11 +14,11 @@ ended-userinfo : (o : Option (List ℕ)) → ended 64 o ≡ userinfo_text o
 ended-userinfo None = refl
 ended-userinfo (Some x) = refl
 
-pub authority-given : (g : Given) (host : List ℕ) → host ≡ or_empty g.host → (is_some g.userinfo || (is_some g.host || is_some g.port)) ≡ true
+pub authority-given : (g : Given) (host : List ℕ) → host ≡ unwrap_or g.host [] → (is_some g.userinfo || (is_some g.host || is_some g.port)) ≡ true
     → (47 ∷ 47 ∷ []) ++ (ended 64 g.userinfo ++ (host ++ delimited 58 g.port)) ≡ authority_text (given_authority g)
 unfolding recompose_authority
 authority-given g host h there =
     ap (λ u. 47 ∷ 47 ∷ (u ++ (host ++ delimited 58 g.port))) (ended-userinfo g.userinfo)
     ∙ (ap (λ x. 47 ∷ 47 ∷ (userinfo_text g.userinfo ++ (x ++ delimited 58 g.port))) h
     ∙ ap (λ b. authority_text (cond b
-    (Some (recompose_authority (record { userinfo = g.userinfo; host = or_empty g.host; port = g.port }))) None)) (sym there))
+    (Some (recompose_authority (record { userinfo = g.userinfo; host = unwrap_or g.host []; port = g.port }))) None)) (sym there))

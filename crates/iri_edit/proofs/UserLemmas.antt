@@ -1,7 +1,8 @@
 -- A userinfo whose password is changed stays a userinfo.
+use Rattle.std.specs.Prelude.{option_map}
 use Rattle.iri_edit.proofs.Common.{◌≡◌, ℕ, Bool, true, false, cond, List, [], ◌∷◌, ◌++◌, Option, Some, None, refl, sym, ◌∙◌, subst, arith}
 use Rattle.iri_edit.proofs.Common.{chars, is_utf8, append-nil, AuthorityParts, FitsAuthority, Tests, IsSpec, if_there, is_userinfo, before}
-use Rattle.iri_edit.proofs.Common.{after, lacks, delimited, joined, over_from, ErrorKind, masked, user_with, user_alone, where_userinfo}
+use Rattle.iri_edit.proofs.Common.{after, lacks, delimited, joined, over_from, ErrorKind, masked, user_with, user_alone}
 use Rattle.iri_edit.proofs.Common.{with_userinfo, without_password}
 use Rattle.iri_grammar.proofs.authorities.AuthorityTexts.{one_byte-utf8}
 use Rattle.iri_grammar.specs.Classes.{userinfo_char, is_ascii_userinfo, is_ascii_reg_name, is_ascii_unreserved, is_sub_delim}
@@ -40,7 +41,7 @@ nothing-fits s = refl
 
 -- ---- the parts of an authority
 where-fits : (s : Tests) (f : List ℕ → List ℕ) → ((u : List ℕ) → is_userinfo s u ≡ true → is_userinfo s (f u) ≡ true)
-    → (o : Option (List ℕ)) → if_there (is_userinfo s) o ≡ true → if_there (is_userinfo s) (where_userinfo f o) ≡ true
+    → (o : Option (List ℕ)) → if_there (is_userinfo s) o ≡ true → if_there (is_userinfo s) (option_map f o) ≡ true
 where-fits s f keeps None h = refl
 where-fits s f keeps (Some u) h = keeps u h
 

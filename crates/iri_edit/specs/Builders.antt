@@ -21,7 +21,7 @@ given b =
       normal = b.normal;
     }
 
--- a fault is told, and allocation failure comes only without one
+-- the cause of a refusal: the first fault, or, where there is none, failed allocation
 abbrev pub RefusedFor : BuildError → Option ErrorKind → Type 0
 RefusedFor (Invalid e) fault = fault ≡ Some e.kind
 RefusedFor (Memory e) fault = fault ≡ None

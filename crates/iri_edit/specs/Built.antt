@@ -1,5 +1,5 @@
 -- Texts built from parts (RFC 3986 section 5.3).
-use Rattle.std.specs.Prelude.{ℕ, Bool, false, cond, not, ◌&&◌, ◌||◌, List, [], Option, Some, None, is_some}
+use Rattle.std.specs.Prelude.{ℕ, Bool, false, cond, not, ◌&&◌, ◌||◌, List, [], Option, Some, None, is_some, unwrap_or}
 use Rattle.iri_grammar.specs.Authority.{recompose_authority}
 use Rattle.iri_grammar.specs.Classes.{Tests}
 use Rattle.iri_grammar.specs.Fault.{first, unless, part_fault, scheme_fault, userinfo_fault, host_fault, port_fault, path_fault}
@@ -33,14 +33,10 @@ nothing_given = record {
   normal = false;
 }
 
-abbrev pub or_empty : Option (List ℕ) → List ℕ
-or_empty None = []
-or_empty (Some x) = x
-
 -- an authority stands where userinfo, host or port is given; a host that isn't given is empty
 abbrev pub given_authority : Given → Option (List ℕ)
 given_authority g = cond (is_some g.userinfo || (is_some g.host || is_some g.port))
-    (Some (recompose_authority (record { userinfo = g.userinfo; host = or_empty g.host; port = g.port }))) None
+    (Some (recompose_authority (record { userinfo = g.userinfo; host = unwrap_or g.host []; port = g.port }))) None
 
 -- the five parts
 abbrev pub given_parts : Given → Parts

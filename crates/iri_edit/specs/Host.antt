@@ -1,14 +1,11 @@
 -- A whole text with another host (RFC 3986 section 3.2.2).
-use Rattle.std.specs.Prelude.{◌≡◌, ℕ, ◌+◌, ◌<◌, ◌≤◌, Bool, true, false, not, ◌&&◌, ◌||◌, List, length, slice_range, Option, Some, None, Result, Ok}
-use Rattle.std.specs.Prelude.{Err}
+use Rattle.std.specs.Prelude.{◌≡◌, ℕ, ◌<◌, ◌≤◌, Bool, true, false, not, ◌&&◌, ◌||◌, List, length, Option, Some, None, Result, Ok, Err}
 use Rattle.std.specs.Borrow.{Bor}
-use Rattle.std.specs.Str.{IsCharBoundary}
 use Rattle.std.specs.declared.alloc.AllocError.{AllocError}
 use Rattle.iri_grammar.specs.Authority.{AuthorityParts, authority_parts}
 use Rattle.iri_grammar.specs.Classes.{Tests}
 use Rattle.iri_grammar.specs.Host.{is_host}
 use Rattle.iri_grammar.specs.Split.{split_of}
-use Rattle.iri_owned.specs.OwnedText.{OwnedText}
 use Rattle.iri_types.specs.Components.{is_named}
 use Rattle.iri_edit.specs.Edited.{edited}
 
@@ -35,18 +32,8 @@ abbrev pub is_replaced : Tests → Bool → List ℕ → Option (List ℕ) → B
 is_replaced s names_only new None = false
 is_replaced s names_only new (Some old) = is_host s new && (not names_only || is_named old)
 
--- the host is replaced, and `start` is where the new one begins; or it isn't, and the text stays; or memory was wanted for a
--- text longer than the capacity, and the text stays. The capacity never becomes less
-abbrev pub HostReplaced : Tests → Bool → OwnedText → OwnedText → List ℕ → Result (Option ℕ) AllocError → Type 0
-HostReplaced s names_only old new host (Ok None) = (is_replaced s names_only host (host_of_text old.text) ≡ false) × (new ≡ old)
-HostReplaced s names_only old new host (Ok (Some start)) =
-    (is_replaced s names_only host (host_of_text old.text) ≡ true) × (new.text ≡ with_host old.text host)
-    × (slice_range new.text start (start + length host) ≡ host) × IsCharBoundary new.text start
-    × IsCharBoundary new.text (start + length host) × (old.capacity ≤ new.capacity)
-HostReplaced s names_only old new host (Err e) = (is_replaced s names_only host (host_of_text old.text) ≡ true) × (new ≡ old)
-    × (old.capacity < length (with_host old.text host))
-
--- the same, with the new host's slice in place of where it begins
+-- the host is replaced; or it isn't, and the text stays; or memory was wanted for a text longer than the capacity, and the text
+-- stays. The capacity never becomes less
 abbrev pub HostChange : {T : Type 0} → Tests → Bool → (T → List ℕ) → (T → ℕ) → T → T → List ℕ → Result (Option (Bor (List ℕ))) AllocError
     → Type 0
 HostChange s names_only text capacity old new host (Ok None) = (is_replaced s names_only host (host_of_text (text old)) ≡ false) × (new ≡ old)

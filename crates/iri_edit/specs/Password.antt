@@ -1,5 +1,5 @@
 -- The password of a whole text: what follows the first `:` of its userinfo (RFC 3986 section 3.2.1).
-use Rattle.std.specs.Prelude.{ℕ, cond, List, [], ◌∷◌, ◌++◌, Option, Some, None}
+use Rattle.std.specs.Prelude.{ℕ, cond, List, [], ◌∷◌, ◌++◌, Option, Some, None, option_map}
 use Rattle.iri_grammar.specs.Authority.{AuthorityParts, authority_parts}
 use Rattle.iri_grammar.specs.Cut.{before, after, lacks}
 use Rattle.iri_grammar.specs.Split.{split_of}
@@ -28,13 +28,9 @@ user_with w u = cond (lacks colon u) u (before colon u ++ colon ∷ w)
 abbrev pub user_alone : List ℕ → List ℕ
 user_alone u = before colon u
 
-abbrev pub where_userinfo : (List ℕ → List ℕ) → Option (List ℕ) → Option (List ℕ)
-where_userinfo f None = None
-where_userinfo f (Some u) = Some (f u)
-
 -- the parts of an authority, with its userinfo changed by f
 abbrev pub with_userinfo : (List ℕ → List ℕ) → AuthorityParts → AuthorityParts
-with_userinfo f a = record { userinfo = where_userinfo f a.userinfo; host = a.host; port = a.port }
+with_userinfo f a = record { userinfo = option_map f a.userinfo; host = a.host; port = a.port }
 
 -- the text with w in place of its password
 abbrev pub with_password : List ℕ → List ℕ → List ℕ

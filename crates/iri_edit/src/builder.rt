@@ -206,7 +206,7 @@ impl<'a> Builder<'a> {
         self.normal = false;
     }
 
-    /// Whether the parts make a text of the kind `K`. It takes no memory; what is shown of the builder is that text then.
+    /// Whether the parts make a text of the kind `K`. Allocates nothing; what is shown of the builder is that text then.
     ///
     /// # Errors
     ///

@@ -17,7 +17,7 @@ pub(crate) fn reference_of<S: Spec, K: WholeKind>(owned: &Owned<S, K>) -> RiRefe
     View::<'_, S, K>::from_valid(owned.as_str()).as_reference()
 }
 
-// Takes out what is between the two positions. It takes no memory.
+// Takes out what is between the two positions. Allocates nothing.
 pub(crate) fn cut_out<S: Spec, K: Kind>(owned: &mut Owned<S, K>, start: usize, end: usize)
     requires ordered { start ≤ end }
     requires low { IsCharBoundary owned.old.text start }

@@ -55,7 +55,7 @@ pub trait SetFragment<F: Show>: Show {
     ghost capacity: { Self → ℕ };
 
     /// Puts a fragment in place of the text's, or after a text that has none; `None` takes out the fragment and its
-    /// `#`, and takes no memory. The capacity never becomes less.
+    /// `#`, and allocates nothing. The capacity never becomes less.
     ///
     /// # Errors
     ///

@@ -2,7 +2,8 @@
 ghost use Rattle.std.specs.Borrow.{sem, follows_so};
 ghost use Rattle.std.specs.Prelude.{◌≡◌, ℕ, ◌&&◌, ◌||◌, not, true, false, ⊤};
 ghost use mathlib.Core.Option.{none};
-ghost use Rattle.iri_edit.specs.Host.{HostChange, HostReplaced};
+ghost use Rattle.iri_edit.specs.Host.{HostChange};
+ghost use Rattle.iri_edit.specs.inside.Places.{HostReplaced};
 ghost use Rattle.iri_owned.specs.contracts.owned.Owned.{the_row};
 ghost use Rattle.iri_grammar.specs.Classes.{Tests};
 ghost use Rattle.iri_grammar.specs.Host.{is_host};
@@ -45,7 +46,7 @@ pub trait ReplaceHost: Show {
         ensures* host { sem 𝓛 (follows_so Self.row Self.row self.entry.ghost_name none (λ _ _. ⊤)
             (λ after. HostChange tests false Self.text capacity self.old after new_host.now result)) };
 
-    /// The same where the old host is a registered name; `None` also where it is an IP literal or an IPv4 address.
+    /// Replaces the host where the old one is a registered name; `None` also where it is an IP literal or an IPv4 address.
     ///
     /// # Errors
     ///

@@ -3,7 +3,7 @@
 //!
 //! `password` shows a view without its password ([`MaskPassword`](password::MaskPassword)), or with another text in its place;
 //! `removal` takes it out of an owned text. `host` and `fragment` put another host or fragment into an owned text.
-//! `shown_host` and `shown_removal` show a reference with another host, or without its password, and take no memory.
+//! `shown_host` and `shown_removal` show a reference with another host, or without its password, and allocate nothing.
 //! [`Builder`](builder::Builder) makes a text of each whole kind from parts, and tells the first part that is wrong.
 //! `laws` says what else of a text an edit keeps.
 //!

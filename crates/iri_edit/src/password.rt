@@ -134,7 +134,7 @@ impl<'a, S: Spec, K: WholeKind> PasswordMasked<'a, View<'a, S, K>> {
         }
     }
 
-    /// The same with the text that `replace` gives for the password. It has a condition: `replace` may be called with
+    /// The text with what `replace` gives in place of the password. It has a condition: `replace` may be called with
     /// each text. Where the userinfo has no `:`, it isn't called.
     pub fn replace_password_with<F: FnOnce(&str) -> D + Drop, D: Show>(
         &self,

@@ -1,6 +1,5 @@
 // Parts written one after the other (RFC 3986 section 5.3), and the normal form of a text.
-ghost use Rattle.std.specs.Prelude.{◌≡◌, [], ◌∷◌, ◌||◌, IfOk, None, string_bytes};
-ghost use Rattle.iri_edit.specs.Built.{or_empty};
+ghost use Rattle.std.specs.Prelude.{◌≡◌, [], ◌∷◌, ◌||◌, IfOk, None, string_bytes, unwrap_or};
 ghost use Rattle.iri_edit.specs.inside.Rules.{ended, rules_by};
 ghost use Rattle.iri_grammar.specs.Authority.{recompose_authority};
 ghost use Rattle.iri_grammar.specs.Cut.{delimited};
@@ -54,7 +53,7 @@ pub(crate) fn show_delimited<W: TextSink>(
 
 // A part that may be absent, or the empty text.
 pub(crate) fn or_nothing(part: Option<&str>) -> &str
-    ensures { result.now ≡ or_empty (now_of part.entry) }
+    ensures { result.now ≡ unwrap_or (now_of part.entry) [] }
 {
     match part {
         Some(part) => part,

@@ -15,7 +15,7 @@ pub trait RemovePassword: Show {
     ghost capacity: { Self → ℕ };
 
     /// Takes out the first `:` of the userinfo and what follows it, up to the `@`. A text whose userinfo has no `:`
-    /// stays as it is. It takes no memory.
+    /// stays as it is. Allocates nothing.
     ///
     /// ```
     /// use iri::edit::RemovePassword;
@@ -29,7 +29,7 @@ pub trait RemovePassword: Show {
         ensures capacity { capacity self.new ≡ capacity self.old };
 
     /// Takes out what follows the first `:` of the userinfo, up to the `@`. A text whose userinfo has no `:` stays as
-    /// it is. It takes no memory.
+    /// it is. Allocates nothing.
     ///
     /// ```
     /// use iri::edit::RemovePassword;

@@ -68,7 +68,8 @@ pub fn with_host<'a, S: Spec>(
     with_other_host(reference, new_host, false)
 }
 
-/// The same where the old host is a registered name; `None` also where it is an IP literal or an IPv4 address.
+/// A reference with another host in place of its own, where that is a registered name; `None` also where it is an IP
+/// literal or an IPv4 address.
 ///
 /// ```
 /// use iri::edit::with_host_reg_name;

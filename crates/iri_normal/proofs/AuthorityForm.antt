@@ -3,9 +3,10 @@ use Rattle.iri_normal.proofs.Common.{◌≡◌, ℕ, true, false, cond, ◌||◌
 use Rattle.iri_normal.proofs.Common.{append-nil, nat_lt, to_ascii_lowercase, or-true, Tests, IsSpec, is_userinfo, is_port, if_there}
 use Rattle.iri_normal.proofs.Common.{is_host, is_reg_name, is_ip_literal, normal, pct, is_ascii_host, is_dropped, normal_host}
 use Rattle.iri_normal.proofs.Common.{normal_userinfo, normal_port_in, normal_authority_parts_in, normal_authority, normal_authority_in}
-use Rattle.iri_normal.proofs.Common.{authority_in, normal_nil, pct-stable, userinfo-whole, host-whole}
+use Rattle.iri_normal.proofs.Common.{authority_in, normal_nil, pct-stable, userinfo-whole, host-whole, AuthorityParts, recompose_authority}
+use Rattle.iri_normal.proofs.Common.{authority_parts, is_authority}
 use Rattle.iri_grammar.proofs.hosts.LiteralChars.{is_literal_char, ip_literal-chars, all-weaken}
-use Rattle.iri_grammar.specs.Authority.{AuthorityParts, FitsAuthority, ReadsAuthority, recompose_authority, authority_parts, is_authority}
+use Rattle.iri_grammar.specs.Authority.{FitsAuthority, ReadsAuthority}
 use Rattle.iri_grammar.proofs.authorities.AuthorityLaws.{reading_is, authority_law}
 use Rattle.iri_percent.specs.NormalHost.{authority_without}
 use Rattle.iri_percent.proofs.forms.ByUnits.{normal_plains}
@@ -14,7 +15,7 @@ use Rattle.iri_percent.proofs.units.OfParts.{literal-lacks}
 use Rattle.iri_normal.proofs.HostLaws.{host-stable, ascii-plains}
 use Rattle.iri_normal.proofs.LiteralLaws.{literal-lower}
 use Rattle.iri_percent.proofs.mapping.Productions.{authority-reads as reads, literal_low as literal-ascii}
-use Rattle.iri_normal.specs.LowerCase as P
+use Rattle.iri_normal.specs.NormalForm as P
 
 -- ---- hosts
 ascii-nothing : is_ascii_host [] ≡ true

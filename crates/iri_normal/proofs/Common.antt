@@ -15,7 +15,7 @@ pub use Rattle.std.proofs.lemmas.List.{take-append-drop, drop_at, length-take-le
 pub use Rattle.std.proofs.lemmas.Str.{encode_ascii, lead_after_ascii}
 pub use Rattle.std.specs.Char.{to_ascii_lowercase, is_ascii_hexdigit, to_ascii_uppercase, encode_utf8}
 pub use Rattle.std.specs.List.{list_all, count_by}
-pub use Rattle.std.specs.Prelude.{nat_lt, ◌==◌, string_bytes, option_map, IsSome, Result, Err, MatchOption, slice_index, is_some}
+pub use Rattle.std.specs.Prelude.{unwrap_or, nat_lt, ◌==◌, string_bytes, option_map, IsSome, Result, Err, MatchOption, slice_index, is_some}
 pub use Rattle.std.specs.Str.{bytes_eq, IsUtf8, IsCharBoundary}
 pub use denote.Ref.{Bor}
 unfoldable pub use lib.Utf8.{encode}
@@ -68,16 +68,13 @@ pub use Rattle.iri_percent.specs.declared.canon_mode.CanonMode.TheVariants.{Defa
 pub use Rattle.iri_text.proofs.Compose.{shows_exit, shows_then, shown_none, shows_all}
 pub use Rattle.iri_text.specs.Shown.{Shows}
 pub use Rattle.iri_types.specs.SplitText.{split_text}
-pub use Rattle.iri_normal.specs.DotRemoval.{is_two_dots, without_last, is_all, is_one_dot, is_one_dot_after, closed, remove_after}
-pub use Rattle.iri_normal.specs.DotRemoval.{remove_dots, path_text}
+pub use Rattle.iri_normal.specs.DotRemoval.{without_last, closed, remove_after, remove_dots, path_text, guard}
+pub use Rattle.iri_normal.specs.Dots.{is_two_dots, is_all, is_one_dot, is_one_dot_after, after_dot, any_dot_segment, has_dot_segment}
 unfoldable pub use Rattle.iri_normal.specs.DotRemoval.{dots}
-pub use Rattle.iri_normal.specs.Dots.{after_dot, is_dot_segment_after, is_dot_or_nothing, any_dot_segment, has_dot_segment}
 unfoldable pub use Rattle.iri_normal.specs.Dots.{is_dot_segment}
-pub use Rattle.iri_normal.specs.Guard.{guard}
-pub use Rattle.iri_normal.specs.LowerCase.{lowered, where_there}
+pub use Rattle.iri_normal.specs.NormalForm.{lowered, normal_form_in, canonical_parts_in, canonical_in, becomes_slash}
+pub use Rattle.iri_normal.specs.NormalForm.{slash_or, part_in, preserved_path, path_in}
 pub use Rattle.iri_normal.specs.Modes.{mode_of, is_normalizing}
-pub use Rattle.iri_normal.specs.NormalForm.{normal_form_in, canonical_parts_in, canonical_in, becomes_slash, normal_parts, slash_or}
-pub use Rattle.iri_normal.specs.NormalForm.{part_in, preserved_path, path_in}
 unfoldable pub use Rattle.iri_normal.specs.NormalForm.{canonical, normal_form, normal_path, form}
 pub use Rattle.iri_normal.specs.Prefix.{IsPrefix, prefix_in}
 pub use Rattle.iri_normal.specs.Resolver.{base_text}
@@ -90,4 +87,4 @@ pub use Rattle.iri_normal.specs.declared.mode.Mode.TheVariants.{Plain, Normal, P
 pub use Rattle.iri_normal.specs.inside.DotSearch.{dots_before, slash_and_dots, dots_after}
 pub use Rattle.iri_normal.specs.inside.Kept.{kept, taken}
 pub use Rattle.iri_normal.specs.inside.PathForm.{in_form}
-pub use Rattle.iri_normal.specs.inside.Written.{left, popped, popped_times, written, written_segments, or_nothing}
+pub use Rattle.iri_normal.specs.inside.Written.{left, popped, popped_times, written, written_segments}

@@ -1,7 +1,7 @@
 -- Dot segments, byte by byte.
 use Rattle.iri_normal.proofs.Common.{◌≡◌, ℕ, Bool, true, false, cond, ◌&&◌, ◌||◌, List, [], ◌∷◌, Option, Some, None, ◌≤◌, ◌<◌, length, drop}
 use Rattle.iri_normal.proofs.Common.{refl, sym, ◌∙◌, ap, subst, arith, ◌==◌, or_parts, before, after, by_test, is_empty, may_have_dots}
-use Rattle.iri_normal.proofs.Common.{more_pieces, pieces_cut, after_dot, is_dot_segment, is_dot_segment_after, is_dot_or_nothing}
+use Rattle.iri_normal.proofs.Common.{more_pieces, pieces_cut, after_dot, is_dot_segment, is_all, is_one_dot, is_one_dot_after}
 use Rattle.iri_normal.proofs.Common.{any_dot_segment, has_dot_segment, dots_before, slash_and_dots, dots_after}
 use Rattle.std.proofs.Common.{◌≢◌}
 use Rattle.iri_grammar.specs.Seen.{begins_dot, has_slash_and_dot, slash_and_dot}
@@ -87,14 +87,17 @@ dot_cut (x ∷ xs) =
     refl)
     refl
 
+abbrev has_dots_rest : Option (List ℕ) → Bool
+has_dots_rest rest = is_all rest || is_one_dot_after rest
+
 pub plain_prefix : (x : ℕ) (xs : List ℕ) → (x == 46) ≡ false → (x == 37) ≡ false → is_dot_segment (before 47 (x ∷ xs)) ≡ false
 unfolding is_dot_segment
-plain_prefix x xs h k = ap is_dot_segment_after (dot_cut (x ∷ xs) ∙ ap cut_rest (no_dot x xs h k))
+plain_prefix x xs h k = ap has_dots_rest (dot_cut (x ∷ xs) ∙ ap cut_rest (no_dot x xs h k))
 
 -- ---- the first segment
 pub no_dot_first : (t : List ℕ) → None ≡ after_dot t → is_dot_segment (before 47 t) ≡ false
 unfolding is_dot_segment
-no_dot_first t h = ap is_dot_segment_after (dot_cut t ∙ ap cut_rest (sym h))
+no_dot_first t h = ap has_dots_rest (dot_cut t ∙ ap cut_rest (sym h))
 
 -- ---- no segment begins with what begins a dot
 none_there : (t : List ℕ) → begins_dot t ≡ false → after_dot t ≡ None
@@ -121,27 +124,14 @@ pub no_dots : (t : List ℕ) → may_have_dots t ≡ false → has_dot_segment t
 no_dots t h = let k = or_parts (begins_dot t) (has_slash_and_dot t) h in first_or_after t ∙ rw (begins_none t k.0) (none_after t k.1)
 
 -- ---- one dot or two
-dot_or_nothing : (xs : List ℕ) → is_empty xs ≡ true → is_dot_or_nothing xs ≡ true
-dot_or_nothing [] h = refl
-dot_or_nothing (x ∷ xs) h = cc
+dot_or_nothing : (xs : List ℕ) → is_empty xs ≡ true → (is_empty xs || is_one_dot xs) ≡ true
+dot_or_nothing xs h = rw h refl
 
 pub one_dot_first : (t r : List ℕ) → Some r ≡ after_dot t → is_empty (before 47 r) ≡ true → is_dot_segment (before 47 t) ≡ true
 unfolding is_dot_segment
-one_dot_first t r h e = ap is_dot_segment_after (dot_cut t ∙ ap cut_rest (sym h)) ∙ dot_or_nothing (before 47 r) e
-
--- what more follows a dot
-abbrev pub empty_after : Option (List ℕ) → Bool
-empty_after None = false
-empty_after (Some t) = is_empty t
-
-second_dot : (xs : List ℕ) (o : Option (List ℕ)) → is_empty xs ≡ false → after_dot xs ≡ o → is_dot_or_nothing xs ≡ empty_after o
-second_dot [] o h e = cc
-second_dot (x ∷ xs) None h e = rw e refl
-second_dot (x ∷ xs) (Some []) h e = rw e refl
-second_dot (x ∷ xs) (Some (y ∷ ys)) h e = rw e refl
+one_dot_first t r h e = ap has_dots_rest (dot_cut t ∙ ap cut_rest (sym h)) ∙ dot_or_nothing (before 47 r) e
 
 pub two_dots_first : (t r : List ℕ) → Some r ≡ after_dot t → is_empty (before 47 r) ≡ false
-    → is_dot_segment (before 47 t) ≡ empty_after (cut_rest (after_dot r))
+    → is_dot_segment (before 47 t) ≡ is_all (cut_rest (after_dot r))
 unfolding is_dot_segment
-two_dots_first t r h e = ap is_dot_segment_after (dot_cut t ∙ ap cut_rest (sym h))
-    ∙ second_dot (before 47 r) (cut_rest (after_dot r)) e (dot_cut r)
+two_dots_first t r h e = ap has_dots_rest (dot_cut t ∙ ap cut_rest (sym h)) ∙ rw e (ap is_all (dot_cut r))

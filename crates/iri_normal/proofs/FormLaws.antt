@@ -1,17 +1,17 @@
 -- The normal form of parts fits and is stable, whatever port is dropped.
-use Rattle.iri_normal.proofs.Common.{◌≡◌, ℕ, true, false, List, [], ◌∷◌, Option, Some, None, refl, sym, ◌∙◌, ap, subst, arith, Bool, IsSome}
-use Rattle.iri_normal.proofs.Common.{to_ascii_lowercase, list_all, nat_tests, Tests, IsSpec, path_char, if_there, is_scheme, is_scheme_char}
-use Rattle.iri_normal.proofs.Common.{is_path, is_query, is_fragment, is_authority, both, Parts, Fits, path_rules, is_empty, as_it_is, pct}
-use Rattle.iri_normal.proofs.Common.{normal_authority, normal_authority_in, dropped_port, CanonMode, Default, normal_nil, normal_plain}
-use Rattle.iri_normal.proofs.Common.{pct-stable, query-whole, fragment-whole, whole_triplets, dots, is_dot_segment, lowered, where_there}
-use Rattle.iri_normal.proofs.Common.{becomes_slash, normal_form, normal_form_in, normal_parts, normal_path, slash_or}
+use Rattle.iri_normal.proofs.Common.{option_map, ◌≡◌, ℕ, true, false, List, [], ◌∷◌, Option, Some, None, refl, sym, ◌∙◌, ap, subst, arith}
+use Rattle.iri_normal.proofs.Common.{Bool, IsSome, to_ascii_lowercase, list_all, nat_tests, Tests, IsSpec, path_char, if_there, is_scheme}
+use Rattle.iri_normal.proofs.Common.{is_scheme_char, is_path, is_query, is_fragment, is_authority, both, Parts, Fits, path_rules, is_empty}
+use Rattle.iri_normal.proofs.Common.{as_it_is, pct, normal_authority, normal_authority_in, dropped_port, CanonMode, Default, normal_nil}
+use Rattle.iri_normal.proofs.Common.{normal_plain, pct-stable, query-whole, fragment-whole, whole_triplets, dots, is_dot_segment, lowered}
+use Rattle.iri_normal.proofs.Common.{becomes_slash, normal_form, normal_form_in, normal_path, slash_or}
 use Rattle.std.proofs.lemmas.List.Folds.{list_all-map}
 use Rattle.iri_grammar.specs.Components.{is_letter}
 use Rattle.iri_grammar.proofs.hosts.LiteralChars.{all-weaken}
 use Rattle.iri_percent.proofs.forms.Classes.{pct-query, pct-fragment}
 use Rattle.iri_normal.proofs.AuthorityForm.{authority_in-fits, authority_in-stable}
 use Rattle.iri_normal.proofs.PathLaws.{path-over, path-rules, path-stable}
-use Rattle.iri_normal.proofs.SchemeForm.{dropped-still, lowered-twice, normal-empty, normal-is, there-fits, there-one}
+use Rattle.iri_normal.proofs.SchemeForm.{dropped-still, lowered-twice, normal-empty, normal-is, there-fits, there-one, normal_parts}
 use Rattle.iri_normal.proofs.TargetLaws.{slash_in_path}
 use Rattle.iri_normal.proofs.TextLaws.{slash_over}
 
@@ -28,12 +28,12 @@ pub lowered-chars : (xs : List ℕ) → list_all is_scheme_char xs ≡ true → 
 lowered-chars xs h = list_all-map is_scheme_char to_ascii_lowercase xs
     ∙ all-weaken is_scheme_char (λ x. is_scheme_char (to_ascii_lowercase x)) lower-scheme_char xs h
 
-pub scheme-fits : (o : Option (List ℕ)) → if_there is_scheme o ≡ true → if_there is_scheme (where_there lowered o) ≡ true
+pub scheme-fits : (o : Option (List ℕ)) → if_there is_scheme o ≡ true → if_there is_scheme (option_map lowered o) ≡ true
 scheme-fits None h = refl
 scheme-fits (Some []) h = cc
 scheme-fits (Some (x ∷ xs)) h = let k = both (is_letter x) (list_all is_scheme_char xs) h in rw (lower-letter x k.0) (lowered-chars xs k.1)
 
-pub scheme-stable : (o : Option (List ℕ)) → where_there lowered (where_there lowered o) ≡ where_there lowered o
+pub scheme-stable : (o : Option (List ℕ)) → option_map lowered (option_map lowered o) ≡ option_map lowered o
 scheme-stable None = refl
 scheme-stable (Some x) = ap Some (lowered-twice x)
 
@@ -56,14 +56,14 @@ path-slashed s d a p k h = elim (becomes_slash d a p) as (λ b. is_path s (slash
 ]
 
 rules-slashed : (s : Tests) (f : List ℕ → List ℕ) (x y : List ℕ) (d a : Option (List ℕ)) (p : List ℕ) → path_rules (Some x) a p ≡ true
-    → path_rules (Some y) (where_there f a) (slashed s d a p) ≡ true
+    → path_rules (Some y) (option_map f a) (slashed s d a p) ≡ true
 rules-slashed s f x y None a p h = path-rules s f x y a p h
 rules-slashed s f x y (Some d) None p h = path-rules s f x y None p h
 rules-slashed s f x y (Some d) (Some z) p h = elim (is_empty p) as (λ b. path_rules (Some y) (Some (f z))
     (slash_or b (normal_path s (Some z) p)) ≡ true) [ true ↦ refl | false ↦ path-rules s f x y (Some z) p h ]
 
 path-slashed-stable : (s : Tests) (f : List ℕ → List ℕ) (o d a : Option (List ℕ)) (p : List ℕ) → IsSpec s → is_path s p ≡ true
-    → path_rules o a p ≡ true → slashed s d (where_there f a) (slashed s d a p) ≡ slashed s d a p
+    → path_rules o a p ≡ true → slashed s d (option_map f a) (slashed s d a p) ≡ slashed s d a p
 path-slashed-stable s f o None a p k h r = path-stable s f a p k h
 path-slashed-stable s f o (Some d) None p k h r = path-stable s f None p k h
 path-slashed-stable s f o (Some d) (Some z) [] k h r = normal-slash s (f z)
@@ -72,11 +72,11 @@ path-slashed-stable s f o (Some d) (Some z) (x ∷ xs) k h r =
 
 rules-fit : (s : Tests) (f : List ℕ → List ℕ) (d : Option (List ℕ)) (t : Parts) (o : Option (List ℕ)) → IsSome o
     → path_rules o t.authority t.path ≡ true
-    → path_rules (where_there lowered o) (where_there f t.authority) (slashed s d t.authority t.path) ≡ true
+    → path_rules (option_map lowered o) (option_map f t.authority) (slashed s d t.authority t.path) ≡ true
 rules-fit s f d t None i h = cc
 rules-fit s f d t (Some x) i h = rules-slashed s f x (lowered x) d t.authority t.path h
 
-still-there : (o : Option (List ℕ)) → IsSome o → IsSome (where_there lowered o)
+still-there : (o : Option (List ℕ)) → IsSome o → IsSome (option_map lowered o)
 still-there None h = h
 still-there (Some x) h = refl
 
@@ -97,17 +97,17 @@ parts-fit s d t k f i = (
 
 -- what is in normal form stays
 pub authorities_in-stable : (s : Tests) (d o : Option (List ℕ)) → IsSpec s → if_there (is_authority s) o ≡ true
-    → where_there (normal_authority_in s d) (where_there (normal_authority_in s d) o) ≡ where_there (normal_authority_in s d) o
+    → option_map (normal_authority_in s d) (option_map (normal_authority_in s d) o) ≡ option_map (normal_authority_in s d) o
 authorities_in-stable s d o k h =
     let f = normal_authority_in s d in there-one (is_authority s) f f f o (λ x e. authority_in-stable s d x k e) h
 
 pub authorities-stable : (s : Tests) (o : Option (List ℕ)) → IsSpec s → if_there (is_authority s) o ≡ true
-    → where_there (normal_authority s) (where_there (normal_authority s) o) ≡ where_there (normal_authority s) o
+    → option_map (normal_authority s) (option_map (normal_authority s) o) ≡ option_map (normal_authority s) o
 authorities-stable s o k h = authorities_in-stable s None o k h
 
 pub triplets-stable : (s : Tests) (p : List ℕ → Bool) (o : Option (List ℕ)) → IsSpec s
     → ((x : List ℕ) → p x ≡ true → whole_triplets x ≡ true) → if_there p o ≡ true
-    → where_there (pct s) (where_there (pct s) o) ≡ where_there (pct s) o
+    → option_map (pct s) (option_map (pct s) o) ≡ option_map (pct s) o
 triplets-stable s p o k whole h = there-one p (pct s) (pct s) (pct s) o (λ x e. pct-stable s x k (whole x e)) h
 
 parts-stable : (s : Tests) (d : Option (List ℕ)) (t : Parts) → IsSpec s → Fits s t → normal_parts s d (normal_parts s d t) ≡ normal_parts s d t

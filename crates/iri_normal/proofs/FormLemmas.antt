@@ -1,11 +1,11 @@
 -- Parts shown in a mode.
-use Rattle.iri_normal.proofs.Common.{◌≡◌, ℕ, Bool, true, false, cond, ◌&&◌, ◌||◌, List, [], ◌∷◌, ◌++◌, Option, Some, Bor, refl, sym, ◌∙◌}
-use Rattle.iri_normal.proofs.Common.{ap, subst, arith, ◌==◌, to_ascii_lowercase, list_all, encode_ascii, nat_tests, or-true, lt-ltb}
-use Rattle.iri_normal.proofs.Common.{low_scalar, Tests, IsSpec, reg_name_char, is_ascii_reg_name, is_ascii_unreserved, is_sub_delim}
+use Rattle.iri_normal.proofs.Common.{option_map, ◌≡◌, ℕ, Bool, true, false, cond, ◌&&◌, ◌||◌, List, [], ◌∷◌, ◌++◌, Option, Some, Bor, refl}
+use Rattle.iri_normal.proofs.Common.{sym, ◌∙◌, ap, subst, arith, ◌==◌, to_ascii_lowercase, list_all, encode_ascii, nat_tests, or-true}
+use Rattle.iri_normal.proofs.Common.{lt-ltb, low_scalar, Tests, IsSpec, reg_name_char, is_ascii_reg_name, is_ascii_unreserved, is_sub_delim}
 use Rattle.iri_normal.proofs.Common.{is_scheme, is_scheme_char, delimited, both, is_host, is_ip_literal, is_empty, scheme_text}
 use Rattle.iri_normal.proofs.Common.{authority_text, scheme-chars, now_of, IsText, ended, letter, over-from_text, normal_host}
-use Rattle.iri_normal.proofs.Common.{is_ascii_host, normal_nil, normal_plain, normal, pct, reg_name_percent, lowered, where_there}
-use Rattle.iri_normal.proofs.Common.{becomes_slash, part_in, in_form}
+use Rattle.iri_normal.proofs.Common.{is_ascii_host, normal_nil, normal_plain, normal, pct, reg_name_percent, lowered, becomes_slash}
+use Rattle.iri_normal.proofs.Common.{part_in, in_form}
 use Rattle.iri_grammar.proofs.splits.SplitUnique.{scheme_char-below as scheme-low}
 
 -- ---- a scheme is a host, and put into lower case as one
@@ -55,18 +55,18 @@ scheme-lowered s x h =
 -- ---- parts that stand, with their delimiters
 pub scheme-in : (n : Bool) (f : List ℕ → List ℕ) (o : Option (Bor (List ℕ))) (a : Bor (List ℕ)) → o ≡ Some a
     → cond n (f a.now) a.now ++ 58 ∷ [] ≡ scheme_text (part_in n f (now_of o))
-scheme-in true f o a e = ap (λ (p : Option (Bor (List ℕ))). scheme_text (where_there f (now_of p))) (sym e)
+scheme-in true f o a e = ap (λ (p : Option (Bor (List ℕ))). scheme_text (option_map f (now_of p))) (sym e)
 scheme-in false f o a e = ap (λ (p : Option (Bor (List ℕ))). scheme_text (now_of p)) (sym e)
 
 pub authority-in : (n : Bool) (f : List ℕ → List ℕ) (o : Option (Bor (List ℕ))) (a : Bor (List ℕ)) → o ≡ Some a
     → (47 ∷ 47 ∷ []) ++ cond n (f a.now) a.now ≡ authority_text (part_in n f (now_of o))
-authority-in true f o a e = ap (λ (p : Option (Bor (List ℕ))). authority_text (where_there f (now_of p))) (sym e)
+authority-in true f o a e = ap (λ (p : Option (Bor (List ℕ))). authority_text (option_map f (now_of p))) (sym e)
 authority-in false f o a e = ap (λ (p : Option (Bor (List ℕ))). authority_text (now_of p)) (sym e)
 
 pub delimited-in : (s : Tests) (n : Bool) (m : List ℕ) (c : ℕ) (o : Option (Bor (List ℕ))) (a : Bor (List ℕ)) → m ≡ c ∷ [] → o ≡ Some a
     → m ++ in_form s n a.now ≡ delimited c (part_in n (pct s) (now_of o))
 delimited-in s true m c o a h e = ap (λ l. l ++ pct s a.now) h
-    ∙ ap (λ (p : Option (Bor (List ℕ))). delimited c (where_there (pct s) (now_of p))) (sym e)
+    ∙ ap (λ (p : Option (Bor (List ℕ))). delimited c (option_map (pct s) (now_of p))) (sym e)
 delimited-in s false m c o a h e = ap (λ l. l ++ a.now) h ∙ ap (λ (p : Option (Bor (List ℕ))). delimited c (now_of p)) (sym e)
 
 -- ---- an empty path beside an authority

@@ -1,6 +1,7 @@
 -- How many bytes a form, a target and a canonical text have at most.
-use Rattle.iri_normal.proofs.Common.{◌≡◌, ℕ, ◌+◌, ◌≤◌, Bool, true, false, cond, ◌&&◌, ◌||◌, not, List, [], ◌∷◌, ◌++◌, Option, Some, None}
-use Rattle.iri_normal.proofs.Common.{length, map, refl, sym, ap, subst, arith, length-append, is_some, to_ascii_uppercase}
+use Rattle.iri_normal.specs.Target.{or_base}
+use Rattle.iri_normal.proofs.Common.{option_map, ◌≡◌, ℕ, ◌+◌, ◌≤◌, Bool, true, false, cond, ◌&&◌, ◌||◌, not, List, [], ◌∷◌, ◌++◌, Option}
+use Rattle.iri_normal.proofs.Common.{Some, None, length, map, refl, sym, ap, subst, arith, length-append, is_some, to_ascii_uppercase}
 use Rattle.iri_normal.proofs.Common.{to_ascii_lowercase, encode_utf8, length-map, Tests, IsSpec, unreserved, path_char, if_there}
 use Rattle.iri_normal.proofs.Common.{is_userinfo, is_path, is_query, is_fragment, lacks, delimited, AuthorityParts, recompose_authority}
 use Rattle.iri_normal.proofs.Common.{authority_parts, is_authority, Parts, Fits, IsReference, IsAbsolute, recompose, scheme_text}
@@ -8,17 +9,17 @@ use Rattle.iri_normal.proofs.Common.{authority_text, is_empty, starts_with_slash
 use Rattle.iri_normal.proofs.Common.{normal, as_it_is, pct, is_ascii_host, is_dropped, normal_host, normal_userinfo, normal_port_in}
 use Rattle.iri_normal.proofs.Common.{normal_authority_parts_in, normal_authority, normal_authority_in, dropped_port, CanonMode, Scheme}
 use Rattle.iri_normal.proofs.Common.{authority_in, normal_nil, normal_plain, normal_lone, normal_char, Reading, done, plain, char, lone}
-use Rattle.iri_normal.proofs.Common.{read, lowered, where_there, is_dot_segment, is_two_dots, without_last, dots, target, target_under}
-use Rattle.iri_normal.proofs.Common.{target_path, merge_prefix, to_last_slash, becomes_slash, canonical_in, canonical_parts_in, form}
-use Rattle.iri_normal.proofs.Common.{normal_parts, normal_path, preserved_path, slash_or, Mode, Plain, Normal, Preserving, ByScheme}
-use Rattle.iri_normal.proofs.Common.{userinfo-whole, host-whole, path-whole, query-whole, fragment-whole}
+use Rattle.iri_normal.proofs.Common.{read, lowered, is_dot_segment, is_two_dots, without_last, dots, target, target_under, target_path}
+use Rattle.iri_normal.proofs.Common.{merge_prefix, to_last_slash, becomes_slash, canonical_in, canonical_parts_in, form}
+use Rattle.iri_normal.proofs.Common.{normal_path, preserved_path, slash_or, Mode, Plain, Normal, Preserving, ByScheme, userinfo-whole}
+use Rattle.iri_normal.proofs.Common.{host-whole, path-whole, query-whole, fragment-whole}
 use Rattle.iri_grammar.specs.Authority.{FitsAuthority, userinfo_text}
 use Rattle.iri_grammar.proofs.authorities.AuthorityLaws.{authority_recomposed}
 use Rattle.iri_percent.proofs.units.AtStart.{length-spelled}
-use Rattle.iri_normal.specs.Target.{target_query, merged, or_base}
+use Rattle.iri_normal.specs.Target.{target_query, merged}
 use Rattle.iri_normal.specs.NormalForm.{parts_with, plain_path}
 use Rattle.iri_normal.proofs.CanonLaws.{canonical_in-text}
-use Rattle.iri_normal.proofs.SchemeForm.{normal-is}
+use Rattle.iri_normal.proofs.SchemeForm.{normal-is, normal_parts}
 use Rattle.iri_normal.proofs.OutputLaws.{closed_text, text_after, text_from, dots-text}
 use Rattle.iri_normal.proofs.StableLaws.{slashed, unsplit, unsplit-pieces}
 use Rattle.iri_normal.proofs.TargetLaws.{target-fits, slash_in_path}
@@ -152,26 +153,26 @@ length-parts p =
       length-append (delimited 63 p.query) (delimited 35 p.fragment),
     )
 
-pub length-scheme : (o : Option (List ℕ)) → length (scheme_text (where_there lowered o)) ≤ length (scheme_text o)
+pub length-scheme : (o : Option (List ℕ)) → length (scheme_text (option_map lowered o)) ≤ length (scheme_text o)
 length-scheme None = omega arith
 length-scheme (Some x) = omega (arith, length-append (lowered x) (58 ∷ []), length-append x (58 ∷ []), length-map x to_ascii_lowercase)
 
 length-authorities_in : (s : Tests) (d o : Option (List ℕ)) → IsSpec s → if_there (is_authority s) o ≡ true
-    → length (authority_text (where_there (normal_authority_in s d) o)) ≤ length (authority_text o)
+    → length (authority_text (option_map (normal_authority_in s d) o)) ≤ length (authority_text o)
 length-authorities_in s d None k h = omega arith
 length-authorities_in s d (Some x) k h = let l = length-authority s d x k h in omega arith
 
 pub length-authorities : (s : Tests) (o : Option (List ℕ)) → IsSpec s → if_there (is_authority s) o ≡ true
-    → length (authority_text (where_there (normal_authority s) o)) ≤ length (authority_text o)
+    → length (authority_text (option_map (normal_authority s) o)) ≤ length (authority_text o)
 length-authorities s o k h = length-authorities_in s None o k h
 
 length-query : (s : Tests) (o : Option (List ℕ)) → IsSpec s → if_there (is_query s) o ≡ true
-    → length (delimited 63 (where_there (pct s) o)) ≤ length (delimited 63 o)
+    → length (delimited 63 (option_map (pct s) o)) ≤ length (delimited 63 o)
 length-query s None k h = omega arith
 length-query s (Some x) k h = let l = length-pct s x (query-whole s x k h) in omega arith
 
 length-fragment : (s : Tests) (o : Option (List ℕ)) → IsSpec s → if_there (is_fragment s) o ≡ true
-    → length (delimited 35 (where_there (pct s) o)) ≤ length (delimited 35 o)
+    → length (delimited 35 (option_map (pct s) o)) ≤ length (delimited 35 o)
 length-fragment s None k h = omega arith
 length-fragment s (Some x) k h = let l = length-pct s x (fragment-whole s x k h) in omega arith
 

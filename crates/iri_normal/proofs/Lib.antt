@@ -40,3 +40,4 @@ pub mod TextLaws
 pub mod TripletDots
 pub mod TripletHeads
 pub mod TripletPaths
+pub mod ShownTexts

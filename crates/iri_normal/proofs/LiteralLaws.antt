@@ -1,8 +1,9 @@
 -- An IP literal in lower case is an IP literal.
-use Rattle.iri_normal.proofs.Common.{◌≡◌, ℕ, Bool, true, false, cond, ◌&&◌, ◌||◌, List, [], ◌∷◌, Option, Some, None, map, refl, ◌∙◌, ap}
-use Rattle.iri_normal.proofs.Common.{arith, ◌==◌, list_all, nat_tests, length-map, is_ascii_userinfo, is_ascii_reg_name}
-use Rattle.iri_normal.proofs.Common.{is_ascii_unreserved, is_sub_delim, before, after, pieces, onto, is_ip_literal, lowered, where_there}
-use Rattle.std.specs.Char.{is_ascii_hexdigit, is_ascii_digit, to_ascii_lowercase}
+use Rattle.iri_normal.proofs.Common.{option_map, ◌≡◌, ℕ, Bool, true, false, cond, ◌&&◌, ◌||◌, List, [], ◌∷◌, Option, Some, None, map, refl}
+use Rattle.iri_normal.proofs.Common.{◌∙◌, ap, arith, ◌==◌, list_all, nat_tests, length-map, is_ascii_userinfo, is_ascii_reg_name}
+use Rattle.iri_normal.proofs.Common.{is_ascii_unreserved, is_sub_delim, before, after, pieces, onto, is_ip_literal, lowered}
+use Rattle.iri_normal.proofs.Common.{is_ascii_hexdigit, to_ascii_lowercase}
+use Rattle.std.specs.Char.{is_ascii_digit}
 use Rattle.std.specs.Int.{is_in_range}
 use Rattle.iri_grammar.specs.Cut.{tail}
 use Rattle.iri_grammar.specs.Ipv4.{is_ipv4, is_dec_octet, is_hundreds, are_four_octets}
@@ -65,11 +66,11 @@ before-lower m (x ∷ xs) h =
     rw (h x, before-lower m xs h) (elim (x == m) as (λ b. cond b [] (to_ascii_lowercase x ∷ lowered (before m xs))
     ≡ lowered (cond b [] (x ∷ before m xs))) [ true ↦ refl | false ↦ refl ])
 
-after-lower : (m : ℕ) (xs : List ℕ) → Stays m → after m (lowered xs) ≡ where_there lowered (after m xs)
+after-lower : (m : ℕ) (xs : List ℕ) → Stays m → after m (lowered xs) ≡ option_map lowered (after m xs)
 after-lower m [] h = refl
 after-lower m (x ∷ xs) h =
-    rw (h x, after-lower m xs h) (elim (x == m) as (λ b. cond b (Some (lowered xs)) (where_there lowered (after m xs))
-    ≡ where_there lowered (cond b (Some xs) (after m xs))) [ true ↦ refl | false ↦ refl ])
+    rw (h x, after-lower m xs h) (elim (x == m) as (λ b. cond b (Some (lowered xs)) (option_map lowered (after m xs))
+    ≡ option_map lowered (cond b (Some xs) (after m xs))) [ true ↦ refl | false ↦ refl ])
 
 -- ---- IPv4
 hundreds-lower : (a b c : ℕ) → is_hundreds (to_ascii_lowercase a) (to_ascii_lowercase b) (to_ascii_lowercase c) ≡ is_hundreds a b c
@@ -142,19 +143,19 @@ before_double-lower (x ∷ xs) =
     (elim (x == 58 && begins 58 xs) as (λ b. cond b [] (to_ascii_lowercase x ∷ lowered (before_double xs))
     ≡ lowered (cond b [] (x ∷ before_double xs))) [ true ↦ refl | false ↦ refl ])
 
-after_double-lower : (xs : List ℕ) → after_double (lowered xs) ≡ where_there lowered (after_double xs)
+after_double-lower : (xs : List ℕ) → after_double (lowered xs) ≡ option_map lowered (after_double xs)
 after_double-lower [] = refl
 after_double-lower (x ∷ xs) =
     rw (colon_stays x, begins-lower 58 xs colon_stays, after_double-lower xs, tail-lower xs)
-    (elim (x == 58 && begins 58 xs) as (λ b. cond b (Some (lowered (tail xs))) (where_there lowered (after_double xs))
-    ≡ where_there lowered (cond b (Some (tail xs)) (after_double xs))) [ true ↦ refl | false ↦ refl ])
+    (elim (x == 58 && begins 58 xs) as (λ b. cond b (Some (lowered (tail xs))) (option_map lowered (after_double xs))
+    ≡ option_map lowered (cond b (Some (tail xs)) (after_double xs))) [ true ↦ refl | false ↦ refl ])
 
 parts-lower : (xs : List ℕ) → group_texts (lowered xs) ≡ map lowered (group_texts xs)
 parts-lower [] = refl
 parts-lower (x ∷ xs) = pieces-lower 58 (x ∷ xs) colon_stays
 
 around-lower : (prefix : List ℕ) (back : Option (List ℕ))
-    → is_ipv6_around (lowered prefix) (where_there lowered back) ≡ is_ipv6_around prefix back
+    → is_ipv6_around (lowered prefix) (option_map lowered back) ≡ is_ipv6_around prefix back
 around-lower prefix None = rw (parts-lower prefix, mixed-lower (group_texts prefix), units-lower (group_texts prefix)) refl
 around-lower prefix (Some back) =
     rw (
@@ -173,7 +174,7 @@ ipv6-lower xs = rw (before_double-lower xs, after_double-lower xs) (around-lower
 version-lower : (v : ℕ) → (to_ascii_lowercase v == 118 || to_ascii_lowercase v == 86) ≡ (v == 118 || v == 86)
 version-lower v = grind (arith, nat_tests)
 
-address-lower : (o : Option (List ℕ)) → is_future_address (where_there lowered o) ≡ is_future_address o
+address-lower : (o : Option (List ℕ)) → is_future_address (option_map lowered o) ≡ is_future_address o
 address-lower None = refl
 address-lower (Some xs) = some-lower is_ascii_userinfo xs userinfo-lower
 
@@ -188,7 +189,7 @@ future-lower (v ∷ t) =
       address-lower (after 46 t),
     ) refl
 
-end-lower : (o : Option (List ℕ)) → is_end (where_there lowered o) ≡ is_end o
+end-lower : (o : Option (List ℕ)) → is_end (option_map lowered o) ≡ is_end o
 end-lower None = refl
 end-lower (Some []) = refl
 end-lower (Some (x ∷ xs)) = refl

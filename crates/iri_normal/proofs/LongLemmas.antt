@@ -1,18 +1,18 @@
 -- A long path in parts.
-use Rattle.iri_normal.proofs.Common.{length-take-le, take-append-drop, count_by, ◌==◌, MatchOption, slice_index, IsUtf8, is_byte, Tests}
-use Rattle.iri_normal.proofs.Common.{path_char, is_path, before, after, lacks, delimited, both, joined, eqb-true, or_parts, or-true}
+use Rattle.iri_normal.proofs.Common.{unwrap_or, length-take-le, take-append-drop, count_by, ◌==◌, MatchOption, slice_index, IsUtf8, is_byte}
+use Rattle.iri_normal.proofs.Common.{Tests, path_char, is_path, before, after, lacks, delimited, both, joined, eqb-true, or_parts, or-true}
 use Rattle.iri_normal.proofs.Common.{is_empty, onto, pieces, more_pieces, pieces_cut, pct, pct_delimiter, slash, dots, is_two_dots}
-use Rattle.iri_normal.proofs.Common.{is_dot_segment, any_dot_segment, has_dot_segment, kept, taken, in_form, ends_at_slash, or_nothing}
-use Rattle.iri_normal.proofs.Common.{popped, popped_times, written, written_segments, nothing_over}
-use Rattle.std.proofs.Common.{◌≡◌, ℕ, zero, suc, ◌+◌, ◌-◌, ◌<◌, ◌≤◌, Bool, true, false, cond, not, ◌&&◌, ◌||◌, List, [], ◌∷◌, ◌++◌, Option}
-use Rattle.std.proofs.Common.{Some, None, refl, sym, ◌∙◌, ap, ap₂, subst, arith, append_assoc, length, take, drop, append-nil}
+use Rattle.iri_normal.proofs.Common.{is_dot_segment, any_dot_segment, has_dot_segment, kept, taken, in_form, ends_at_slash, popped}
+use Rattle.iri_normal.proofs.Common.{popped_times, written, written_segments, nothing_over, ◌≡◌, ℕ, zero, suc, ◌+◌, ◌-◌, ◌<◌, ◌≤◌, Bool}
+use Rattle.iri_normal.proofs.Common.{true, false, cond, not, ◌&&◌, ◌||◌, List, [], ◌∷◌, ◌++◌, Option, Some, None, refl, sym, ◌∙◌, ap, subst}
+use Rattle.iri_normal.proofs.Common.{arith, append_assoc, length, take, drop, append-nil}
+use Rattle.std.proofs.Common.{ap₂}
 use Rattle.std.proofs.lemmas.List.{get_or-take, length-drop, nil_from_length}
 use Rattle.std.proofs.lemmas.List.Recursion.{is_count_by}
 use Rattle.memchr.specs.Find.{IsFirstByte}
 use Rattle.iri_grammar.proofs.splits.FirstBytes.{found}
 use Rattle.iri_grammar.proofs.authorities.AuthorityTexts.{text_over-utf8}
-use Rattle.iri_normal.specs.inside.CutText.{IsCut}
-use Rattle.iri_normal.specs.inside.NextDots.{IsNext}
+use Rattle.iri_normal.specs.inside.NextDots.{IsCut, IsNext}
 use Rattle.iri_normal.proofs.EndedLemmas.{first_whole, rest-ends, slash-ends, take-ends}
 use Rattle.iri_normal.proofs.KeptLemmas.{bottom-times, kept-ends, kept-two, path-stays, taken-two}
 use Rattle.iri_normal.proofs.NormalLemmas.{pct_nil}
@@ -67,7 +67,7 @@ all-taken t n h =
     ap (λ qs. taken qs n) ps.whole ∙ (r ∙ ap (λ k. n - k) (size ∙ is_count_by slashes (is_byte 47) refl (λ x xs. refl) t))
 
 taken-dot : (m : List ℕ) (n : ℕ) (o : Option (List ℕ)) → after 47 m ≡ o → is_dot_segment (before 47 m) ≡ true
-    → taken (pieces 47 m) n ≡ cond (is_two_dots (before 47 m)) (taken (pieces 47 (or_nothing o)) n + 1) (taken (pieces 47 (or_nothing o)) n)
+    → taken (pieces 47 m) n ≡ cond (is_two_dots (before 47 m)) (taken (pieces 47 (unwrap_or o [])) n + 1) (taken (pieces 47 (unwrap_or o [])) n)
 taken-dot m n None e h =
     ap (λ ps. taken ps n) (pieces_cut 47 m ∙ ap (λ o. before 47 m ∷ more_pieces 47 o) e) ∙ rw (h, nothing-is_no_dot) refl
 taken-dot m n (Some r) e h =
@@ -83,7 +83,7 @@ taken-next t a two r n h =
     ∙ (taken-two a m n h.ends
     ∙ (all-taken a (taken (pieces 47 m) n) h.plain
     ∙ ap (λ k. k - count_by (is_byte 47) a) (taken-dot m n (after 47 m) refl h.prefix.dots
-    ∙ (ap (λ v. cond v (taken (pieces 47 (or_nothing (after 47 m))) n + 1) (taken (pieces 47 (or_nothing (after 47 m))) n)) (sym h.prefix.kind)
+    ∙ (ap (λ v. cond v (taken (pieces 47 (unwrap_or (after 47 m) [])) n + 1) (taken (pieces 47 (unwrap_or (after 47 m) [])) n)) (sym h.prefix.kind)
     ∙ ap (λ l. cond two (taken (pieces 47 l) n + 1) (taken (pieces 47 l) n)) (sym h.prefix.rest_is)))))
 
 -- ---- where a text is cut
@@ -105,9 +105,9 @@ cut-there t i l e = record {
 }
 
 -- ---- what is shown
-gone-first : (t : List ℕ) (o : Option (List ℕ)) → after 47 t ≡ o → is_dot_segment (before 47 t) ≡ true → written [] t ≡ written [] (or_nothing o)
+gone-first : (t : List ℕ) (o : Option (List ℕ)) → after 47 t ≡ o → is_dot_segment (before 47 t) ≡ true → written [] t ≡ written [] (unwrap_or o [])
 gone-first t o e h = written-dot [] t h
-    ∙ (ap (λ l. written l (or_nothing (after 47 t))) (left-nothing (is_two_dots (before 47 t))) ∙ ap (λ o. written [] (or_nothing o)) e)
+    ∙ (ap (λ l. written l (unwrap_or (after 47 t) [])) (left-nothing (is_two_dots (before 47 t))) ∙ ap (λ o. written [] (unwrap_or o [])) e)
 
 pub gone-dots : (t r : List ℕ) → after 47 t ≡ Some r → is_dot_segment (before 47 t) ≡ true → written [] t ≡ written [] r
 gone-dots t r e h = gone-first t (Some r) e h

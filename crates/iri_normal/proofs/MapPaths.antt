@@ -2,7 +2,7 @@
 use Rattle.iri_normal.proofs.Common.{◌≡◌, ℕ, Bool, true, false, cond, not, ◌&&◌, ◌||◌, List, [], ◌∷◌, ◌++◌, Option, Some, None, map, refl}
 use Rattle.iri_normal.proofs.Common.{sym, ◌∙◌, ap, subst, arith, ◌==◌, nat_lt, nat_tests, and-false, list_all, lacks, by_test}
 use Rattle.iri_normal.proofs.Common.{starts_with_slashes, pieces, onto, after_dot, is_dot_segment, is_all, is_one_dot, is_one_dot_after}
-use Rattle.iri_normal.proofs.Common.{is_two_dots, dots, guard, where_there, to_last_slash}
+use Rattle.iri_normal.proofs.Common.{is_two_dots, dots, guard, to_last_slash, option_map}
 use Rattle.std.specs.Prelude.{◌/◌, ◌%◌}
 use Rattle.iri_percent.specs.Mapping.{capital_hex, triplet, mapped}
 use Rattle.iri_percent.proofs.mapping.Texts.{mapped-low, mapped-high, mapped-append}
@@ -83,50 +83,50 @@ no_dot-high : (x : ℕ) (xs : List ℕ) → nat_lt x 128 ≡ false → after_dot
 no_dot-high x xs h = after_dot-plain x xs (high_apart x 37 h (omega arith)) ∙ rw (high_apart x 46 h (omega arith)) refl
 
 -- after a `%`
-after_percent : (xs : List ℕ) → after_dot (37 ∷ mapped xs) ≡ where_there mapped (after_dot (37 ∷ xs))
+after_percent : (xs : List ℕ) → after_dot (37 ∷ mapped xs) ≡ option_map mapped (after_dot (37 ∷ xs))
 after_percent [] = refl
 after_percent (y ∷ []) =
     elim (nat_lt y 128) as (λ b. after_dot (37 ∷ (cond b (y ∷ []) (triplet y) ++ [])) ≡ None) [ true ↦ refl | false ↦ refl ]
 after_percent (y ∷ z ∷ xs) =
     elim (nat_lt y 128) as (λ b. nat_lt y 128 ≡ b → after_dot (37 ∷ mapped (y ∷ z ∷ xs))
-    ≡ where_there mapped (after_dot (37 ∷ y ∷ z ∷ xs))) [
+    ≡ option_map mapped (after_dot (37 ∷ y ∷ z ∷ xs))) [
       | true ↦ λ e. ap (λ t. after_dot (37 ∷ t)) (mapped-low y (z ∷ xs) e) ∙ second e
       | false ↦ λ e. ap (λ t. after_dot (37 ∷ t)) (mapped-high y (z ∷ xs) e)
-          ∙ sym (ap (where_there mapped) (no_dot_after_percent y z xs (rw (high_apart y 50 e (omega arith)) refl)))
+          ∙ sym (ap (option_map mapped) (no_dot_after_percent y z xs (rw (high_apart y 50 e (omega arith)) refl)))
     ] refl
   where
-    second : nat_lt y 128 ≡ true → after_dot (37 ∷ y ∷ mapped (z ∷ xs)) ≡ where_there mapped (after_dot (37 ∷ y ∷ z ∷ xs))
+    second : nat_lt y 128 ≡ true → after_dot (37 ∷ y ∷ mapped (z ∷ xs)) ≡ option_map mapped (after_dot (37 ∷ y ∷ z ∷ xs))
     second d =
         elim (nat_lt z 128) as (λ b. nat_lt z 128 ≡ b
-        → after_dot (37 ∷ y ∷ mapped (z ∷ xs)) ≡ where_there mapped (after_dot (37 ∷ y ∷ z ∷ xs))) [
+        → after_dot (37 ∷ y ∷ mapped (z ∷ xs)) ≡ option_map mapped (after_dot (37 ∷ y ∷ z ∷ xs))) [
           | true ↦ λ e. ap (λ t. after_dot (37 ∷ y ∷ t)) (mapped-low z xs e)
               ∙ (elim (y == 50 && (z == 69 || z == 101)) as (λ b. cond b (Some (mapped xs)) None
-              ≡ where_there mapped (cond b (Some xs) None)) [ true ↦ refl | false ↦ refl ])
+              ≡ option_map mapped (cond b (Some xs) None)) [ true ↦ refl | false ↦ refl ])
           | false ↦ λ e.
               ap (λ t. after_dot (37 ∷ y ∷ t)) (mapped-high z xs e)
               ∙ no_dot_after_percent y 37 (capital_hex (z / 16) ∷ capital_hex (z % 16) ∷ mapped xs) (and-false (y == 50))
-              ∙ sym (ap (where_there mapped) (no_dot_after_percent y z xs
+              ∙ sym (ap (option_map mapped) (no_dot_after_percent y z xs
               (rw (high_apart z 69 e (omega arith), high_apart z 101 e (omega arith)) (and-false (y == 50)))))
         ] refl
 
-mapped-dot : (xs : List ℕ) → after_dot (mapped xs) ≡ where_there mapped (after_dot xs)
+mapped-dot : (xs : List ℕ) → after_dot (mapped xs) ≡ option_map mapped (after_dot xs)
 mapped-dot [] = refl
 mapped-dot (x ∷ xs) =
-    elim (nat_lt x 128) as (λ b. nat_lt x 128 ≡ b → after_dot (mapped (x ∷ xs)) ≡ where_there mapped (after_dot (x ∷ xs))) [
+    elim (nat_lt x 128) as (λ b. nat_lt x 128 ≡ b → after_dot (mapped (x ∷ xs)) ≡ option_map mapped (after_dot (x ∷ xs))) [
       | true ↦ λ e. ap after_dot (mapped-low x xs e)
-          ∙ by_test x 37 (λ b. (x == 37) ≡ b → after_dot (x ∷ mapped xs) ≡ where_there mapped (after_dot (x ∷ xs)))
-          (λ same _. subst (λ y. after_dot (y ∷ mapped xs) ≡ where_there mapped (after_dot (y ∷ xs))) (sym same) (after_percent xs))
+          ∙ by_test x 37 (λ b. (x == 37) ≡ b → after_dot (x ∷ mapped xs) ≡ option_map mapped (after_dot (x ∷ xs)))
+          (λ same _. subst (λ y. after_dot (y ∷ mapped xs) ≡ option_map mapped (after_dot (y ∷ xs))) (sym same) (after_percent xs))
           (λ _ n. after_dot-plain x (mapped xs) n
-          ∙ (elim (x == 46) as (λ b. cond b (Some (mapped xs)) None ≡ where_there mapped (cond b (Some xs) None)) [
+          ∙ (elim (x == 46) as (λ b. cond b (Some (mapped xs)) None ≡ option_map mapped (cond b (Some xs) None)) [
             | true ↦ refl
             | false ↦ refl
-          ]) ∙ ap (where_there mapped) (sym (after_dot-plain x xs n)))
+          ]) ∙ ap (option_map mapped) (sym (after_dot-plain x xs n)))
           refl
       | false ↦ λ e. ap after_dot (mapped-high x xs e) ∙ no_dot-triplet x (mapped xs) e
-          ∙ ap (where_there mapped) (sym (no_dot-high x xs e))
+          ∙ ap (option_map mapped) (sym (no_dot-high x xs e))
     ] refl
 
-all-mapped : (o : Option (List ℕ)) → is_all (where_there mapped o) ≡ is_all o
+all-mapped : (o : Option (List ℕ)) → is_all (option_map mapped o) ≡ is_all o
 all-mapped None = refl
 all-mapped (Some []) = refl
 all-mapped (Some (x ∷ xs)) = elim (nat_lt x 128) as (λ b. is_all (Some (cond b (x ∷ []) (triplet x) ++ mapped xs)) ≡ false) [
@@ -137,7 +137,7 @@ all-mapped (Some (x ∷ xs)) = elim (nat_lt x 128) as (λ b. is_all (Some (cond 
 mapped-one_dot : (t : List ℕ) → is_one_dot (mapped t) ≡ is_one_dot t
 mapped-one_dot t = ap is_all (mapped-dot t) ∙ all-mapped (after_dot t)
 
-after-mapped : (o : Option (List ℕ)) → is_one_dot_after (where_there mapped o) ≡ is_one_dot_after o
+after-mapped : (o : Option (List ℕ)) → is_one_dot_after (option_map mapped o) ≡ is_one_dot_after o
 after-mapped None = refl
 after-mapped (Some r) = mapped-one_dot r
 

@@ -3,8 +3,8 @@ use Rattle.iri_normal.proofs.Common.{◌≡◌, ℕ, Bool, true, false, cond, no
 use Rattle.iri_normal.proofs.Common.{subst, IsSome, is_some, Tests, IsSpec, is_path, is_query, is_fragment, iri-law, absolute-law, Parts}
 use Rattle.iri_normal.proofs.Common.{Fits, path_rules, recompose, starts_with_slash, starts_with_slashes, iri_fault, absolute_fault}
 use Rattle.iri_normal.proofs.Common.{pct-path, normal_authority, pct-stable, pct, CanonMode, Default, Scheme, path-whole, query-whole}
-use Rattle.iri_normal.proofs.Common.{fragment-whole, dots, guard, is_normalizing, mode_of, lowered, where_there, form, normal_path}
-use Rattle.iri_normal.proofs.Common.{preserved_path, part_in, Mode, Plain, Normal, Preserving, ByScheme}
+use Rattle.iri_normal.proofs.Common.{fragment-whole, dots, guard, is_normalizing, mode_of, lowered, form, normal_path, preserved_path}
+use Rattle.iri_normal.proofs.Common.{part_in, Mode, Plain, Normal, Preserving, ByScheme, option_map}
 use Rattle.std.specs.Prelude.{IsNone}
 use Rattle.iri_grammar.proofs.splits.SplitUnique.{one_split}
 use Rattle.iri_normal.proofs.SchemeForm.{form-is}
@@ -20,7 +20,7 @@ preserved-over s a p k h =
     ]
 
 preserved-rules : (s : Tests) (x y : List ℕ) (a : Option (List ℕ)) (p : List ℕ) → IsSpec s → is_path s p ≡ true
-    → path_rules (Some x) a p ≡ true → path_rules (Some y) (where_there (normal_authority s) a) (preserved_path s a p) ≡ true
+    → path_rules (Some x) a p ≡ true → path_rules (Some y) (option_map (normal_authority s) a) (preserved_path s a p) ≡ true
 preserved-rules s x y (Some z) p k w h = path-rules s (normal_authority s) x y (Some z) p h
 preserved-rules s x y None p k w h =
     elim (starts_with_slash p) as (λ b. starts_with_slash p ≡ b
@@ -51,7 +51,7 @@ preserving-fits s whole t k f i =
     )
   where
     rules : (o : Option (List ℕ)) → IsSome o → path_rules o t.authority t.path ≡ true
-        → path_rules (where_there lowered o) (where_there (normal_authority s) t.authority) (preserved_path s t.authority t.path) ≡ true
+        → path_rules (option_map lowered o) (option_map (normal_authority s) t.authority) (preserved_path s t.authority t.path) ≡ true
     rules None j h = cc
     rules (Some x) j h = preserved-rules s x (lowered x) t.authority t.path k f.path h
 
@@ -122,7 +122,7 @@ absolute-stays s k mode whole t f h =
 
 -- ---- the preserving form is stable
 preserved-stable : (s : Tests) (a : Option (List ℕ)) (p : List ℕ) → IsSpec s → is_path s p ≡ true
-    → preserved_path s (where_there (normal_authority s) a) (preserved_path s a p) ≡ preserved_path s a p
+    → preserved_path s (option_map (normal_authority s) a) (preserved_path s a p) ≡ preserved_path s a p
 preserved-stable s (Some z) p k h = path-stable s (normal_authority s) (Some z) p k h
 preserved-stable s None p k h =
     elim (starts_with_slash p) as (λ b. starts_with_slash p ≡ b

@@ -1,12 +1,13 @@
 -- The first dot segment of a path.
-use Rattle.iri_normal.proofs.Common.{eqb-true, length-take-le, take-append-drop, ◌==◌, slice_index, and-false, before, after, both}
-use Rattle.iri_normal.proofs.Common.{after_shorter, pieces_cut, is_empty, is_all, is_one_dot_after, is_two_dots, any_dot_segment, after_dot}
-use Rattle.iri_normal.proofs.Common.{is_dot_segment, has_dot_segment, ends_at_slash, dots_before, slash_and_dots, dots_after, left}
-use Rattle.iri_normal.proofs.Common.{or_nothing, written}
-use Rattle.std.proofs.Common.{◌≡◌, ℕ, suc, ◌+◌, ◌-◌, ◌<◌, ◌≤◌, Bool, true, false, cond, ◌&&◌, ◌||◌, List, [], ◌∷◌, ◌++◌, Option, Some, None}
-use Rattle.std.proofs.Common.{refl, sym, ◌∙◌, ap, subst, arith, length, take, drop, length-append, drop-cons, below_more, append-nil}
+use Rattle.iri_normal.proofs.Common.{unwrap_or, eqb-true, length-take-le, take-append-drop, ◌==◌, slice_index, and-false, before, after}
+use Rattle.iri_normal.proofs.Common.{both, after_shorter, pieces_cut, is_empty, is_all, is_one_dot_after, is_two_dots, any_dot_segment}
+use Rattle.iri_normal.proofs.Common.{after_dot, is_dot_segment, has_dot_segment, ends_at_slash, dots_before, slash_and_dots, dots_after}
+use Rattle.iri_normal.proofs.Common.{left, written, ◌≡◌, ℕ, suc, ◌+◌, ◌-◌, ◌<◌, ◌≤◌, Bool, true, false, cond, ◌&&◌, ◌||◌, List, [], ◌∷◌}
+use Rattle.iri_normal.proofs.Common.{◌++◌, Option, Some, None, refl, sym, ◌∙◌, ap, subst, arith, length, take, drop, length-append}
+use Rattle.iri_normal.proofs.Common.{append-nil}
+use Rattle.std.proofs.Common.{drop-cons, below_more}
 use Rattle.std.proofs.lemmas.Bool.{or_right, ne_eqb}
-use Rattle.iri_normal.proofs.DotLemmas.{cut_rest, dot_cut, empty_after, first_or_after, next_place, one_dot_first, plain_prefix, too_short}
+use Rattle.iri_normal.proofs.DotLemmas.{cut_rest, dot_cut, first_or_after, next_place, one_dot_first, plain_prefix, too_short}
 use Rattle.iri_normal.proofs.DotLemmas.{two_dots_first}
 use Rattle.iri_normal.proofs.EndedLemmas.{both-end, take-ends}
 use Rattle.iri_normal.proofs.PieceLaws.{nothing-is_no_dot, past_dot}
@@ -26,32 +27,32 @@ pub nothing-before : (xs : List ℕ) → is_empty xs ≡ true → [] ≡ xs
 nothing-before [] h = refl
 nothing-before (x ∷ xs) h = cc
 
-pub before-one : (t r q : List ℕ) → Some r ≡ after_dot t → is_empty (before 47 r) ≡ true → q ≡ or_nothing (after 47 r)
+pub before-one : (t r q : List ℕ) → Some r ≡ after_dot t → is_empty (before 47 r) ≡ true → q ≡ unwrap_or (after 47 r) []
     → IsBefore t false q
 before-one t r q h e w = record {
   dots = one_dot_first t r h e;
   kind = sym (ap is_one_dot_after (dot_cut t ∙ ap cut_rest (sym h))
       ∙ ap (λ l. is_all (after_dot l)) (sym (nothing-before (before 47 r) e)));
-  rest_is = w ∙ ap or_nothing (sym (after-dot t r (sym h)));
+  rest_is = w ∙ ap (λ o. unwrap_or o []) (sym (after-dot t r (sym h)));
 }
 
 pub before-two : (t r s q : List ℕ) → Some r ≡ after_dot t → is_empty (before 47 r) ≡ false → Some s ≡ after_dot r
-    → is_empty (before 47 s) ≡ true → q ≡ or_nothing (after 47 s) → IsBefore t true q
+    → is_empty (before 47 s) ≡ true → q ≡ unwrap_or (after 47 s) [] → IsBefore t true q
 before-two t r s q h e k f w =
     let n = nothing-before (before 47 s) f in
     record {
-      dots = two_dots_first t r h e ∙ (ap (λ o. empty_after (cut_rest o)) (sym k) ∙ f);
+      dots = two_dots_first t r h e ∙ (ap (λ o. is_all (cut_rest o)) (sym k) ∙ f);
       kind = sym (two-kind t r h ∙ (ap (λ o. is_all (cut_rest o)) (sym k) ∙ ap (λ l. is_all (Some l)) (sym n)));
-      rest_is = w ∙ ap or_nothing (sym (after-dot t r (sym h) ∙ after-dot r s (sym k)));
+      rest_is = w ∙ ap (λ o. unwrap_or o []) (sym (after-dot t r (sym h) ∙ after-dot r s (sym k)));
     }
 
 pub none-second : (t r : List ℕ) → Some r ≡ after_dot t → is_empty (before 47 r) ≡ false → None ≡ after_dot r
     → is_dot_segment (before 47 t) ≡ false
-none-second t r h e k = two_dots_first t r h e ∙ ap (λ o. empty_after (cut_rest o)) (sym k)
+none-second t r h e k = two_dots_first t r h e ∙ ap (λ o. is_all (cut_rest o)) (sym k)
 
 pub none-end : (t r s : List ℕ) → Some r ≡ after_dot t → is_empty (before 47 r) ≡ false → Some s ≡ after_dot r
     → is_empty (before 47 s) ≡ false → is_dot_segment (before 47 t) ≡ false
-none-end t r s h e k f = two_dots_first t r h e ∙ (ap (λ o. empty_after (cut_rest o)) (sym k) ∙ f)
+none-end t r s h e k f = two_dots_first t r h e ∙ (ap (λ o. is_all (cut_rest o)) (sym k) ∙ f)
 
 -- ---- places without one
 pub before-ended : (x : ℕ) (xs m : List ℕ) → ends_at_slash (x ∷ xs) ≡ true → before 47 ((x ∷ xs) ++ m) ≡ before 47 (x ∷ xs)
@@ -151,7 +152,7 @@ pub next-more : (m : List ℕ) → is_dot_segment (before 47 m) ≡ true → 0 <
 next-more [] h = let n : false ≡ true = sym nothing-is_no_dot ∙ h in cc
 next-more (x ∷ xs) h = omega arith
 
-rest-shorter : (m : List ℕ) (o : Option (List ℕ)) → 0 < length m → after 47 m ≡ o → length (or_nothing o) < length m
+rest-shorter : (m : List ℕ) (o : Option (List ℕ)) → 0 < length m → after 47 m ≡ o → length (unwrap_or o []) < length m
 rest-shorter m None l e = l
 rest-shorter m (Some r) l e = omega (arith, after_shorter 47 m r e)
 
@@ -183,7 +184,7 @@ written-next b t a two r h =
     ap (written b) h.whole
     ∙ (written-run b a h.more h.ends h.plain
     ∙ (written-dot (b ++ a) h.more h.prefix.dots
-    ∙ (ap (λ k. written (left k (b ++ a)) (or_nothing (after 47 h.more))) (sym h.prefix.kind)
+    ∙ (ap (λ k. written (left k (b ++ a)) (unwrap_or (after 47 h.more) [])) (sym h.prefix.kind)
     ∙ ap (written (left two (b ++ a))) (sym h.prefix.rest_is))))
 
 pub next-dotted : (t a : List ℕ) (two : Bool) (r : List ℕ) → IsNext t a two r → has_dot_segment t ≡ true

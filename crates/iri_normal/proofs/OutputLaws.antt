@@ -1,7 +1,8 @@
 -- Dot removal over segments and over the output's text.
 use Rattle.iri_normal.proofs.Common.{◌≡◌, ℕ, Bool, true, false, cond, not, ◌&&◌, List, [], ◌∷◌, ◌++◌, refl, sym, ◌∙◌, ap, map, ◌==◌, eq-eqb}
-use Rattle.iri_normal.proofs.Common.{list_all, lacks, both, pieces, is_dot_segment}
-use Rattle.iri_normal.specs.DotRemoval.{is_two_dots, without_last, without_top, closed, remove_after, remove_dots, path_text, dots}
+use Rattle.iri_normal.proofs.Common.{list_all, lacks, both, pieces, is_dot_segment, without_last, closed, remove_after, remove_dots}
+use Rattle.iri_normal.proofs.Common.{path_text, dots, is_two_dots}
+use Rattle.iri_normal.specs.DotRemoval.{without_top}
 use Rattle.iri_normal.proofs.PieceLaws.{all_lack, pieces-lack}
 
 -- the segments that follow a slash, after the text that was put out

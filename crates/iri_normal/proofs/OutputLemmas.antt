@@ -1,7 +1,8 @@
 -- The last segment of the output buffer.
 use Rattle.iri_normal.proofs.Common.{◌≡◌, ℕ, ◌+◌, ◌-◌, ◌<◌, ◌≤◌, true, List, [], ◌∷◌, ◌++◌, Some, None, refl, sym, ◌∙◌, ap, arith}
 use Rattle.iri_normal.proofs.Common.{append_assoc, length, take, drop, is_byte, IsLastByte, without_last, ends_at_slash, popped}
-use Rattle.std.proofs.lemmas.List.{length-take-le, take-append-drop, take-take, take_more}
+use Rattle.iri_normal.proofs.Common.{length-take-le, take-append-drop}
+use Rattle.std.proofs.lemmas.List.{take-take, take_more}
 use Rattle.std.specs.Prelude.{slice_set}
 use Rattle.iri_normal.proofs.EndedLemmas.{after_last, without_end}
 use Rattle.iri_normal.proofs.OutputLaws.{without_last-all, without_last-slash}

@@ -1,11 +1,10 @@
 -- The normal form of a path: it stays a path, keeps its rules, and is stable.
-use Rattle.iri_normal.proofs.Common.{◌≡◌, ℕ, Bool, true, false, cond, not, ◌||◌, List, [], ◌∷◌, ◌++◌, Option, Some, None, refl, ◌∙◌, ap}
-use Rattle.iri_normal.proofs.Common.{subst, append-nil, eqb-true, ◌==◌, is_some, list_all, Tests, IsSpec, path_char, is_ascii_path}
+use Rattle.iri_normal.proofs.Common.{option_map, ◌≡◌, ℕ, Bool, true, false, cond, not, ◌||◌, List, [], ◌∷◌, ◌++◌, Option, Some, None, refl}
+use Rattle.iri_normal.proofs.Common.{◌∙◌, ap, subst, append-nil, eqb-true, ◌==◌, is_some, list_all, Tests, IsSpec, path_char, is_ascii_path}
 use Rattle.iri_normal.proofs.Common.{is_ascii_pchar, is_ascii_reg_name, is_ascii_unreserved, is_sub_delim, is_path, lacks, both, text_over}
 use Rattle.iri_normal.proofs.Common.{path_rules, is_empty, starts_with_slash, starts_with_slashes, pieces, as_it_is, pct, whole_triplets}
 use Rattle.iri_normal.proofs.Common.{normal_nil, normal_plain, pct-stable, is_dot_segment, is_two_dots, without_last, closed, remove_after}
-use Rattle.iri_normal.proofs.Common.{remove_dots, path_text, dots, guard, normal_path, text_over-append, nothing_over, where_there}
-use Rattle.iri_normal.proofs.Common.{pct-path, path-whole}
+use Rattle.iri_normal.proofs.Common.{remove_dots, path_text, dots, guard, normal_path, text_over-append, nothing_over, pct-path, path-whole}
 use Rattle.iri_normal.proofs.TextLaws.{slash_over, point_over, text_over-cut}
 use Rattle.iri_normal.proofs.TargetLaws.{slash_in_path}
 use Rattle.iri_normal.proofs.PieceLaws.{nothing-is_no_dot, pieces-some}
@@ -145,17 +144,17 @@ guarded q = elim (starts_with_slashes q) as (λ b. starts_with_slashes q ≡ b
     → not (starts_with_slashes (cond (not b) q (47 ∷ 46 ∷ q))) ≡ true) [ true ↦ λ _. refl | false ↦ λ e. rw e refl ] refl
 
 pub path-rules : (s : Tests) (f : List ℕ → List ℕ) (x y : List ℕ) (a : Option (List ℕ)) (t : List ℕ) → path_rules (Some x) a t ≡ true
-    → path_rules (Some y) (where_there f a) (normal_path s a t) ≡ true
+    → path_rules (Some y) (option_map f a) (normal_path s a t) ≡ true
 unfolding normal_path
 path-rules s f x y (Some z) t h = path-rooted s t h
 path-rules s f x y None t h = guarded (pct s (dots t))
 
-pub stands-still : (f : List ℕ → List ℕ) (o : Option (List ℕ)) → is_some (where_there f o) ≡ is_some o
+pub stands-still : (f : List ℕ → List ℕ) (o : Option (List ℕ)) → is_some (option_map f o) ≡ is_some o
 stands-still f None = refl
 stands-still f (Some x) = refl
 
 pub path-stable : (s : Tests) (f : List ℕ → List ℕ) (a : Option (List ℕ)) (t : List ℕ) → IsSpec s → is_path s t ≡ true
-    → normal_path s (where_there f a) (normal_path s a t) ≡ normal_path s a t
+    → normal_path s (option_map f a) (normal_path s a t) ≡ normal_path s a t
 unfolding normal_path
 path-stable s f a t k h =
     let w = path-whole s (dots t) k (dots-over (path_char s) t (slash_in_path s) h) in

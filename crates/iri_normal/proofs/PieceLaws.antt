@@ -1,8 +1,7 @@
 -- The segments of a path.
 use Rattle.iri_normal.proofs.Common.{◌≡◌, ℕ, Bool, true, false, cond, not, ◌&&◌, ◌||◌, List, [], ◌∷◌, ◌++◌, Option, Some, None, refl, sym}
 use Rattle.iri_normal.proofs.Common.{◌∙◌, ap, subst, arith, ◌==◌, nat_tests, or-true, or-false, lacks, by_test, both, pieces, onto}
-use Rattle.iri_normal.proofs.Common.{after_dot, is_dot_segment, is_dot_segment_after, is_dot_or_nothing, is_all, is_one_dot}
-use Rattle.iri_normal.proofs.Common.{is_one_dot_after, is_two_dots}
+use Rattle.iri_normal.proofs.Common.{after_dot, is_dot_segment, is_all, is_one_dot, is_one_dot_after, is_two_dots}
 
 -- each of the texts lacks the slash
 abbrev pub all_lack : List (List ℕ) → Bool
@@ -85,37 +84,27 @@ past_dot g pass (x ∷ y ∷ z ∷ xs) r h =
 after_dot-lacks : (d r : List ℕ) → after_dot d ≡ Some r → lacks 47 d ≡ lacks 47 r
 after_dot-lacks d r h = past_dot (lacks 47) (λ x xs e. rw e refl) d r h
 
-nothing_or_dot-lacks : (r : List ℕ) → is_dot_or_nothing r ≡ true → lacks 47 r ≡ true
-nothing_or_dot-lacks [] h = refl
-nothing_or_dot-lacks (x ∷ xs) h = by_rest (after_dot (x ∷ xs)) refl
+one_dot-lacks : (d : List ℕ) → is_one_dot d ≡ true → lacks 47 d ≡ true
+one_dot-lacks d h = by_rest (after_dot d) refl h
   where
-    by_rest : (o : Option (List ℕ)) → after_dot (x ∷ xs) ≡ o → lacks 47 (x ∷ xs) ≡ true
-    by_rest None e = let n : false ≡ true = rw e at h in cc
-    by_rest (Some []) e = after_dot-lacks (x ∷ xs) [] e
-    by_rest (Some (y ∷ ys)) e = let n : false ≡ true = rw e at h in cc
+    by_rest : (o : Option (List ℕ)) → after_dot d ≡ o → is_all o ≡ true → lacks 47 d ≡ true
+    by_rest None e k = cc
+    by_rest (Some []) e k = after_dot-lacks d [] e
+    by_rest (Some (x ∷ xs)) e k = cc
 
 pub dot_segment-lacks : (d : List ℕ) → is_dot_segment d ≡ true → lacks 47 d ≡ true
 unfolding is_dot_segment
 dot_segment-lacks d h = by_rest (after_dot d) refl h
   where
-    by_rest : (o : Option (List ℕ)) → after_dot d ≡ o → is_dot_segment_after o ≡ true → lacks 47 d ≡ true
+    by_rest : (o : Option (List ℕ)) → after_dot d ≡ o → (is_all o || is_one_dot_after o) ≡ true → lacks 47 d ≡ true
     by_rest None e k = cc
-    by_rest (Some r) e k = after_dot-lacks d r e ∙ nothing_or_dot-lacks r k
+    by_rest (Some []) e k = after_dot-lacks d [] e
+    by_rest (Some (x ∷ xs)) e k = after_dot-lacks d (x ∷ xs) e ∙ one_dot-lacks (x ∷ xs) k
 
 -- a dot segment is one dot or two
 pub dot_kinds : (d : List ℕ) → is_dot_segment d ≡ (is_one_dot d || is_two_dots d)
 unfolding is_dot_segment
-dot_kinds d = by_rest (after_dot d)
-  where
-    second : (x : ℕ) (xs : List ℕ) (o : Option (List ℕ)) → after_dot (x ∷ xs) ≡ o → is_dot_or_nothing (x ∷ xs) ≡ is_one_dot (x ∷ xs)
-    second x xs None e = rw e refl
-    second x xs (Some []) e = rw e refl
-    second x xs (Some (y ∷ ys)) e = rw e refl
-
-    by_rest : (o : Option (List ℕ)) → is_dot_segment_after o ≡ (is_all o || is_one_dot_after o)
-    by_rest None = refl
-    by_rest (Some []) = refl
-    by_rest (Some (x ∷ xs)) = second x xs (after_dot (x ∷ xs)) refl
+dot_kinds d = refl
 
 pub one_dot-is_not_two : (d : List ℕ) → is_one_dot d ≡ true → is_two_dots d ≡ false
 one_dot-is_not_two d h = by_rest (after_dot d) h

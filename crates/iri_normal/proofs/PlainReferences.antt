@@ -28,7 +28,7 @@ use Rattle.iri_normal.proofs.PrefixLemmas.{prefix-form, rest, text-cut}
 use Rattle.iri_percent.specs.Triplets.{as_it_is}
 use Rattle.iri_normal.specs.Target.{or_base}
 use Rattle.iri_normal.proofs.SegmentLemmas.{dot_in_parts}
-use Rattle.iri_normal.proofs.StableLaws.{no_dots-same}
+use Rattle.iri_normal.proofs.StableLaws.{no_dots_same}
 use Rattle.iri_normal.proofs.TripletHeads.{pct-heads}
 
 -- ---- tests
@@ -57,18 +57,18 @@ authority_text-ascii : (o : Option (List ℕ)) → if_there is_plain_authority o
 authority_text-ascii None h = IsAscii-nil
 authority_text-ascii (Some a) h = IsAscii-cons 47 (47 ∷ a) (omega arith) (IsAscii-cons 47 a (omega arith) (plain-ascii a h))
 
-scheme_text-lowered : (o : Option (List ℕ)) → scheme_text (where_there lowered o) ≡ lowered (scheme_text o)
+scheme_text-lowered : (o : Option (List ℕ)) → scheme_text (option_map lowered o) ≡ lowered (scheme_text o)
 scheme_text-lowered None = refl
 scheme_text-lowered (Some x) = sym (map-append to_ascii_lowercase x (58 ∷ []))
 
 authority_text-lowered : (s : Tests) (o : Option (List ℕ)) → if_there is_plain_authority o ≡ true
-    → authority_text (where_there (normal_authority s) o) ≡ lowered (authority_text o)
+    → authority_text (option_map (normal_authority s) o) ≡ lowered (authority_text o)
 authority_text-lowered s None h = refl
 authority_text-lowered s (Some a) h = ap (λ x. 47 ∷ 47 ∷ x) (plain_authority s a h)
 
 prefix-lowered : (s : Tests) (r : Parts) → if_there is_plain_authority r.authority ≡ true → prefix_in s true r ≡ lowered (prefix_in s false r)
 prefix-lowered s r h =
-    ap (λ x. x ++ authority_text (where_there (normal_authority s) r.authority)) (scheme_text-lowered r.scheme)
+    ap (λ x. x ++ authority_text (option_map (normal_authority s) r.authority)) (scheme_text-lowered r.scheme)
     ∙ (ap (λ x. lowered (scheme_text r.scheme) ++ x) (authority_text-lowered s r.authority h)
     ∙ sym (map-append to_ascii_lowercase (scheme_text r.scheme) (authority_text r.authority)))
 
@@ -97,7 +97,7 @@ path-form : (s : Tests) (a : Option (List ℕ)) (p : List ℕ) → IsSpec s → 
     → (is_some a || not (starts_with_slashes p)) ≡ true → normal_path s a p ≡ pct s p
 unfolding normal_path
 path-form s a p k d w g =
-    ap (λ q. guard (pct s q) (is_some a)) (no_dots-same p d)
+    ap (λ q. guard (pct s q) (is_some a)) (no_dots_same p d)
     ∙ (ap (λ b. cond (is_some a || not b) (pct s p) (47 ∷ 46 ∷ pct s p)) (pct-heads s p k w)
     ∙ ap (λ b. cond b (pct s p) (47 ∷ 46 ∷ pct s p)) g)
 
@@ -113,7 +113,7 @@ fragment_delimiter : IsOutsideTriplets 35
 fragment_delimiter = record { percent = refl; digit = refl }
 
 rest-form : (s : Tests) (p : List ℕ) (q f : Option (List ℕ)) → pct s (p ++ (delimited 63 q ++ delimited 35 f))
-    ≡ pct s p ++ (delimited 63 (where_there (pct s) q) ++ delimited 35 (where_there (pct s) f))
+    ≡ pct s p ++ (delimited 63 (option_map (pct s) q) ++ delimited 35 (option_map (pct s) f))
 rest-form s p None f = pct-delimited s 35 p f fragment_delimiter
 rest-form s p (Some q) f = pct_delimiter s 63 p (q ++ delimited 35 f) query_delimiter ∙ ap (λ l. pct s p ++ 63 ∷ l) (pct-delimited s 35 q f fragment_delimiter)
 
@@ -142,7 +142,7 @@ shift p f h q tail e =
 
 whole-form : (s : Tests) (base r : Parts) (prefix directory own : List ℕ) → IsSpec s → Fits s r → StandBefore s base r prefix directory own
     → has_dot_segment r.path ≡ false → recompose (normal_form s (target base r))
-    ≡ prefix ++ (directory ++ (own ++ (pct s r.path ++ (delimited 63 (where_there (pct s) r.query) ++ delimited 35 (where_there (pct s) r.fragment)))))
+    ≡ prefix ++ (directory ++ (own ++ (pct s r.path ++ (delimited 63 (option_map (pct s) r.query) ++ delimited 35 (option_map (pct s) r.fragment)))))
 unfolding normal_form
 whole-form s base r prefix directory own k f b n =
     let u = target base r in
@@ -152,13 +152,13 @@ whole-form s base r prefix directory own k f b n =
     let path : normal_path s u.authority u.path ≡ directory ++ pct s r.path =
     ap (normal_path s u.authority) b.path
     ∙ (path-form s u.authority (directory ++ r.path) k dots whole b.unguarded ∙ pct-prefix s directory r.path plain.0) in
-    let tail = delimited 63 (where_there (pct s) r.query) ++ delimited 35 (where_there (pct s) r.fragment) in
+    let tail = delimited 63 (option_map (pct s) r.query) ++ delimited 35 (option_map (pct s) r.fragment) in
     sym (prefix-form s Normal false u (prefix_in s true u) refl refl)
-    ∙ (ap (λ x. prefix_in s true u ++ (x ++ (delimited 63 (where_there (pct s) u.query) ++ delimited 35 (where_there (pct s) u.fragment)))) path
-    ∙ (ap (λ x. prefix_in s true u ++ ((directory ++ pct s r.path) ++ (delimited 63 (where_there (pct s) x)
-    ++ delimited 35 (where_there (pct s) u.fragment)))) b.query
-    ∙ (ap (λ x. prefix_in s true u ++ ((directory ++ pct s r.path) ++ (delimited 63 (where_there (pct s) r.query)
-    ++ delimited 35 (where_there (pct s) x)))) b.fragment
+    ∙ (ap (λ x. prefix_in s true u ++ (x ++ (delimited 63 (option_map (pct s) u.query) ++ delimited 35 (option_map (pct s) u.fragment)))) path
+    ∙ (ap (λ x. prefix_in s true u ++ ((directory ++ pct s r.path) ++ (delimited 63 (option_map (pct s) x)
+    ++ delimited 35 (option_map (pct s) u.fragment)))) b.query
+    ∙ (ap (λ x. prefix_in s true u ++ ((directory ++ pct s r.path) ++ (delimited 63 (option_map (pct s) r.query)
+    ++ delimited 35 (option_map (pct s) x)))) b.fragment
     ∙ (ap (λ x. prefix_in s true u ++ x) (append_assoc directory (pct s r.path) tail)
     ∙ shift prefix directory own (prefix_in s true u) (pct s r.path ++ tail) b.text))))
 

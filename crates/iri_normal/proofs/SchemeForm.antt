@@ -1,15 +1,20 @@
 -- What rules that drop a port change: a normal form loses the port, and its empty path becomes a slash.
+use Rattle.iri_normal.specs.NormalForm.{parts_with}
 use Rattle.iri_normal.proofs.Common.{◌≡◌, ℕ, Bool, true, false, cond, ◌||◌, List, [], ◌∷◌, Option, Some, None, refl, sym, ◌∙◌, ap}
 use Rattle.iri_normal.proofs.Common.{to_ascii_lowercase, bytes_eq, Tests, IsSpec, if_there, authority_parts, is_authority}
 use Rattle.iri_normal.proofs.Common.{recompose_authority, AuthorityParts, Parts, Fits, path_rules, is_empty, starts_with_slash, as_it_is}
 use Rattle.iri_normal.proofs.Common.{pct, is_dropped, normal_authority, normal_authority_in, normal_port_in, default_port, dropped_port}
-use Rattle.iri_normal.proofs.Common.{CanonMode, Default, Scheme, authority_in, normal_nil, lower-case, dots, lowered, where_there, mode_of}
-use Rattle.iri_normal.proofs.Common.{becomes_slash, form, normal_form, normal_form_in, normal_parts, normal_path, slash_or}
+use Rattle.iri_normal.proofs.Common.{CanonMode, Default, Scheme, authority_in, normal_nil, lower-case, dots, lowered, mode_of}
+use Rattle.iri_normal.proofs.Common.{becomes_slash, form, normal_form, normal_form_in, normal_path, slash_or, option_map}
 use Rattle.std.specs.Prelude.{codes}
 use Rattle.std.specs.Str.{str_eq_ignore_ascii_case, str_to_ascii_lowercase}
 use Rattle.iri_percent.specs.NormalHost.{normal_authority_parts, normal_port}
 use Rattle.iri_normal.proofs.AuthorityForm.{normal-parts}
 use Rattle.iri_normal.proofs.PathLaws.{dots-nothing, dots-slash, pct-slash}
+
+-- parts in normal form by rules that drop this port; the rules of every scheme drop none
+abbrev pub normal_parts : Tests → Option (List ℕ) → Parts → Parts
+normal_parts s dropped t = parts_with s true dropped (normal_path s t.authority t.path) t
 
 -- a normal form by the port that its mode drops
 pub normal-is : (s : Tests) (m : CanonMode) (t : Parts) → normal_form_in s m t ≡ normal_parts s (dropped_port m t.scheme) t
@@ -25,17 +30,17 @@ form-is s Scheme whole t = refl
 
 -- ---- parts that may stand
 pub there-fits : (p q : List ℕ → Bool) (f : List ℕ → List ℕ) (o : Option (List ℕ)) → ((x : List ℕ) → p x ≡ true → q (f x) ≡ true)
-    → if_there p o ≡ true → if_there q (where_there f o) ≡ true
+    → if_there p o ≡ true → if_there q (option_map f o) ≡ true
 there-fits p q f None go h = refl
 there-fits p q f (Some x) go h = go x h
 
 pub there-one : (p : List ℕ → Bool) (f g a : List ℕ → List ℕ) (o : Option (List ℕ)) → ((x : List ℕ) → p x ≡ true → f (g x) ≡ a x)
-    → if_there p o ≡ true → where_there f (where_there g o) ≡ where_there a o
+    → if_there p o ≡ true → option_map f (option_map g o) ≡ option_map a o
 there-one p f g a None go h = refl
 there-one p f g a (Some x) go h = ap Some (go x h)
 
 pub there-both : (p : List ℕ → Bool) (f g a b : List ℕ → List ℕ) (o : Option (List ℕ)) → ((x : List ℕ) → p x ≡ true → f (g x) ≡ a (b x))
-    → if_there p o ≡ true → where_there f (where_there g o) ≡ where_there a (where_there b o)
+    → if_there p o ≡ true → option_map f (option_map g o) ≡ option_map a (option_map b o)
 there-both p f g a b None go h = refl
 there-both p f g a b (Some x) go h = ap Some (go x h)
 
@@ -57,11 +62,11 @@ default-lowered x = rw (
   same-name x (codes "ftp"),
 ) refl
 
-pub dropped-lowered : (o : Option (List ℕ)) → dropped_port Scheme (where_there lowered o) ≡ dropped_port Scheme o
+pub dropped-lowered : (o : Option (List ℕ)) → dropped_port Scheme (option_map lowered o) ≡ dropped_port Scheme o
 dropped-lowered None = refl
 dropped-lowered (Some x) = default-lowered x
 
-pub dropped-still : (m : CanonMode) (o : Option (List ℕ)) → dropped_port m (where_there lowered o) ≡ dropped_port m o
+pub dropped-still : (m : CanonMode) (o : Option (List ℕ)) → dropped_port m (option_map lowered o) ≡ dropped_port m o
 dropped-still Default o = refl
 dropped-still Scheme o = dropped-lowered o
 
@@ -77,7 +82,7 @@ normal-empty s z [] h = rw (dots-nothing, normal_nil s as_it_is) refl
 normal-empty s z (x ∷ xs) h = begun (pct s (dots (x ∷ xs))) (pct-slash s (dots (x ∷ xs)) (dots-slash (x ∷ xs) h))
 
 pub slash-normal : (s : Tests) (f : List ℕ → List ℕ) (o d a : Option (List ℕ)) (p : List ℕ) → path_rules o a p ≡ true
-    → becomes_slash d (where_there f a) (normal_path s a p) ≡ becomes_slash d a p
+    → becomes_slash d (option_map f a) (normal_path s a p) ≡ becomes_slash d a p
 slash-normal s f o None a p h = refl
 slash-normal s f o (Some d) None p h = refl
 slash-normal s f o (Some d) (Some z) p h = normal-empty s z p h
@@ -111,7 +116,7 @@ without-normal s (Some d) t k h =
 -- ---- the normal form of a mode is told by that of the rules of every scheme
 abbrev pub by_rules : Option (List ℕ) → Parts → Parts
 by_rules d p = record p {
-  authority = where_there (without d) p.authority;
+  authority = option_map (without d) p.authority;
   path = slash_or (becomes_slash d p.authority p.path) p.path;
 }
 

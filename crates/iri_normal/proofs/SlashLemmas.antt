@@ -1,8 +1,9 @@
 -- The last slash of a path.
 use Rattle.iri_normal.proofs.Common.{◌==◌, slice_index, eqb-true, drop_at, length-take-le, is_byte, IsLastByte, lacks, is_empty}
-use Rattle.iri_normal.proofs.Common.{starts_with_slash, starts_with_slashes, to_last_slash, last_segment, ends_at_slash}
-use Rattle.std.proofs.Common.{◌≡◌, ℕ, zero, suc, ◌+◌, ◌<◌, true, false, cond, not, ◌&&◌, List, [], ◌∷◌, Some, None, length, take, drop}
-use Rattle.std.proofs.Common.{◌++◌, refl, sym, ◌∙◌, ap, arith, add-one}
+use Rattle.iri_normal.proofs.Common.{starts_with_slash, starts_with_slashes, to_last_slash, last_segment, ends_at_slash, ◌≡◌, ℕ, zero, suc}
+use Rattle.iri_normal.proofs.Common.{◌+◌, ◌<◌, true, false, cond, not, ◌&&◌, List, [], ◌∷◌, Some, None, length, take, drop, ◌++◌, refl, sym}
+use Rattle.iri_normal.proofs.Common.{◌∙◌, ap, arith}
+use Rattle.std.proofs.Common.{add-one}
 use Rattle.std.proofs.lemmas.Bool.{false_from_ne_true}
 
 -- none, or the last at k

@@ -1,7 +1,7 @@
 -- Dot removal leaves no dot segment, and a path without one as it is.
 use Rattle.iri_normal.proofs.Common.{or_parts, lacks, by_test, both, starts_with_slash, pieces, onto, is_dot_segment, any_dot_segment}
-use Rattle.iri_normal.proofs.Common.{has_dot_segment, is_two_dots, closed, remove_after, remove_dots, path_text, dots, guard}
-use Rattle.std.proofs.Common.{◌≡◌, ℕ, Bool, true, false, cond, not, ◌&&◌, List, [], ◌∷◌, ◌++◌, refl, sym, ◌∙◌, ap, append_assoc, append-nil}
+use Rattle.iri_normal.proofs.Common.{has_dot_segment, is_two_dots, closed, remove_after, remove_dots, path_text, dots, guard, ◌≡◌, ℕ, Bool}
+use Rattle.iri_normal.proofs.Common.{true, false, cond, not, ◌&&◌, List, [], ◌∷◌, ◌++◌, refl, sym, ◌∙◌, ap, append_assoc, append-nil}
 use Rattle.iri_normal.proofs.PieceLaws.{all_lack, pieces-some, pieces-append, pieces-whole, pieces-lack, nothing-is_no_dot}
 use Rattle.iri_normal.proofs.OutputLaws.{is_output, left, output-push, output-left, output-closed}
 
@@ -107,12 +107,12 @@ same-removed [] h = refl
 same-removed (s ∷ ss) h =
     let n = or_parts (is_dot_segment s) (any_dot_segment ss) h in rw n.0 (same-after s [] ss n.1)
 
-pub no_dots-same : (p : List ℕ) → has_dot_segment p ≡ false → dots p ≡ p
+pub no_dots_same : (p : List ℕ) → has_dot_segment p ≡ false → dots p ≡ p
 unfolding dots
-no_dots-same p h = same-removed (pieces 47 p) h ∙ unsplit-pieces p
+no_dots_same p h = same-removed (pieces 47 p) h ∙ unsplit-pieces p
 
 pub dots-stable : (p : List ℕ) → dots (dots p) ≡ dots p
-dots-stable p = no_dots-same (dots p) (no_dots_left p)
+dots-stable p = no_dots_same (dots p) (no_dots_left p)
 
 -- ---- the guard
 pub dot_before : (q : List ℕ) → dots (47 ∷ 46 ∷ 47 ∷ q) ≡ dots (47 ∷ q)
@@ -129,5 +129,5 @@ guard-dots (x ∷ xs) false =
     ≡ dots (x ∷ xs)) [ true ↦ rw e (dot_before xs) | false ↦ refl ])
     (λ _. refl)
 
-pub guarded-stable : (p : List ℕ) (stands : Bool) → dots (guard (dots p) stands) ≡ dots p
-guarded-stable p stands = guard-dots (dots p) stands ∙ dots-stable p
+pub guarded_stable : (p : List ℕ) (stands : Bool) → dots (guard (dots p) stands) ≡ dots p
+guarded_stable p stands = guard-dots (dots p) stands ∙ dots-stable p

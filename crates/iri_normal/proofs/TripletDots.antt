@@ -1,11 +1,12 @@
 -- Triplet normal form keeps what is a dot segment.
-use Rattle.iri_normal.proofs.Common.{eqb-true, ◌==◌, is_ascii_hexdigit, to_ascii_uppercase, encode_utf8, nat_tests, not-true, encode, Tests}
-use Rattle.iri_normal.proofs.Common.{IsSpec, unreserved, is_ascii_unreserved, lacks, by_test, both, lacks-other, is_empty, octet}
-use Rattle.iri_normal.proofs.Common.{whole_triplets, as_it_is, pct, Spells, none, more, normal_nil, normal_plain, normal_lone, normal_char}
-use Rattle.iri_normal.proofs.Common.{Reading, done, plain, char, lone, whole_plain, read, upper_hex, upper_octet, where_there, after_dot}
-use Rattle.iri_normal.proofs.Common.{is_dot_segment, is_all, is_one_dot, is_one_dot_after, is_two_dots}
-use Rattle.std.proofs.Common.{◌≡◌, ℕ, ◌+◌, ◌*◌, ◌<◌, true, false, cond, not, ◌&&◌, ◌||◌, List, [], ◌∷◌, ◌++◌, Option, Some, None, map, refl}
-use Rattle.std.proofs.Common.{sym, ◌∙◌, ap, subst, arith, append-nil}
+use Rattle.iri_normal.proofs.Common.{option_map, eqb-true, ◌==◌, is_ascii_hexdigit, to_ascii_uppercase, encode_utf8, nat_tests, not-true}
+use Rattle.iri_normal.proofs.Common.{encode, Tests, IsSpec, unreserved, is_ascii_unreserved, lacks, by_test, both, lacks-other, is_empty}
+use Rattle.iri_normal.proofs.Common.{octet, whole_triplets, as_it_is, pct, Spells, none, more, normal_nil, normal_plain, normal_lone}
+use Rattle.iri_normal.proofs.Common.{normal_char, Reading, done, plain, char, lone, whole_plain, read, upper_hex, upper_octet, after_dot}
+use Rattle.iri_normal.proofs.Common.{is_dot_segment, is_all, is_one_dot, is_one_dot_after, is_two_dots, ◌≡◌, ℕ, ◌+◌, ◌<◌, true, false, cond}
+use Rattle.iri_normal.proofs.Common.{not, ◌&&◌, ◌||◌, List, [], ◌∷◌, ◌++◌, Option, Some, None, map, refl, sym, ◌∙◌, ap, subst, arith}
+use Rattle.iri_normal.proofs.Common.{append-nil}
+use Rattle.std.proofs.Common.{◌*◌}
 use Rattle.std.specs.Char.{digit_value}
 use Rattle.std.proofs.lemmas.List.{map-id}
 use lib.Utf8.{scalar}
@@ -69,17 +70,17 @@ lone-dot s a b xs p q h = no_dot (to_ascii_uppercase a) (to_ascii_uppercase b) x
 -- a character in triplets
 char-dot : (s : Tests) (c : ℕ) (sp os xs : List ℕ) → IsSpec s → Spells sp os → os ≡ encode_utf8 c
     → after_dot (cond (unreserved s c) (map as_it_is (encode_utf8 c)) (map to_ascii_uppercase sp) ++ pct s xs)
-    ≡ where_there (pct s) (after_dot (sp ++ xs))
+    ≡ option_map (pct s) (after_dot (sp ++ xs))
 char-dot s c sp os xs k none e = let g = encode_bytes c in let no : [] ≡ g.lead ∷ g.tail = e ∙ g.split in cc
 char-dot s c sp os xs k (more a b sp' os' p q m) e =
     by_test c 46 (λ v. (c == 46) ≡ v → after_dot (cond (unreserved s c) (map as_it_is (encode_utf8 c))
-    (map to_ascii_uppercase (37 ∷ a ∷ b ∷ sp')) ++ pct s xs) ≡ where_there (pct s) (after_dot (37 ∷ a ∷ b ∷ (sp' ++ xs))))
+    (map to_ascii_uppercase (37 ∷ a ∷ b ∷ sp')) ++ pct s xs) ≡ option_map (pct s) (after_dot (37 ∷ a ∷ b ∷ (sp' ++ xs))))
     (λ same _. at_point same)
     (λ _ n. at_other n)
     refl
   where
     at_point : c ≡ 46 → after_dot (cond (unreserved s c) (map as_it_is (encode_utf8 c)) (map to_ascii_uppercase (37 ∷ a ∷ b ∷ sp'))
-        ++ pct s xs) ≡ where_there (pct s) (after_dot (37 ∷ a ∷ b ∷ (sp' ++ xs)))
+        ++ pct s xs) ≡ option_map (pct s) (after_dot (37 ∷ a ∷ b ∷ (sp' ++ xs)))
     at_point same =
         let whole : octet a b ∷ os' ≡ 46 ∷ [] = e ∙ (ap encode_utf8 same ∙ encode_point) in
         let o : octet a b ≡ 46 = cc in
@@ -91,7 +92,7 @@ char-dot s c sp os xs k (more a b sp' os' p q m) e =
         rw (right, same, point_unreserved s, encode_point) (after_dot-point (pct s xs))
 
     at_other : (c == 46) ≡ false → after_dot (cond (unreserved s c) (map as_it_is (encode_utf8 c))
-        (map to_ascii_uppercase (37 ∷ a ∷ b ∷ sp')) ++ pct s xs) ≡ where_there (pct s) (after_dot (37 ∷ a ∷ b ∷ (sp' ++ xs)))
+        (map to_ascii_uppercase (37 ∷ a ∷ b ∷ sp')) ++ pct s xs) ≡ option_map (pct s) (after_dot (37 ∷ a ∷ b ∷ (sp' ++ xs)))
     at_other n =
         let g = encode_bytes c in
         let first : octet a b ≡ g.lead = let w : octet a b ∷ os' ≡ g.lead ∷ g.tail = e ∙ g.split in cc in
@@ -118,11 +119,11 @@ lone-far a b xs p q n =
     cc)
     (λ _. refl)
 
-dot-read : (s : Tests) (t : List ℕ) → IsSpec s → Reading t → after_dot (pct s t) ≡ where_there (pct s) (after_dot t)
+dot-read : (s : Tests) (t : List ℕ) → IsSpec s → Reading t → after_dot (pct s t) ≡ option_map (pct s) (after_dot t)
 dot-read s t k done = rw (normal_nil s as_it_is) refl
 dot-read s t k (plain x xs h r) =
     rw (normal_plain s as_it_is x xs h, after_dot-plain x xs h, after_dot-plain x (pct s xs) h)
-    (elim (x == 46) as (λ b. cond b (Some (pct s xs)) None ≡ where_there (pct s) (cond b (Some xs) None)) [
+    (elim (x == 46) as (λ b. cond b (Some (pct s xs)) None ≡ option_map (pct s) (cond b (Some xs) None)) [
       | true ↦ refl
       | false ↦ refl
     ])
@@ -162,7 +163,7 @@ after_dot-whole (x ∷ xs) r w e =
         ] (sym (after_dot-plain x xs n) ∙ e)
 
 pub after_dot-pct : (s : Tests) (t : List ℕ) → IsSpec s → whole_triplets t ≡ true
-    → after_dot (pct s t) ≡ where_there (pct s) (after_dot t)
+    → after_dot (pct s t) ≡ option_map (pct s) (after_dot t)
 after_dot-pct s t k w = dot-read s t k (read t w)
 
 -- ---- nothing stays nothing, and something something
@@ -187,7 +188,7 @@ empty-pct s t w = empty-read s t (read t w)
 
 -- ---- dot segments
 mapped-all : (s : Tests) (o : Option (List ℕ)) → ((r : List ℕ) → o ≡ Some r → whole_triplets r ≡ true)
-    → is_all (where_there (pct s) o) ≡ is_all o
+    → is_all (option_map (pct s) o) ≡ is_all o
 mapped-all s None h = refl
 mapped-all s (Some []) h = rw (normal_nil s as_it_is) refl
 mapped-all s (Some (x ∷ xs)) h = all-some (pct s (x ∷ xs)) (empty-read s (x ∷ xs) (read (x ∷ xs) (h (x ∷ xs) refl)))
@@ -200,7 +201,7 @@ pub one_dot-pct : (s : Tests) (t : List ℕ) → IsSpec s → whole_triplets t �
 one_dot-pct s t k w = ap is_all (after_dot-pct s t k w) ∙ mapped-all s (after_dot t) (λ r e. after_dot-whole t r w e)
 
 mapped-after : (s : Tests) (o : Option (List ℕ)) → IsSpec s → ((r : List ℕ) → o ≡ Some r → whole_triplets r ≡ true)
-    → is_one_dot_after (where_there (pct s) o) ≡ is_one_dot_after o
+    → is_one_dot_after (option_map (pct s) o) ≡ is_one_dot_after o
 mapped-after s None k h = refl
 mapped-after s (Some r) k h = one_dot-pct s r k (h r refl)
 

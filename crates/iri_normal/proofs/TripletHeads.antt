@@ -2,7 +2,8 @@
 use Rattle.iri_normal.proofs.Common.{◌==◌, to_ascii_uppercase, encode_utf8, not-true, Tests, IsSpec, unreserved, lacks, both, by_test}
 use Rattle.iri_normal.proofs.Common.{starts_with_slash, starts_with_slashes, normal_nil, normal_plain, normal_lone, normal_char, Reading}
 use Rattle.iri_normal.proofs.Common.{done, plain, char, lone, read, whole_plain, as_it_is, pct, Spells, none, more, octet, whole_triplets}
-use Rattle.std.proofs.Common.{◌≡◌, ℕ, ◌<◌, Bool, true, false, cond, not, ◌&&◌, List, [], ◌∷◌, ◌++◌, length, map, refl, sym, ◌∙◌, ap, arith}
+use Rattle.iri_normal.proofs.Common.{◌≡◌, ℕ, ◌<◌, Bool, true, false, cond, not, ◌&&◌, List, [], ◌∷◌, ◌++◌, length, map, refl, sym, ◌∙◌, ap}
+use Rattle.iri_normal.proofs.Common.{arith}
 use Rattle.std.proofs.lemmas.Str.{len_utf8_bounds, length-encode}
 use Rattle.iri_normal.proofs.TripletPaths.{encoded-lacks, slash-delimits}
 use Rattle.iri_normal.proofs.SlashLemmas.{no_slashes}

@@ -1,14 +1,15 @@
 -- Dot removal with a buffer.
-use Rattle.iri_normal.proofs.Common.{◌≡◌, ℕ, Bool, true, false, cond, ◌||◌, List, [], ◌∷◌, ◌++◌, Option, Some, None, refl, sym, ◌∙◌, ap}
-use Rattle.iri_normal.proofs.Common.{subst, append_assoc, append-nil, or_parts, before, after, is_empty, pieces, more_pieces, pieces_cut}
-use Rattle.iri_normal.proofs.Common.{is_two_dots, without_last, dots, is_dot_segment, any_dot_segment, has_dot_segment, ends_at_slash}
+use Rattle.iri_normal.proofs.Common.{unwrap_or, ◌≡◌, ℕ, Bool, true, false, cond, ◌||◌, List, [], ◌∷◌, ◌++◌, Option, Some, None, refl, sym}
+use Rattle.iri_normal.proofs.Common.{◌∙◌, ap, subst, append_assoc, append-nil, or_parts, before, after, is_empty, pieces, more_pieces}
+use Rattle.iri_normal.proofs.Common.{pieces_cut, is_two_dots, without_last, dots, is_dot_segment, any_dot_segment, has_dot_segment}
+use Rattle.iri_normal.proofs.Common.{ends_at_slash, popped, left, written_segments, written}
 use Rattle.iri_grammar.specs.Pieces.{joined}
 use Rattle.iri_grammar.proofs.hosts.Ipv6Laws.{joined_pieces}
 use Rattle.iri_normal.proofs.EndedLemmas.{both-end, slash-ends}
 use Rattle.iri_normal.proofs.SegmentLemmas.{alone, ended}
 use Rattle.iri_normal.proofs.OutputLaws.{text_after, text_from, dots-text}
 use Rattle.iri_normal.proofs.PieceLaws.{pieces-some, nothing-is_no_dot}
-use Rattle.iri_normal.specs.inside.Written.{but_last, popped, left, closing, written_segments, written, or_nothing}
+use Rattle.iri_normal.specs.inside.Written.{but_last, closing}
 
 -- ---- the definition's output is the buffer without its last slash
 pub but_last-slash : (o : List ℕ) (c : ℕ) → but_last (o ++ c ∷ []) ≡ o
@@ -75,10 +76,10 @@ pub written-nothing : (b : List ℕ) → written b [] ≡ b
 written-nothing b = rw nothing-is_no_dot (append-nil b)
 
 pub written-dot : (b m : List ℕ) → is_dot_segment (before 47 m) ≡ true
-    → written b m ≡ written (left (is_two_dots (before 47 m)) b) (or_nothing (after 47 m))
+    → written b m ≡ written (left (is_two_dots (before 47 m)) b) (unwrap_or (after 47 m) [])
 written-dot b m h = ap (written_segments b) (pieces_cut 47 m) ∙ rw h (by_rest (left (is_two_dots (before 47 m)) b) (after 47 m))
   where
-    by_rest : (l : List ℕ) (o : Option (List ℕ)) → written_segments l (more_pieces 47 o) ≡ written l (or_nothing o)
+    by_rest : (l : List ℕ) (o : Option (List ℕ)) → written_segments l (more_pieces 47 o) ≡ written l (unwrap_or o [])
     by_rest l None = sym (written-nothing l)
     by_rest l (Some r) = refl
 

@@ -5,7 +5,6 @@ use Rattle.iri_grammar.specs.Parts.{IsIri, IsAbsolute}
 use Rattle.iri_grammar.specs.Split.{split_of}
 use Rattle.iri_grammar.specs.declared.error.ErrorKind.{ErrorKind}
 use Rattle.iri_percent.specs.declared.canon_mode.CanonMode.{CanonMode}
-use Rattle.iri_percent.specs.declared.canon_mode.CanonMode.TheVariants.{Default}
 use Rattle.iri_normal.specs.NormalForm.{canonical_in, canonical_parts_in}
 use Rattle.iri_normal.specs.declared.canonical.CanonError.{CanonError}
 use Rattle.iri_normal.specs.declared.canonical.CanonError.TheVariants.{BadBase, BadReference, Memory}
@@ -17,9 +16,6 @@ pub record IsCanonicalTextIn (s : Tests) (mode : CanonMode) (base reference text
   pub valid : IsIri s text
   pub splits : split_of text ≡ canonical_parts_in s mode base reference
   pub own : (other : List ℕ) → IsAbsolute s other → canonical_in s mode other text ≡ text
-
-abbrev pub IsCanonicalText : Tests → List ℕ → List ℕ → List ℕ → Type 0
-IsCanonicalText s base reference text = IsCanonicalTextIn s Default base reference text
 
 -- The cause of a refusal, by the first faults of base and reference: the base is validated first, and memory is taken only where
 -- both are valid.

@@ -1,26 +1,10 @@
--- Removal of dot segments (RFC 3986 section 5.2.4). `%2E` and `%2e` count as a dot.
-use Rattle.std.specs.Prelude.{◌≡◌, ℕ, Bool, true, false, cond, ◌==◌, List, [], ◌∷◌, ◌++◌, Option, Some, None}
+-- Removal of dot segments (RFC 3986 section 5.2.4), and what is written of a path that begins with `//` (section 3.3).
+use Rattle.std.specs.Prelude.{◌≡◌, ℕ, Bool, true, false, cond, not, ◌||◌, ◌==◌, List, [], ◌∷◌, ◌++◌}
 use Rattle.iri_grammar.specs.Cut.{before, from, lacks}
 use Rattle.iri_grammar.specs.Pieces.{pieces}
-use Rattle.iri_normal.specs.Dots.{after_dot, is_dot_segment}
-use Rattle.iri_grammar.specs.Characters.{slash}
-
-abbrev pub is_all : Option (List ℕ) → Bool
-is_all None = false
-is_all (Some []) = true
-is_all (Some (x ∷ xs)) = false
-
--- `.`, in any spelling
-abbrev pub is_one_dot : List ℕ → Bool
-is_one_dot segment = is_all (after_dot segment)
-
-abbrev pub is_one_dot_after : Option (List ℕ) → Bool
-is_one_dot_after None = false
-is_one_dot_after (Some rest) = is_one_dot rest
-
--- `..`, in any spelling
-abbrev pub is_two_dots : List ℕ → Bool
-is_two_dots segment = is_one_dot_after (after_dot segment)
+use Rattle.iri_normal.specs.Dots.{is_dot_segment, is_one_dot, is_two_dots}
+use Rattle.iri_grammar.specs.Characters.{dot, slash}
+use Rattle.iri_grammar.specs.Parts.{starts_with_slashes}
 
 -- the output without its last segment and the `/` before it: what stands before the last `/`, or nothing where there is none
 abbrev pub without_last : List ℕ → List ℕ
@@ -95,3 +79,7 @@ path_text (s ∷ t ∷ ss) = path_text (t ∷ ss) ++ slash ∷ s
 -- the path with its dot segments removed
 unfoldable pub dots : List ℕ → List ℕ
 dots path = path_text (remove_dots (pieces slash path))
+
+-- without an authority, a path that begins with `//` is written with `/.` before it, so that no authority is read from it
+abbrev pub guard : List ℕ → Bool → List ℕ
+guard path authority_stands = cond (authority_stands || not (starts_with_slashes path)) path (slash ∷ dot ∷ path)

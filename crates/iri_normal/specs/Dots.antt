@@ -1,5 +1,6 @@
 -- Dot segments (RFC 3986 section 5.2.4). `%2E` and `%2e` count as a dot.
-use Rattle.std.specs.Prelude.{ℕ, Bool, true, false, cond, ◌&&◌, ◌||◌, ◌==◌, List, [], ◌∷◌, Option, Some, None}
+use Rattle.std.specs.Prelude.{ℕ, Bool, false, cond, ◌&&◌, ◌||◌, ◌==◌, List, [], ◌∷◌, Option, Some, None}
+use Rattle.iri_grammar.specs.Parts.{is_empty}
 use Rattle.iri_grammar.specs.Pieces.{pieces}
 use Rattle.iri_grammar.specs.Characters.{dot, percent_sign, slash}
 use Rattle.iri_grammar.specs.Seen.{goes_on_as_dot}
@@ -11,23 +12,26 @@ after_dot (x ∷ []) = cond (x == dot) (Some []) None
 after_dot (x ∷ y ∷ []) = cond (x == dot) (Some (y ∷ [])) None
 after_dot (x ∷ y ∷ z ∷ xs) = cond (x == dot) (Some (y ∷ z ∷ xs)) (cond (x == percent_sign && goes_on_as_dot (y ∷ z ∷ xs)) (Some xs) None)
 
--- nothing, or one dot more
-abbrev pub is_dot_or_nothing : List ℕ → Bool
-is_dot_or_nothing [] = true
-is_dot_or_nothing (x ∷ xs) = is_nothing (after_dot (x ∷ xs))
-  where
-    is_nothing : Option (List ℕ) → Bool
-    is_nothing None = false
-    is_nothing (Some []) = true
-    is_nothing (Some (x ∷ xs)) = false
+-- what is left after a dot is nothing
+abbrev pub is_all : Option (List ℕ) → Bool
+is_all None = false
+is_all (Some rest) = is_empty rest
 
-abbrev pub is_dot_segment_after : Option (List ℕ) → Bool
-is_dot_segment_after None = false
-is_dot_segment_after (Some rest) = is_dot_or_nothing rest
+-- `.`, in any spelling
+abbrev pub is_one_dot : List ℕ → Bool
+is_one_dot segment = is_all (after_dot segment)
 
--- `.` or `..`, in any spelling
+abbrev pub is_one_dot_after : Option (List ℕ) → Bool
+is_one_dot_after None = false
+is_one_dot_after (Some rest) = is_one_dot rest
+
+-- `..`, in any spelling
+abbrev pub is_two_dots : List ℕ → Bool
+is_two_dots segment = is_one_dot_after (after_dot segment)
+
+-- `.` or `..`
 unfoldable pub is_dot_segment : List ℕ → Bool
-is_dot_segment segment = is_dot_segment_after (after_dot segment)
+is_dot_segment segment = is_one_dot segment || is_two_dots segment
 
 abbrev pub any_dot_segment : List (List ℕ) → Bool
 any_dot_segment [] = false

@@ -1,10 +1,8 @@
 pub mod Target
 pub mod Dots
-pub mod LowerCase
 pub mod Modes
 pub mod Slices
 pub mod DotRemoval
-pub mod Guard
 pub mod NormalForm
 pub mod Answers
 pub mod Prefix
@@ -14,5 +12,4 @@ pub mod Examples
 pub mod CanonicalExamples
 pub mod Resolver
 pub mod Canonicalized
-pub mod IsNormalized
 pub mod inside

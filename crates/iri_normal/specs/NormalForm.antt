@@ -1,5 +1,6 @@
 -- Forms of parts, the normal ones among them, and canonical texts (RFC 3986 sections 5.2, 6.2.2 and 6.2.3, RFC 3987 section 5.3.2).
-use Rattle.std.specs.Prelude.{ℕ, Bool, true, false, cond, not, ◌&&◌, ◌||◌, List, [], ◌∷◌, Option, Some, None, is_some}
+use Rattle.std.specs.Prelude.{ℕ, Bool, false, cond, not, ◌&&◌, ◌||◌, List, [], ◌∷◌, Option, Some, None, is_some, option_map, ◌≡◌, map}
+use Rattle.std.specs.Char.{to_ascii_lowercase}
 use Rattle.iri_grammar.specs.Classes.{Tests}
 use Rattle.iri_grammar.specs.Characters.{slash}
 use Rattle.iri_grammar.specs.Parts.{Parts, is_empty, recompose, starts_with_slash, starts_with_slashes}
@@ -9,10 +10,8 @@ use Rattle.iri_percent.specs.NormalHost.{normal_authority_in}
 use Rattle.iri_percent.specs.declared.canon_mode.CanonMode.{CanonMode}
 use Rattle.iri_percent.specs.declared.canon_mode.CanonMode.TheVariants.{Default, Scheme}
 use Rattle.iri_normal.specs.Target.{target}
-use Rattle.iri_normal.specs.DotRemoval.{dots}
-use Rattle.iri_normal.specs.Guard.{guard}
+use Rattle.iri_normal.specs.DotRemoval.{dots, guard}
 use Rattle.iri_normal.specs.Modes.{dropped_in, is_normalizing}
-use Rattle.iri_normal.specs.LowerCase.{lowered, where_there}
 use Rattle.iri_normal.specs.declared.mode.Mode.{Mode}
 use Rattle.iri_normal.specs.declared.mode.Mode.TheVariants.{Plain, Normal, Preserving, ByScheme}
 
@@ -46,7 +45,11 @@ slash_or slashed path = cond slashed (slash ∷ []) path
 
 -- another part, where it stands: with f done to it, or as it is
 abbrev pub part_in : Bool → (List ℕ → List ℕ) → Option (List ℕ) → Option (List ℕ)
-part_in normal f part = cond normal (where_there f part) part
+part_in normal f part = cond normal (option_map f part) part
+
+-- ASCII letters in lower case
+abbrev pub lowered : List ℕ → List ℕ
+lowered xs = map to_ascii_lowercase xs
 
 -- parts with this path, and the others in normal form or as they stand: the scheme in lower case, the authority in normal form without the
 -- port that is dropped, query and fragment with their triplets in normal form. Where the rules know a port to drop, an empty path beside an
@@ -59,10 +62,6 @@ parts_with s normal dropped path t = record {
   query = part_in normal (pct s) t.query;
   fragment = part_in normal (pct s) t.fragment;
 }
-
--- parts in normal form by rules that drop this port; the rules of every scheme drop none
-abbrev pub normal_parts : Tests → Option (List ℕ) → Parts → Parts
-normal_parts s dropped t = parts_with s true dropped (normal_path s t.authority t.path) t
 
 -- parts in a mode. `whole` says that the path is the base's, taken whole
 unfoldable pub form : Tests → Mode → Bool → Parts → Parts
@@ -81,18 +80,18 @@ normal_form_in s Scheme t = form s ByScheme false t
 abbrev pub is_unresolvable : Bool → Parts → Bool
 is_unresolvable whole t = not whole && (not (is_some t.authority) && starts_with_slashes (dots t.path))
 
--- the parts of the canonical text: the normal form of the target
-abbrev pub canonical_parts : Tests → List ℕ → List ℕ → Parts
-canonical_parts s base reference = normal_form s (target (split_of base) (split_of reference))
-
--- the canonical text of a reference against a base
+-- the canonical text of a reference against a base: the normal form of the target, recomposed
 unfoldable pub canonical : Tests → List ℕ → List ℕ → List ℕ
-canonical s base reference = recompose (canonical_parts s base reference)
+canonical s base reference = recompose (normal_form s (target (split_of base) (split_of reference)))
 
--- the same in either normal form
+-- the parts of the canonical text in either normal form, and the text
 abbrev pub canonical_parts_in : Tests → CanonMode → List ℕ → List ℕ → Parts
 canonical_parts_in s mode base reference = normal_form_in s mode (target (split_of base) (split_of reference))
 
 abbrev pub canonical_in : Tests → CanonMode → List ℕ → List ℕ → List ℕ
 canonical_in s Default base reference = canonical s base reference
 canonical_in s Scheme base reference = recompose (canonical_parts_in s Scheme base reference)
+
+-- the text is its own form in the mode: its parts, in the mode, recompose to it
+abbrev pub IsInMode : Tests → Mode → List ℕ → Type 0
+IsInMode s mode t = recompose (form s mode false (split_of t)) ≡ t

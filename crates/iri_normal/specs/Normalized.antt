@@ -14,12 +14,9 @@ pub record Written : Type 0 where
   pub whole : Bool
   pub mode : Mode
 
--- the parts in their mode, and the text of these
-abbrev pub written_parts : Tests → Written → Parts
-written_parts s w = form s w.mode w.whole w.parts
-
+-- the text of the parts in their mode
 abbrev pub written_text : Tests → Written → List ℕ
-written_text s w = recompose (written_parts s w)
+written_text s w = recompose (form s w.mode w.whole w.parts)
 
 -- RFC 3986 has no normal form of them
 abbrev pub has_no_normal_form : Written → Bool

@@ -1,6 +1,5 @@
 -- The target of a reference against a base (RFC 3986 sections 5.2.2 and 5.2.3). No dot is removed.
-use Rattle.std.specs.Prelude.{ℕ, Bool, true, cond, ◌&&◌, ◌||◌, not, ◌==◌, List, [], ◌∷◌}
-use Rattle.std.specs.Prelude.{◌++◌, Option, Some, None, is_some}
+use Rattle.std.specs.Prelude.{ℕ, Bool, true, cond, ◌&&◌, ◌||◌, not, ◌==◌, List, [], ◌∷◌, ◌++◌, Option, Some, None, is_some}
 use Rattle.iri_grammar.specs.Cut.{lacks}
 use Rattle.iri_grammar.specs.Parts.{Parts, is_empty, starts_with_slash}
 use Rattle.iri_grammar.specs.Characters.{slash}

@@ -3,7 +3,6 @@ pub mod Comparison
 pub mod DotSearch
 pub mod Beginning
 pub mod Written
-pub mod CutText
 pub mod NextDots
 pub mod Unchanged
 pub mod Kept

@@ -5,7 +5,8 @@ ghost use Rattle.iri_grammar.specs.WholeFault.{absolute_fault, reference_fault};
 ghost use Rattle.iri_text.specs.Shown.{Shows};
 ghost use Rattle.iri_types.specs.SplitText.{split_text};
 ghost use Rattle.iri_types.specs.Texts.{text};
-ghost use Rattle.iri_normal.specs.Canonicalized.{CausedBy, IsCanonicalText, IsCanonicalTextIn};
+ghost use Rattle.iri_percent.specs.declared.canon_mode.CanonMode.TheVariants.{Default};
+ghost use Rattle.iri_normal.specs.Canonicalized.{CausedBy, IsCanonicalTextIn};
 ghost use Rattle.iri_normal.specs.NormalForm.{canonical, canonical_in};
 ghost use Rattle.iri_normal.specs.Resolver.{base_text};
 
@@ -44,7 +45,7 @@ pub enum CanonError {
 }
 
 /// Shows the canonical text of a reference against a resolver's base to a sink: the reference resolved (RFC 3986
-/// section 5.2) and put into normal form (section 6.2.2). It takes no memory.
+/// section 5.2) and put into normal form (section 6.2.2). Allocates nothing.
 ///
 /// # Errors
 ///
@@ -80,12 +81,12 @@ pub fn show_canonical<'a, S: Spec, W: TextSink>(
     resolver.resolve_split(reference).and_normalize().show(sink)
 }
 
-/// Shows the canonical text of a reference by the rules of a mode: those of every scheme, or the scheme's too (RFC 3986
-/// section 6.2.3).
+/// Shows the canonical text of a reference against a resolver's base to a sink, by the rules of a mode. Allocates
+/// nothing.
 ///
 /// # Errors
 ///
-/// Those of [`show_canonical`].
+/// As [`show_canonical`]: only where the sink's count of stops rises.
 ///
 /// ```
 /// use iri::format::SliceSink;
@@ -165,7 +166,7 @@ pub fn canonicalize<S: Spec>(
         × (bytes_fault (reference_fault S.tests) reference.now ≡ None))
         (λ e. CausedBy e (bytes_fault (absolute_fault S.tests) base.now)
         (bytes_fault (reference_fault S.tests) reference.now)) }
-    ensures text { IfOk result (λ t. IsCanonicalText S.tests base.now reference.now t.text) }
+    ensures text { IfOk result (λ t. IsCanonicalTextIn S.tests Default base.now reference.now t.text) }
 {
     canonicalize_in::<S>(alloc, CanonMode::Default, base, reference)
 }
@@ -174,7 +175,7 @@ pub fn canonicalize<S: Spec>(
 ///
 /// # Errors
 ///
-/// Those of [`canonicalize`].
+/// `BadBase`, `BadReference` and `Memory` exactly as [`canonicalize`].
 ///
 /// ```
 /// use iri::normalize::{CanonMode, canonicalize_in};

@@ -71,11 +71,11 @@ impl<'a, S: Spec> FixedBaseResolver<'a, S> {
         self.canonical_into_in(dest, CanonMode::Default, reference)
     }
 
-    /// The same by the rules of a mode.
+    /// Puts the canonical text of a reference, by the rules of a mode, at the end of a string.
     ///
     /// # Errors
     ///
-    /// Those of [`canonical_into`](FixedBaseResolver::canonical_into).
+    /// As [`canonical_into`](FixedBaseResolver::canonical_into).
     pub fn canonical_into_in(
         &self,
         dest: &mut String,

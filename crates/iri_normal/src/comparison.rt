@@ -45,7 +45,7 @@ impl<'a> TextSink for Comparison<'a> {
     }
 }
 
-// Whether a text is that of a value. It takes no memory.
+// Whether a text is that of a value. Allocates nothing.
 pub(crate) fn is_text<T: Show>(value: &T, text: &str) -> bool
     ensures { (result ≡ true) ↔ (T.text value.now ≡ text.now) }
 {

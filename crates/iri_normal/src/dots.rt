@@ -1,14 +1,13 @@
 // Dot segments.
-ghost use Rattle.std.specs.Prelude.{◌≡◌, ◌<◌, ◌≤◌, ◌-◌, MatchOption, length, drop, false, true};
+ghost use Rattle.std.specs.Prelude.{◌≡◌, [], ◌<◌, ◌≤◌, ◌-◌, MatchOption, length, drop, false, true, unwrap_or};
 ghost use Rattle.iri_grammar.specs.Characters.{slash};
 ghost use Rattle.iri_grammar.specs.Cut.{before, after};
 ghost use Rattle.iri_grammar.specs.OptionalSlices.{now_of};
 ghost use Rattle.iri_grammar.specs.Parts.{is_empty};
 ghost use Rattle.iri_normal.specs.Dots.{after_dot, is_dot_segment, has_dot_segment};
-ghost use Rattle.iri_normal.specs.DotRemoval.{is_two_dots};
+ghost use Rattle.iri_normal.specs.Dots.{is_two_dots};
 ghost use Rattle.iri_normal.specs.inside.DotSearch.{slash_and_dots};
 ghost use Rattle.iri_normal.specs.inside.NextDots.{IsBefore, IsNext};
-ghost use Rattle.iri_normal.specs.inside.Written.{or_nothing};
 
 use iri_grammar::dots::may_have_dots;
 
@@ -28,7 +27,7 @@ pub(crate) fn after_dot(s: &[u8]) -> Option<&[u8]>
 #[inline(always)]
 fn after_end(s: &[u8]) -> Option<&[u8]>
     ensures { MatchOption result (is_empty (before slash s.now) ≡ false)
-        (λ r. (is_empty (before slash s.now) ≡ true) × (r.now ≡ or_nothing (after slash s.now))) }
+        (λ r. (is_empty (before slash s.now) ≡ true) × (r.now ≡ unwrap_or (after slash s.now) [])) }
 {
     match s {
         [] => Some(s),

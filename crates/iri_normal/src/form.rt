@@ -9,7 +9,7 @@ ghost use Rattle.iri_percent.specs.NormalHost.{normal_authority, normal_authorit
 ghost use Rattle.iri_percent.specs.Triplets.{pct};
 ghost use Rattle.iri_percent.specs.Units.{whole_triplets};
 ghost use Rattle.iri_normal.specs.Modes.{dropped_in, is_by_scheme, is_normalizing};
-ghost use Rattle.iri_normal.specs.LowerCase.{lowered};
+ghost use Rattle.iri_normal.specs.NormalForm.{lowered};
 ghost use Rattle.iri_normal.specs.NormalForm.{becomes_slash, form, part_in, path_in, slash_or};
 ghost use Rattle.iri_normal.specs.Prefix.{prefix_in};
 ghost use Rattle.iri_normal.specs.Slices.{slices};
@@ -233,7 +233,7 @@ fn show_from_authority<S: Spec, W: TextSink>(
 }
 
 /// Shows the recomposition (RFC 3986 section 5.3) of a target's parts in a mode. `whole` says that the path is the
-/// base's, taken whole. It takes no memory. It has a condition: the parts fit the grammar of `S`, as those of a
+/// base's, taken whole. Allocates nothing. It has a condition: the parts fit the grammar of `S`, as those of a
 /// `Target` and of a split view do.
 ///
 /// # Errors
@@ -255,7 +255,7 @@ pub fn show_form<S: Spec, W: TextSink>(
     show_from_authority::<S, W>(sink, target, mode, whole, dropped)
 }
 
-/// The same in a mode without scheme rules, with a prefix that was put into the mode before.
+/// Shows parts in a mode without scheme rules, after a prefix that was put into the mode before.
 #[tactic(auto, unfolding(crate::specs::NormalForm::form, iri_grammar::specs::Parts::recompose))]
 #[inline(always)]
 pub fn show_after<S: Spec, W: TextSink>(

@@ -3,7 +3,7 @@ ghost use Rattle.std.specs.Prelude.{◌≡◌, ◌↔◌, false, true};
 ghost use Rattle.iri_grammar.specs.Classes.{Tests};
 ghost use Rattle.iri_grammar.specs.Split.{split_of};
 ghost use Rattle.iri_types.specs.Texts.{text};
-ghost use Rattle.iri_normal.specs.IsNormalized.{IsInMode};
+ghost use Rattle.iri_normal.specs.NormalForm.{IsInMode};
 ghost use Rattle.iri_normal.specs.NormalForm.{is_unresolvable};
 ghost use Rattle.iri_normal.specs.Normalized.{written_text};
 ghost use Rattle.iri_normal.specs.NormalizedText.{written};

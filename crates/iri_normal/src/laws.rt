@@ -9,7 +9,7 @@ ghost use Rattle.iri_percent.specs.Triplets.{pct};
 ghost use Rattle.iri_normal.specs.Target.{target};
 ghost use Rattle.iri_normal.specs.Dots.{has_dot_segment};
 ghost use Rattle.iri_normal.specs.DotRemoval.{IsWithoutDots, dots};
-ghost use Rattle.iri_normal.specs.Guard.{guard};
+ghost use Rattle.iri_normal.specs.DotRemoval.{guard};
 ghost use Rattle.iri_percent.specs.Mapping.{mapped, mapped_parts};
 ghost use Rattle.iri_normal.specs.NormalForm.{canonical_in, canonical_parts_in, form, normal_form_in};
 ghost use Rattle.iri_normal.specs.Modes.{mode_of};
@@ -32,17 +32,20 @@ pub fn target_is_short()
 {}
 
 /// The steps of dot removal lead from each path to one result, and `dots` is that result.
+#[tactic(auto, using(crate::proofs::StepLaws::one_result))]
 pub fn dot_removal_has_one_result()
     ensures { (path result : List ℕ) → IsWithoutDots path result ↔ (dots path ≡ result) }
 {}
 
 /// Dot removal leaves no dot segment, and leaves a path without one as it is.
+#[tactic(auto, using(crate::proofs::StableLaws::no_dots_left, crate::proofs::StableLaws::no_dots_same))]
 pub fn dot_removal_leaves_no_dot_segment()
     ensures none { (path : List ℕ) → has_dot_segment (dots path) ≡ false }
     ensures same { (path : List ℕ) → has_dot_segment path ≡ false → dots path ≡ path }
 {}
 
 /// Dot removal doesn't change again what it and the guard gave.
+#[tactic(auto, using(crate::proofs::StableLaws::guarded_stable))]
 pub fn dot_removal_is_stable()
     ensures { (path : List ℕ) → (authority_stands : Bool) → dots (guard (dots path) authority_stands) ≡ dots path }
 {}

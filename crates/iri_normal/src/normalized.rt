@@ -1,4 +1,4 @@
-//! Texts that show themselves resolved (RFC 3986 section 5.2) or in normal form (section 6.2.2). They take no memory.
+//! Texts that show themselves resolved (RFC 3986 section 5.2) or in normal form (section 6.2.2). They allocate nothing.
 ghost use Rattle.std.specs.Prelude.{◌≡◌, ◌↔◌, true, None, Some, IsErr};
 ghost use Rattle.std.proofs.Props.{props};
 ghost use Rattle.iri_grammar.specs.OptionalSlices.{now_of};
@@ -23,7 +23,7 @@ use std::fmt;
 use std::marker::PhantomData;
 
 /// Parts, borrowed, that show themselves as one text of the kind `K` in a mode: without dot segments alone, or in a
-/// normal form. It takes no memory until it is made a string.
+/// normal form. Allocates nothing until it is made a string.
 #[derive_where(Debug)]
 pub struct NormalizedText<'a, S: Spec, K: NormalKind> {
     prefix: Option<&'a str>,
@@ -38,7 +38,7 @@ pub struct NormalizedText<'a, S: Spec, K: NormalKind> {
     pub ghost prefixed: { IsPrefix S.tests (slices target) (now_of prefix) } by { Prim.hlevel props },
 }
 
-/// The same, as a `URI` of `S`.
+/// A text that is written in a mode, as a `URI` of `S`.
 ///
 /// ```
 /// use iri::prelude::{ResolveAgainst, ToDedicatedString};
@@ -50,7 +50,7 @@ pub struct NormalizedText<'a, S: Spec, K: NormalKind> {
 /// ```
 pub type Normalized<'a, S> = NormalizedText<'a, S, Iri>;
 
-/// The same, as an `absolute-URI` of `S`.
+/// A text that is written in a mode, as an `absolute-URI` of `S`.
 ///
 /// ```
 /// use iri::prelude::{Normalize, ToDedicatedString};
@@ -126,7 +126,7 @@ impl<'a, S: Spec, K: NormalKind> NormalizedText<'a, S, K> {
         self.mode = Mode::ByScheme;
     }
 
-    /// The same parts in normal form (RFC 3986 section 6.2.2).
+    /// These parts in normal form (RFC 3986 section 6.2.2).
     ///
     /// ```
     /// use iri::prelude::{ResolveAgainst, ToStringFallible};
@@ -141,14 +141,14 @@ impl<'a, S: Spec, K: NormalKind> NormalizedText<'a, S, K> {
         NormalizedText::after(self.prefix, self.target, self.whole, Mode::Normal)
     }
 
-    /// The same parts in normal form, but a path without authority that doesn't begin with a slash keeps its dot segments.
+    /// These parts in normal form, but a path without authority that doesn't begin with a slash keeps its dot segments.
     pub fn and_normalize_but_preserve_authorityless_relative_path(self) -> Self
         ensures { written result ≡ record (written self.entry) { mode = Preserving } }
     {
         NormalizedText::after(self.prefix, self.target, self.whole, Mode::Preserving)
     }
 
-    /// The same parts in normal form by scheme rules too (RFC 3986 section 6.2.3).
+    /// These parts in normal form by scheme rules too (RFC 3986 section 6.2.3).
     ///
     /// ```
     /// use iri::prelude::{Normalize, ToStringFallible};
@@ -181,7 +181,7 @@ impl<'a, S: Spec, K: NormalKind> NormalizedText<'a, S, K> {
     }
 
     /// Whether RFC 3986 alone has a normal form of the parts, without the `/.` before a path that would be read as an
-    /// authority. It takes no memory.
+    /// authority. Allocates nothing.
     ///
     /// # Errors
     ///

@@ -1,7 +1,7 @@
 //! Tests of being in the normal form of a mode (RFC 3986 sections 6.2.2 and 6.2.3).
 ghost use Rattle.std.specs.Prelude.{◌≡◌, ◌↔◌, true};
 ghost use Rattle.iri_types.specs.Texts.{text};
-ghost use Rattle.iri_normal.specs.IsNormalized.{IsInMode};
+ghost use Rattle.iri_normal.specs.NormalForm.{IsInMode};
 ghost use Rattle.iri_normal.specs.Modes.{mode_of};
 
 use crate::is_normalized::is_same;
@@ -11,7 +11,7 @@ use crate::views::Normalize;
 use iri_grammar::spec::Spec;
 use iri_types::view::View;
 
-/// Whether a text is its own normal form by the rules of a mode. It takes no memory.
+/// Whether a text is its own normal form by the rules of a mode. Allocates nothing.
 ///
 /// ```
 /// use iri::normalize::{CanonMode, is_normalized_in};

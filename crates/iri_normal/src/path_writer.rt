@@ -3,7 +3,7 @@ ghost use Rattle.std.specs.Prelude.{◌≡◌, ◌++◌, ◌&&◌, not, true};
 ghost use Rattle.iri_grammar.specs.Components.{is_path};
 ghost use Rattle.iri_grammar.specs.Parts.{starts_with_slash, starts_with_slashes};
 ghost use Rattle.iri_normal.specs.DotRemoval.{dots};
-ghost use Rattle.iri_normal.specs.Guard.{guard};
+ghost use Rattle.iri_normal.specs.DotRemoval.{guard};
 ghost use Rattle.iri_normal.specs.NormalForm.{is_unresolvable, normal_path, path_in, plain_path, preserved_path};
 ghost use Rattle.iri_normal.specs.inside.PathForm.{in_form};
 ghost use Rattle.iri_normal.specs.Slices.{merged, slices};
@@ -74,7 +74,7 @@ fn is_rooted(path: &MergedPath<'_>) -> bool
     }
 }
 
-/// Shows the path of a target in normal form. It takes no memory.
+/// Shows the path of a target in normal form. Allocates nothing.
 #[inline(always)]
 pub fn show_normal_path<S: Spec, W: TextSink>(
     sink: &mut W,
@@ -117,7 +117,7 @@ fn show_plain<S: Spec, W: TextSink>(
     show_guarded::<S, W>(sink, &target.path, stands, false)
 }
 
-/// Shows the path of a target in a mode. It takes no memory.
+/// Shows the path of a target in a mode. Allocates nothing.
 #[inline(always)]
 pub fn show_path<S: Spec, W: TextSink>(
     sink: &mut W,

@@ -312,7 +312,7 @@ impl<'a, S: Spec> FixedBaseResolver<'a, S> {
 
     /// The text of a reference resolved against the base (RFC 3986 section 5.2): its dot segments are removed, but the
     /// base's path stays as it is where the reference's is empty. Where the path would be read as an authority, `/.`
-    /// comes before it. It takes no memory.
+    /// comes before it. Allocates nothing.
     ///
     /// ```
     /// use iri::prelude::ToDedicatedString;
@@ -334,7 +334,7 @@ impl<'a, S: Spec> FixedBaseResolver<'a, S> {
         self.resolve_split(&SplitView::of(reference))
     }
 
-    /// The same of a reference that was split into its parts before.
+    /// The target of a reference that was split into its parts before, against the base.
     #[inline(always)]
     pub fn resolve_split(&self, reference: &SplitView<'a, S, Reference>) -> Normalized<'a, S>
         ensures { written result ≡ record {

@@ -15,7 +15,7 @@ use iri_types::kind::Reference;
 use iri_types::split::SplitView;
 
 /// Shows the target of a reference against a resolver's base (RFC 3986 section 5.2.2), with its dot segments and all else as it
-/// stands. It takes no memory.
+/// stands. Allocates nothing.
 ///
 /// # Errors
 ///

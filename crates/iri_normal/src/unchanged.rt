@@ -11,7 +11,7 @@ ghost use Rattle.iri_percent.specs.Triplets.{pct};
 ghost use Rattle.iri_percent.specs.Units.{whole_triplets};
 ghost use Rattle.iri_normal.specs.inside.Unchanged.{IsLowered, KeepsPrefix, LacksTriplets, is_plain_prefix};
 ghost use Rattle.iri_normal.specs.inside.Unchanged.{lacks_triplets_and_dots};
-ghost use Rattle.iri_normal.specs.LowerCase.{lowered};
+ghost use Rattle.iri_normal.specs.NormalForm.{lowered};
 ghost use Rattle.iri_types.specs.SplitText.{split_text};
 ghost use Rattle.iri_text.specs.Shown.{Shows};
 

@@ -1,7 +1,7 @@
 // Code that knows nothing of a type but its trait still knows which text is shown: by the trait's clauses and its law `shows`.
 ghost use Rattle.std.specs.Prelude.{◌≡◌, ◌↔◌, IfOk, false, true, string_bytes};
 ghost use Rattle.iri_grammar.specs.Split.{split_of};
-ghost use Rattle.iri_normal.specs.IsNormalized.{IsInMode};
+ghost use Rattle.iri_normal.specs.NormalForm.{IsInMode};
 ghost use Rattle.iri_normal.specs.Normalized.{written_text};
 ghost use Rattle.iri_normal.specs.Target.{takes_base_path, target};
 ghost use Rattle.iri_normal.specs.declared.mode.Mode.TheVariants.{Normal, Plain};

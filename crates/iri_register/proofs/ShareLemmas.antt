@@ -1,4 +1,5 @@
 -- Live lines have an entry, and share it exactly where steps join their targets.
+use Rattle.iri_percent.specs.declared.canon_mode.CanonMode.TheVariants.{Default}
 use Rattle.std.proofs.Common.{◌≡◌, ◌↔◌, ℕ, zero, suc, ◌+◌, List, [], ◌∷◌, true, false, not, cond, bytes_eq, Option, Some, None}
 use Rattle.std.proofs.Common.{option_map, slice_get, length, refl, sym, ◌∙◌, ap, subst, arith}
 use Rattle.std.specs.Prelude.{IsSome, IfOk, Result, Ok, Err}
@@ -11,7 +12,7 @@ use Rattle.iri_grammar.proofs.faults.FaultLaws.{absolute-law, reference-law}
 use Rattle.iri_grammar.proofs.splits.SplitUnique.{split_is}
 use Rattle.iri_normal.specs.NormalForm.{canonical}
 use Rattle.iri_normal.specs.Target.{target}
-use Rattle.iri_resolve.proofs.SchemeSteps.{joined-exactly, texts-exactly}
+use Rattle.iri_resolve.proofs.SchemeSteps.{joined_in-exactly, texts_in-exactly}
 use Rattle.iri_normal.proofs.CanonLemmas.{fault_none}
 use Rattle.iri_normal.proofs.TargetLaws.{target-fits}
 use Rattle.iri_register.specs.Entries.{Entry, added, place, with_line}
@@ -133,8 +134,8 @@ joined_texts s base q r k b hq hr =
     let u = target (split_of base) (split_of r) in
     let f = targets_fit s base q k b hq in
     let g = targets_fit s base r k b hr in
-    let texts = texts-exactly s t u k f.0 f.1 g.0 g.1 in
-    let joined = joined-exactly s t u k f.0 f.1 g.0 g.1 in
+    let texts = texts_in-exactly s Default t u k f.0 f.1 g.0 g.1 in
+    let joined = joined_in-exactly s Default t u k f.0 f.1 g.0 g.1 in
     (λ e. joined.1 (texts.0 e), λ j. texts.1 (joined.0 j))
 
 pub share_joined : (s : Tests) (cs : List Command) (base q r : List ℕ) (m n : ℕ) → IsSpec s → IsAbsolute s base → IsReference s q

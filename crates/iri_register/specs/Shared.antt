@@ -1,10 +1,11 @@
 -- Lines that share an entry.
+use Rattle.iri_percent.specs.declared.canon_mode.CanonMode.TheVariants.{Default}
 use Rattle.std.specs.Prelude.{◌≡◌, ◌↔◌, ℕ, List, Option, Some, None, slice_get}
 use Rattle.iri_grammar.specs.Classes.{Tests}
 use Rattle.iri_grammar.specs.Parts.{IsReference}
 use Rattle.iri_grammar.specs.Split.{split_of}
 use Rattle.iri_normal.specs.NormalForm.{canonical}
-use Rattle.iri_resolve.specs.Steps.{Joined}
+use Rattle.iri_resolve.specs.Steps.{JoinedIn}
 use Rattle.iri_normal.specs.Target.{target}
 use Rattle.iri_register.specs.Entries.{Entry, place}
 use Rattle.iri_register.specs.Commands.{Command, Line, live}
@@ -25,7 +26,7 @@ line_of s base reference number = record { target = canonical s base reference; 
 
 -- steps lead the targets of two references against a base to the same parts
 abbrev pub TargetsJoin : Tests → List ℕ → List ℕ → List ℕ → Type 0
-TargetsJoin s base q r = Joined s (target (split_of base) (split_of q)) (target (split_of base) (split_of r))
+TargetsJoin s base q r = JoinedIn s Default (target (split_of base) (split_of q)) (target (split_of base) (split_of r))
 
 module _ (s : Tests) (base : List ℕ) (es : List Entry) (q : List ℕ) where
   -- of all references, this place is that of exactly those whose targets steps join with the target of q

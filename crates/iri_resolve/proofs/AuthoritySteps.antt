@@ -1,21 +1,22 @@
 -- Changes of an authority keep it an authority, and its normal form.
-use Rattle.iri_resolve.proofs.Common.{◌≡◌, ℕ, ◌-◌, true, false, cond, ◌||◌, List, [], ◌∷◌, ◌++◌, Option, Some, None, refl, sym, ◌∙◌, ap}
-use Rattle.iri_resolve.proofs.Common.{arith, subst, nat_lt, take, is_ascii_uppercase, to_ascii_lowercase, nat_tests, AuthorityParts}
-use Rattle.iri_resolve.proofs.Common.{FitsAuthority, authority_parts, recompose_authority, is_authority, reading_is, passes, if_there}
-use Rattle.iri_resolve.proofs.Common.{is_userinfo, is_host, whole_triplets, normal, as_it_is, pct, is_ascii_host, normal_host}
-use Rattle.iri_resolve.proofs.Common.{normal_authority_parts, normal_authority, normal_plain, read, octets_other, userinfo-whole}
-use Rattle.iri_resolve.proofs.Common.{host-whole, userinfo_percent, reads, with_small_host_letter, placed, in_part, host_start, in_host}
-use Rattle.iri_resolve.proofs.Common.{in_userinfo_or_host, without_empty_port, with_small_letter_in_host, leads, normal-seam, in_userinfo}
+use Rattle.iri_resolve.proofs.Common.{option_map, option_and_then, ◌≡◌, ℕ, ◌-◌, true, false, cond, ◌||◌, List, [], ◌∷◌, ◌++◌, Option, Some}
+use Rattle.iri_resolve.proofs.Common.{None, refl, sym, ◌∙◌, ap, arith, subst, nat_lt, take, is_ascii_uppercase, to_ascii_lowercase}
+use Rattle.iri_resolve.proofs.Common.{nat_tests, AuthorityParts, FitsAuthority, authority_parts, recompose_authority, is_authority}
+use Rattle.iri_resolve.proofs.Common.{reading_is, passes, if_there, is_userinfo, is_host, whole_triplets, normal, as_it_is, pct}
+use Rattle.iri_resolve.proofs.Common.{is_ascii_host, normal_host, normal_authority_parts, normal_authority, normal_plain, read}
+use Rattle.iri_resolve.proofs.Common.{octets_other, userinfo-whole, host-whole, userinfo_percent, reads, with_small_host_letter, host_start}
+use Rattle.iri_resolve.proofs.Common.{in_host, in_userinfo_or_host, without_empty_port, with_small_letter_in_host, leads, normal-seam}
+use Rattle.iri_resolve.proofs.Common.{in_userinfo, Tests, IsSpec, unreserved, userinfo_char}
 use Rattle.std.proofs.Math.Bool.{or-true}
 use Rattle.std.proofs.lemmas.Bool.{not-false}
-use Rattle.iri_grammar.specs.Classes.{Tests, IsSpec, unreserved, userinfo_char, reg_name_char, is_ascii_unreserved}
+use Rattle.iri_grammar.specs.Classes.{reg_name_char, is_ascii_unreserved}
 use Rattle.iri_grammar.specs.Host.{is_reg_name}
 use Rattle.iri_grammar.specs.IpLiteral.{is_ip_literal}
 use Rattle.iri_percent.proofs.forms.Stability.{lower-case}
 use Rattle.iri_percent.proofs.units.OfParts.{literal-lacks, reg_name_percent}
 use Rattle.iri_normal.proofs.HostLaws.{ascii-read}
 use Rattle.iri_normal.proofs.LiteralLaws.{literal-lower}
-use Rattle.iri_normal.specs.LowerCase.{lowered}
+use Rattle.iri_normal.specs.NormalForm.{lowered}
 use Rattle.iri_resolve.proofs.ByteLaws.{ByteChange, small_host_letter, IsAsGood, byte_change-over, capital_low}
 use Rattle.iri_resolve.proofs.ChangeKeeps.{TripletChange}
 use Rattle.iri_percent.proofs.forms.Classes.{in_reg_name, upper_unreserved}
@@ -93,29 +94,29 @@ host-case s a b g f h n t = record {
 }
 
 -- what was placed
-pub placed-is : {X : Type 0} (f : List ℕ → X) (o : Option (List ℕ)) (b : X) → placed f o ≡ Some b → (x : List ℕ) × (o ≡ Some x) × (f x ≡ b)
+pub placed-is : {X : Type 0} (f : List ℕ → X) (o : Option (List ℕ)) (b : X) → option_map f o ≡ Some b → (x : List ℕ) × (o ≡ Some x) × (f x ≡ b)
 placed-is f None b h = cc
 placed-is f (Some x) b h = (x, refl, cc)
 
-pub in_part-is : (change : List ℕ → Option (List ℕ)) (o : Option (List ℕ)) (v : List ℕ) → in_part change o ≡ Some v
+pub in_part-is : (change : List ℕ → Option (List ℕ)) (o : Option (List ℕ)) (v : List ℕ) → option_and_then change o ≡ Some v
     → (u : List ℕ) × (o ≡ Some u) × (change u ≡ Some v)
 in_part-is change None v h = cc
 in_part-is change (Some u) v h = (u, refl, h)
 
 -- what holds of each text that is put holds of what was placed
-pub placed-gives : {X : Type 0} (P : X → Type 0) (put : List ℕ → X) (o : Option (List ℕ)) (x : X) → placed put o ≡ Some x
+pub placed-gives : {X : Type 0} (P : X → Type 0) (put : List ℕ → X) (o : Option (List ℕ)) (x : X) → option_map put o ≡ Some x
     → ((b : List ℕ) → o ≡ Some b → P (put b)) → P x
 placed-gives P put o x h go = let r = placed-is put o x h in subst P r.2 (go r.0 r.1)
 
 pub part-gives : {X : Type 0} (P : X → Type 0) (put : List ℕ → X) (change : List ℕ → Option (List ℕ)) (o : Option (List ℕ)) (x : X)
-    → placed put (in_part change o) ≡ Some x → ((a b : List ℕ) → o ≡ Some a → change a ≡ Some b → P (put b)) → P x
-part-gives P put change o x h go = placed-gives P put (in_part change o) x h (λ b e. let q = in_part-is change o b e in go q.0 b q.1 q.2)
+    → option_map put (option_and_then change o) ≡ Some x → ((a b : List ℕ) → o ≡ Some a → change a ≡ Some b → P (put b)) → P x
+part-gives P put change o x h go = placed-gives P put (option_and_then change o) x h (λ b e. let q = in_part-is change o b e in go q.0 b q.1 q.2)
 
 pub in_host-is : (change : ℕ → List ℕ → Option (List ℕ)) (i : ℕ) (p : AuthorityParts) (b : List ℕ) → in_host change i p ≡ Some b
     → (g : List ℕ) × (change (i - host_start p) p.host ≡ Some g) × (recompose_authority (record p { host = g }) ≡ b)
 in_host-is change i p b h =
     elim (nat_lt i (host_start p)) as (λ v. cond v None
-    (placed (λ h. recompose_authority (record p { host = h })) (change (i - host_start p) p.host)) ≡ Some b
+    (option_map (λ h. recompose_authority (record p { host = h })) (change (i - host_start p) p.host)) ≡ Some b
     → (g : List ℕ) × (change (i - host_start p) p.host ≡ Some g) × (recompose_authority (record p { host = g }) ≡ b)) [
       | true ↦ λ k. cc
       | false ↦ λ k. placed-is (λ h. recompose_authority (record p { host = h })) (change (i - host_start p) p.host) b k
@@ -127,7 +128,7 @@ triplets-changed s change i a b k c t h =
     let p = authority_parts a in
     let f = reads s a k t in
     elim (nat_lt i (host_start p)) as (λ v. cond v
-    (placed (λ u. recompose_authority (record p { userinfo = Some u })) (in_part (change i) p.userinfo)) (in_host change i p) ≡ Some b
+    (option_map (λ u. recompose_authority (record p { userinfo = Some u })) (option_and_then (change i) p.userinfo)) (in_host change i p) ≡ Some b
     → AuthorityChange s a b) [
       | true ↦ λ m. part-gives (AuthorityChange s a) (λ u. recompose_authority (record p { userinfo = Some u })) (change i) p.userinfo b m
           (λ u v o e. userinfo-case s change i a (recompose_authority (record p { userinfo = Some v })) u v k c f o e refl)

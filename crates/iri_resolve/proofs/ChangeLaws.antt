@@ -3,9 +3,10 @@ use Rattle.iri_resolve.proofs.Common.{◌==◌, take, drop, is_ascii_hexdigit, t
 use Rattle.iri_resolve.proofs.Common.{nat_tests, not-true, Tests, IsSpec, unreserved, both, by_test, text_over, octets, whole_triplets}
 use Rattle.iri_resolve.proofs.Common.{normal, as_it_is, Spells, none, more, spelled, length-spelled, octets_other, encode_bytes, decoded}
 use Rattle.iri_resolve.proofs.Common.{normal_plain, normal_decoded, is_decoded, whole_plain, read, is_small_digit, with_capital_digit}
-use Rattle.iri_resolve.proofs.Common.{with_character, with_decoded, leads, normal-seam, whole-percent}
-use Rattle.std.proofs.Common.{◌≡◌, ℕ, zero, suc, ◌+◌, ◌*◌, Bool, true, false, cond, not, ◌&&◌, List, [], ◌∷◌, ◌++◌, Option, Some, None}
-use Rattle.std.proofs.Common.{length, map, refl, sym, ◌∙◌, ap, subst, arith, append-nil, drop-drop, drop_at, take-append-drop}
+use Rattle.iri_resolve.proofs.Common.{with_character, with_decoded, leads, normal-seam, whole-percent, ◌≡◌, ℕ, zero, suc, ◌+◌, ◌*◌, Bool}
+use Rattle.iri_resolve.proofs.Common.{true, false, cond, not, ◌&&◌, List, [], ◌∷◌, ◌++◌, Option, Some, None, length, refl, sym, ◌∙◌, ap}
+use Rattle.iri_resolve.proofs.Common.{subst, arith}
+use Rattle.std.proofs.Common.{map, append-nil, drop-drop, drop_at, take-append-drop}
 use lib.Utf8.{scalar}
 use Rattle.std.proofs.lemmas.Str.Ascii.{uppercase-uppercase}
 use Rattle.iri_grammar.specs.Classes.{is_ascii_unreserved}

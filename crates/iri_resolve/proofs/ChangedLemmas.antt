@@ -1,11 +1,11 @@
 -- A step changes something, and a decoded place is a character.
-use Rattle.iri_resolve.proofs.Common.{◌≡◌, ℕ, ◌-◌, Bool, true, false, cond, List, [], ◌∷◌, ◌++◌, Option, Some, None, length, refl, sym, ◌∙◌}
-use Rattle.iri_resolve.proofs.Common.{ap, arith, append_assoc, length-append, ◌&&◌, is_some, nat_lt, take, is_ascii_uppercase}
-use Rattle.iri_resolve.proofs.Common.{to_ascii_lowercase, to_ascii_uppercase, encode_utf8, bytes_eq, nat_tests, bytes_eq-Decides}
-use Rattle.iri_resolve.proofs.Common.{AuthorityParts, authority_parts, recompose_authority, userinfo_text, authority_recomposed, Tests}
-use Rattle.iri_resolve.proofs.Common.{Parts, is_empty, whole_plain, read, leads, whole-percent, length-spelled, octets, whole_triplets}
-use Rattle.iri_resolve.proofs.Common.{is_dropped, dropped_port, CanonMode, is_small_digit, with_small_letter, with_small_host_letter}
-use Rattle.iri_resolve.proofs.Common.{with_capital_digit, with_decoded, dots, guard, placed, in_part, host_start, in_host}
+use Rattle.iri_resolve.proofs.Common.{option_map, option_and_then, ◌≡◌, ℕ, ◌-◌, Bool, true, false, cond, List, [], ◌∷◌, ◌++◌, Option, Some}
+use Rattle.iri_resolve.proofs.Common.{None, length, refl, sym, ◌∙◌, ap, arith, append_assoc, length-append, ◌&&◌, is_some, nat_lt, take}
+use Rattle.iri_resolve.proofs.Common.{is_ascii_uppercase, to_ascii_lowercase, to_ascii_uppercase, encode_utf8, bytes_eq, nat_tests}
+use Rattle.iri_resolve.proofs.Common.{bytes_eq-Decides, AuthorityParts, authority_parts, recompose_authority, userinfo_text}
+use Rattle.iri_resolve.proofs.Common.{authority_recomposed, Tests, Parts, is_empty, whole_plain, read, leads, whole-percent, length-spelled}
+use Rattle.iri_resolve.proofs.Common.{octets, whole_triplets, is_dropped, dropped_port, CanonMode, is_small_digit, with_small_letter}
+use Rattle.iri_resolve.proofs.Common.{with_small_host_letter, with_capital_digit, with_decoded, dots, guard, host_start, in_host}
 use Rattle.iri_resolve.proofs.Common.{in_userinfo_or_host, without_dropped_port, without_empty_port, with_small_letter_in_host}
 use Rattle.iri_resolve.proofs.Common.{with_dots_removed, with_slash, at_place, step_in, Part, Authority, Path, Query, Fragment, Step}
 use Rattle.iri_resolve.proofs.Common.{SchemeLetter, HostLetter, HexDigit, Decode, EmptyPort, Dots, DefaultPort, SlashPath}
@@ -89,7 +89,7 @@ authority-changes : (change : ℕ → List ℕ → Option (List ℕ)) (i : ℕ) 
 authority-changes change i a b c h e =
     let p = authority_parts a in
     elim (nat_lt i (host_start p)) as (λ v. cond v
-    (placed (λ u. recompose_authority (record p { userinfo = Some u })) (in_part (change i) p.userinfo)) (in_host change i p)
+    (option_map (λ u. recompose_authority (record p { userinfo = Some u })) (option_and_then (change i) p.userinfo)) (in_host change i p)
     ≡ Some b → ⊥) [
       | true ↦ λ m. part-gives (λ z. z ≢ a) (λ u. recompose_authority (record p { userinfo = Some u })) (change i) p.userinfo b m
           (λ w v o f d. c i w v f (other-userinfo p v w o (d ∙ sym (authority_recomposed a)))) e

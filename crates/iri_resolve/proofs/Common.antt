@@ -8,7 +8,7 @@ pub use Rattle.std.proofs.lemmas.Result.{IfOk-weaker}
 pub use Rattle.std.proofs.lemmas.Slice.Eq.{bytes_eq-Decides}
 pub use Rattle.std.proofs.lemmas.Str.{length-encode, IsUtf8-string_bytes}
 pub use Rattle.std.specs.Char.{is_ascii_uppercase, to_ascii_lowercase, is_ascii_hexdigit, to_ascii_uppercase, encode_utf8, len_utf8}
-pub use Rattle.std.specs.Prelude.{nat_lt, take, ◌==◌, drop, slice_index, slice_set, is_some, string_bytes, IsSome, IfOk}
+pub use Rattle.std.specs.Prelude.{nat_lt, take, ◌==◌, drop, slice_index, slice_set, is_some, string_bytes, IsSome, IfOk, option_map, option_and_then}
 pub use Rattle.std.specs.Str.{bytes_eq, IsUtf8}
 unfoldable pub use Rattle.std.specs.Str.{chars}
 pub use Rattle.iri_grammar.proofs.authorities.AuthorityLaws.{reading_is, passes, authority_recomposed}
@@ -22,8 +22,9 @@ pub use Rattle.iri_grammar.specs.Host.{is_host}
 pub use Rattle.iri_grammar.specs.OptionalSlices.{now_of}
 pub use Rattle.iri_grammar.specs.Over.{text_over}
 pub use Rattle.iri_grammar.specs.Parts.{path_rules, is_empty, starts_with_slash, starts_with_slashes, Parts, recompose, Fits}
-pub use Rattle.iri_normal.specs.DotRemoval.{dots, is_two_dots}
-pub use Rattle.iri_normal.specs.Guard.{guard}
+pub use Rattle.iri_normal.specs.DotRemoval.{dots}
+pub use Rattle.iri_normal.specs.Dots.{is_two_dots}
+pub use Rattle.iri_normal.specs.DotRemoval.{guard}
 unfoldable pub use Rattle.iri_normal.specs.NormalForm.{form, normal_path, normal_form}
 pub use Rattle.iri_normal.specs.Resolver.{bytes_of}
 pub use Rattle.iri_percent.proofs.hosts.Authorities.{part_whole}
@@ -48,10 +49,10 @@ pub use Rattle.iri_text.proofs.Compose.{shows_exit, shows_then}
 pub use Rattle.iri_text.specs.Shown.{Shows}
 pub use Rattle.iri_resolve.specs.Changes.{is_in_triplet, is_small_digit, with_character}
 unfoldable pub use Rattle.iri_resolve.specs.Changes.{with_small_host_letter, with_small_letter, with_capital_digit, with_decoded}
-pub use Rattle.iri_resolve.specs.NormalSteps.{letter_steps, is_port_dropped}
+pub use Rattle.iri_resolve.specs.NormalSteps.{is_port_dropped, step_if}
 unfoldable pub use Rattle.iri_resolve.specs.NormalSteps.{component_steps, scheme_steps, steps_of}
-pub use Rattle.iri_resolve.specs.Steps.{placed, in_part, host_start, in_host, in_userinfo_or_host, without_empty_port}
-pub use Rattle.iri_resolve.specs.Steps.{with_small_letter_in_host, without_dropped_port, with_dots_removed, with_slash, at_place, onward}
+pub use Rattle.iri_resolve.specs.Steps.{host_start, in_host, in_userinfo_or_host, without_empty_port}
+pub use Rattle.iri_resolve.specs.Steps.{with_small_letter_in_host, without_dropped_port, with_dots_removed, with_slash, at_place}
 unfoldable pub use Rattle.iri_resolve.specs.Steps.{step_in, replayed_in}
 pub use Rattle.iri_resolve.specs.declared.step.Part.{Part}
 pub use Rattle.iri_resolve.specs.declared.step.Part.TheVariants.{Authority, Path, Query, Fragment}
@@ -59,6 +60,6 @@ pub use Rattle.iri_resolve.specs.declared.step.Step.{Step}
 pub use Rattle.iri_resolve.specs.declared.step.Step.TheVariants.{SchemeLetter, HostLetter, HexDigit, Decode, EmptyPort, Dots, DefaultPort}
 pub use Rattle.iri_resolve.specs.declared.step.Step.TheVariants.{SlashPath}
 pub use Rattle.iri_resolve.specs.inside.ChangeOf.{change_of}
-pub use Rattle.iri_resolve.specs.inside.GuardAlone.{loses_dots, dots_steps}
+pub use Rattle.iri_resolve.specs.inside.GuardAlone.{loses_dots}
 pub use Rattle.iri_resolve.specs.inside.Reached.{Holds, WentThere, ReadOnThere, Reaches, authority_of, is_port_empty, other_than, parts_of}
 pub use Rattle.iri_resolve.specs.inside.Reached.{went, IsReadThere}

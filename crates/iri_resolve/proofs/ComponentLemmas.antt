@@ -5,11 +5,12 @@ use Rattle.iri_resolve.proofs.Common.{drop, slice_index, is_ascii_hexdigit, is_a
 use Rattle.iri_resolve.proofs.Common.{encode_utf8, len_utf8, nat_tests, length-encode, Tests, IsSpec, Parts, by_test, decoded, normal_nil}
 use Rattle.iri_resolve.proofs.Common.{normal_plain, is_decoded, other_same, whole_plain, lacks-whole, normal, octets, whole_triplets}
 use Rattle.iri_resolve.proofs.Common.{CanonMode, is_small_digit, with_capital_digit, with_decoded, with_small_host_letter}
-use Rattle.iri_resolve.proofs.Common.{with_small_letter, component_steps, letter_steps, step_in, Part, Step, HostLetter, HexDigit, Decode}
+use Rattle.iri_resolve.proofs.Common.{with_small_letter, component_steps, step_in, Part, Step, HostLetter, HexDigit, Decode}
+use Rattle.iri_resolve.proofs.Common.{get_or-append_seam, set-append_seam, step_if}
 use Rattle.std.proofs.Common.{length-drop, Result, Ok, Err, IsErr}
 use Rattle.iri_text.specs.Shown.{AreSinkLaws}
 use Rattle.iri_text.specs.declared.shown.show.Stop.{Stop}
-use Rattle.std.proofs.Math.Seq.{get_or-append_seam, set-append_seam, take-append_seam}
+use Rattle.std.proofs.Math.Seq.{take-append_seam}
 use Rattle.std.proofs.lemmas.Str.{encode_ascii}
 use Rattle.std.proofs.lemmas.List.{length-map}
 use Rattle.iri_percent.proofs.forms.ByUnits.{normal_kept}
@@ -19,7 +20,7 @@ use Rattle.iri_percent.proofs.forms.Changes.{case_is, decodes}
 use Rattle.iri_percent.proofs.units.WholeTriplets.{whole_triplet, percent_follows}
 use Rattle.iri_percent.proofs.forms.Stability.{upper_hex, encode_percent, unreserved_percent}
 use Rattle.iri_percent.proofs.units.OfParts.{whole-append}
-use Rattle.iri_resolve.specs.NormalSteps.{Prefix, byte_prefix, digit_steps, prefix_of, triplet_prefix}
+use Rattle.iri_resolve.specs.NormalSteps.{Prefix, byte_prefix, prefix_of, triplet_prefix}
 use Rattle.iri_resolve.proofs.ChangeKeeps.{capital-keeps, decoding-keeps}
 use Rattle.iri_resolve.proofs.Going.{Going, all_gone, going_on, gone_wrong}
 use Rattle.iri_resolve.proofs.Leads.{Led, led-nothing, led-step, led-on, not-whole, whole_nil, whole_percent, capital-at, capital_same}
@@ -50,10 +51,10 @@ letter-at a r x w h = rw (take-append_seam a (x ∷ r), w, get_or-append_seam a 
 -- ---- what is done to a text in its place
 module _ (s : Tests) (m : CanonMode) (part : Part) (lower : Bool) (start : ℕ) (ok : List ℕ → Bool) (put : List ℕ → Parts) (p : IsPlace s part lower start ok put) where
   letter-led : (a r : List ℕ) (x at : ℕ) → whole_triplets a ≡ true → at ≡ start + length a → ok (a ++ x ∷ r) ≡ true
-      → Led s m ok put (a ++ x ∷ r) (letter_steps (lower && is_ascii_uppercase x) at) (a ++ case_of lower x ∷ r)
+      → Led s m ok put (a ++ x ∷ r) (step_if (lower && is_ascii_uppercase x) (HostLetter at)) (a ++ case_of lower x ∷ r)
   letter-led a r x at w e h =
       elim (lower && is_ascii_uppercase x) as (λ b. (lower && is_ascii_uppercase x) ≡ b
-      → Led s m ok put (a ++ x ∷ r) (letter_steps b at) (a ++ case_of lower x ∷ r)) [
+      → Led s m ok put (a ++ x ∷ r) (step_if b (HostLetter at)) (a ++ case_of lower x ∷ r)) [
         | true ↦ λ g.
             let c = case-lowered lower x g in
             let q = p.letter m (length a) (a ++ x ∷ r) (a ++ to_ascii_lowercase x ∷ r) c.1 h (letter-at a r x w c.2) in
@@ -62,7 +63,7 @@ module _ (s : Tests) (m : CanonMode) (part : Part) (lower : Bool) (start : ℕ) 
       ] refl
 
   digit-led : (a r : List ℕ) (x at : ℕ) → whole_triplets a ≡ false → is_ascii_hexdigit x ≡ true → at ≡ start + length a
-      → ok (a ++ x ∷ r) ≡ true → Led s m ok put (a ++ x ∷ r) (digit_steps part at x) (a ++ to_ascii_uppercase x ∷ r)
+      → ok (a ++ x ∷ r) ≡ true → Led s m ok put (a ++ x ∷ r) (step_if (is_small_digit x) (HexDigit part at)) (a ++ to_ascii_uppercase x ∷ r)
   unfolding step_in
   digit-led a r x at w d e h =
       elim (is_small_digit x) as (λ b. is_small_digit x ≡ b
@@ -77,7 +78,7 @@ module _ (s : Tests) (m : CanonMode) (part : Part) (lower : Bool) (start : ℕ) 
   -- the digits of a triplet that stays
   digits-led : (a r : List ℕ) (x y at : ℕ) → is_ascii_hexdigit x ≡ true → is_ascii_hexdigit y ≡ true → at ≡ start + length a
       → ok (a ++ 37 ∷ x ∷ y ∷ r) ≡ true
-      → Led s m ok put (a ++ 37 ∷ x ∷ y ∷ r) (digit_steps part (at + 1) x ++ digit_steps part (at + 2) y)
+      → Led s m ok put (a ++ 37 ∷ x ∷ y ∷ r) (step_if (is_small_digit x) (HexDigit part (at + 1)) ++ step_if (is_small_digit y) (HexDigit part (at + 2)))
       ((a ++ 37 ∷ to_ascii_uppercase x ∷ to_ascii_uppercase y ∷ []) ++ r)
   unfolding whole_triplets
   digits-led a r x y at dx dy e h =
@@ -86,40 +87,40 @@ module _ (s : Tests) (m : CanonMode) (part : Part) (lower : Bool) (start : ℕ) 
       let group : (z : ℕ) (w : List ℕ) → (a ++ 37 ∷ []) ++ z ∷ w ≡ a ++ 37 ∷ z ∷ w = λ z w. append_assoc a (37 ∷ []) (z ∷ w) in
       let pair : (z v : ℕ) (w : List ℕ) → (a ++ 37 ∷ z ∷ []) ++ v ∷ w ≡ a ++ 37 ∷ z ∷ v ∷ w =
       λ z v w. append_assoc a (37 ∷ z ∷ []) (v ∷ w) in
-      let one : Led s m ok put (a ++ 37 ∷ x ∷ y ∷ r) (digit_steps part (at + 1) x) (a ++ 37 ∷ X ∷ y ∷ r) =
-      subst (λ z. Led s m ok put z (digit_steps part (at + 1) x) (a ++ 37 ∷ X ∷ y ∷ r)) (group x (y ∷ r))
-      (subst (λ z. Led s m ok put ((a ++ 37 ∷ []) ++ x ∷ y ∷ r) (digit_steps part (at + 1) x) z) (group X (y ∷ r))
+      let one : Led s m ok put (a ++ 37 ∷ x ∷ y ∷ r) (step_if (is_small_digit x) (HexDigit part (at + 1))) (a ++ 37 ∷ X ∷ y ∷ r) =
+      subst (λ z. Led s m ok put z (step_if (is_small_digit x) (HexDigit part (at + 1))) (a ++ 37 ∷ X ∷ y ∷ r)) (group x (y ∷ r))
+      (subst (λ z. Led s m ok put ((a ++ 37 ∷ []) ++ x ∷ y ∷ r) (step_if (is_small_digit x) (HexDigit part (at + 1))) z) (group X (y ∷ r))
       (digit-led (a ++ 37 ∷ []) (y ∷ r) x (at + 1) (not-whole a (37 ∷ []) whole_percent) dx
       (omega (arith, e, length-append a (37 ∷ []))) (ap ok (group x (y ∷ r)) ∙ h))) in
       let two = digit-led (a ++ 37 ∷ X ∷ []) r y (at + 2) (not-whole a (37 ∷ X ∷ []) refl) dy
       (omega (arith, e, length-append a (37 ∷ X ∷ []))) (ap ok (pair X y r) ∙ one.good) in
-      led-on s m ok put (a ++ 37 ∷ x ∷ y ∷ r) (a ++ 37 ∷ X ∷ y ∷ r) ((a ++ 37 ∷ X ∷ Y ∷ []) ++ r) (digit_steps part (at + 1) x)
-      (digit_steps part (at + 2) y) one
-      (subst (λ z. Led s m ok put z (digit_steps part (at + 2) y) ((a ++ 37 ∷ X ∷ Y ∷ []) ++ r)) (pair X y r)
-      (subst (λ z. Led s m ok put ((a ++ 37 ∷ X ∷ []) ++ y ∷ r) (digit_steps part (at + 2) y) z)
+      led-on s m ok put (a ++ 37 ∷ x ∷ y ∷ r) (a ++ 37 ∷ X ∷ y ∷ r) ((a ++ 37 ∷ X ∷ Y ∷ []) ++ r) (step_if (is_small_digit x) (HexDigit part (at + 1)))
+      (step_if (is_small_digit y) (HexDigit part (at + 2))) one
+      (subst (λ z. Led s m ok put z (step_if (is_small_digit y) (HexDigit part (at + 2))) ((a ++ 37 ∷ X ∷ Y ∷ []) ++ r)) (pair X y r)
+      (subst (λ z. Led s m ok put ((a ++ 37 ∷ X ∷ []) ++ y ∷ r) (step_if (is_small_digit y) (HexDigit part (at + 2))) z)
       (pair X Y r ∙ sym (append_assoc a (37 ∷ X ∷ Y ∷ []) r)) two))
 
   -- a letter that was decoded
   char-led : (a r : List ℕ) (c at : ℕ) → whole_triplets a ≡ true → at ≡ start + length a → ok (a ++ (encode_utf8 c ++ r)) ≡ true
-      → Led s m ok put (a ++ (encode_utf8 c ++ r)) (letter_steps (lower && is_ascii_uppercase c) at) (a ++ (encode_utf8 (case_of lower c) ++ r))
+      → Led s m ok put (a ++ (encode_utf8 c ++ r)) (step_if (lower && is_ascii_uppercase c) (HostLetter at)) (a ++ (encode_utf8 (case_of lower c) ++ r))
   char-led a r c at w e h =
       elim (lower && is_ascii_uppercase c) as (λ b. (lower && is_ascii_uppercase c) ≡ b
-      → Led s m ok put (a ++ (encode_utf8 c ++ r)) (letter_steps b at) (a ++ (encode_utf8 (case_of lower c) ++ r))) [
+      → Led s m ok put (a ++ (encode_utf8 c ++ r)) (step_if b (HostLetter at)) (a ++ (encode_utf8 (case_of lower c) ++ r))) [
         | true ↦ λ g.
             let k = case-lowered lower c g in
             let low = capital_low c k.2 in
             let old : encode_utf8 c ≡ c ∷ [] = encode_ascii c low.0 in
             let new : encode_utf8 (case_of lower c) ≡ case_of lower c ∷ [] =
             encode_ascii (case_of lower c) (subst (λ z. z < 128) (sym k.0) low.1) in
-            subst (λ z. Led s m ok put (a ++ (z ++ r)) (letter_steps true at) (a ++ (encode_utf8 (case_of lower c) ++ r))) (sym old)
-            (subst (λ z. Led s m ok put (a ++ c ∷ r) (letter_steps true at) (a ++ (z ++ r))) (sym new)
-            (subst (λ b. Led s m ok put (a ++ c ∷ r) (letter_steps b at) (a ++ case_of lower c ∷ r)) g
+            subst (λ z. Led s m ok put (a ++ (z ++ r)) (step_if true (HostLetter at)) (a ++ (encode_utf8 (case_of lower c) ++ r))) (sym old)
+            (subst (λ z. Led s m ok put (a ++ c ∷ r) (step_if true (HostLetter at)) (a ++ (z ++ r))) (sym new)
+            (subst (λ b. Led s m ok put (a ++ c ∷ r) (step_if b (HostLetter at)) (a ++ case_of lower c ∷ r)) g
             (letter-led a r c at w e (ap (λ z. ok (a ++ (z ++ r))) (sym old) ∙ h))))
         | false ↦ λ g. rw (case-kept lower c g) (led-nothing s m ok put (a ++ (encode_utf8 c ++ r)) h)
       ] refl
 
   decode-led : (a t : List ℕ) (c at : ℕ) → IsSpec s → whole_triplets a ≡ true → decoded s (octets t) ≡ Some c → at ≡ start + length a
-      → ok (a ++ t) ≡ true → Led s m ok put (a ++ t) (Decode part at ∷ letter_steps (lower && is_ascii_uppercase c) at)
+      → ok (a ++ t) ≡ true → Led s m ok put (a ++ t) (Decode part at ∷ step_if (lower && is_ascii_uppercase c) (HostLetter at))
       ((a ++ encode_utf8 (case_of lower c)) ++ drop (3 * len_utf8 c) t)
   unfolding step_in
   decode-led a t c at k w d e h =
@@ -128,9 +129,9 @@ module _ (s : Tests) (m : CanonMode) (part : Part) (lower : Bool) (start : ℕ) 
       let one = led-step s m ok put (a ++ t) (a ++ (encode_utf8 c ++ r)) (Decode part (start + length a)) q.0 q.1 in
       let two = char-led a r c at w e one.good in
       led-on s m ok put (a ++ t) (a ++ (encode_utf8 c ++ r)) ((a ++ encode_utf8 (case_of lower c)) ++ r) (Decode part at ∷ [])
-      (letter_steps (lower && is_ascii_uppercase c) at)
+      (step_if (lower && is_ascii_uppercase c) (HostLetter at))
       (subst (λ i. Led s m ok put (a ++ t) (Decode part i ∷ []) (a ++ (encode_utf8 c ++ r))) (sym e) one)
-      (subst (λ z. Led s m ok put (a ++ (encode_utf8 c ++ r)) (letter_steps (lower && is_ascii_uppercase c) at) z)
+      (subst (λ z. Led s m ok put (a ++ (encode_utf8 c ++ r)) (step_if (lower && is_ascii_uppercase c) (HostLetter at)) z)
       (sym (append_assoc a (encode_utf8 (case_of lower c)) r)) two)
 
 -- ---- what a text begins with
@@ -159,7 +160,7 @@ module _ (s : Tests) (k : IsSpec s) (part : Part) (lower : Bool) (at : ℕ) wher
     whole_rest = sym (whole_plain x xs n) ∙ w;
     form = normal_plain s (case_of lower) x xs n;
     leads = λ m start ok put p a v e h.
-        subst (λ z. Led s m ok put (a ++ x ∷ xs) (letter_steps (lower && is_ascii_uppercase x) at) z)
+        subst (λ z. Led s m ok put (a ++ x ∷ xs) (step_if (lower && is_ascii_uppercase x) (HostLetter at)) z)
         (sym (append_assoc a (case_of lower x ∷ []) xs)) (letter-led s m part lower start ok put p a xs x at v e h);
   }
 

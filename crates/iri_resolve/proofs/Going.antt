@@ -1,6 +1,7 @@
 -- Things that go into a sink one after the other: some have, and the rest follows.
-use Rattle.std.proofs.Common.{◌≡◌, ℕ, List, [], ◌++◌, refl, sym, ◌∙◌, ap, subst, append_assoc, append-nil, Result, Ok, Err, IsErr}
-use Rattle.iri_text.specs.Shown.{AreSinkLaws, Shows}
+use Rattle.iri_resolve.proofs.Common.{◌≡◌, ℕ, List, [], ◌++◌, refl, sym, ◌∙◌, ap, subst, append_assoc, Shows}
+use Rattle.std.proofs.Common.{append-nil, Result, Ok, Err, IsErr}
+use Rattle.iri_text.specs.Shown.{AreSinkLaws}
 use Rattle.iri_text.specs.declared.shown.show.Stop.{Stop}
 use Rattle.iri_resolve.specs.StepSinks.{done}
 use Rattle.iri_text.proofs.Compose.{HasShown, shown_exit, shown_more, shown_none, shows_all}

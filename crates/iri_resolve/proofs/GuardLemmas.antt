@@ -11,11 +11,10 @@ use Rattle.iri_grammar.specs.Pieces.{pieces, onto}
 use Rattle.iri_grammar.specs.inside.PiecesLaws.{more_pieces}
 use Rattle.iri_grammar.proofs.hosts.PiecesLaws.{pieces_cut}
 use Rattle.iri_percent.proofs.units.AtDelimiters.{pct_delimiter, slash}
-use Rattle.iri_normal.specs.DotRemoval.{is_all, is_one_dot}
-use Rattle.iri_normal.specs.Dots.{any_dot_segment, has_dot_segment, is_dot_segment}
+use Rattle.iri_normal.specs.Dots.{is_all, is_one_dot, any_dot_segment, has_dot_segment, is_dot_segment}
 use Rattle.iri_resolve.specs.inside.GuardAlone.{is_after_slash, is_guard_alone}
 use Rattle.iri_normal.proofs.PieceLaws.{pieces-some, pieces-slash, dot-is_one, dot_segment-lacks, nothing-is_no_dot}
-use Rattle.iri_normal.proofs.StableLaws.{dot_before, no_dots_left, no_dots-same, slashed, unsplit, unsplit-pieces}
+use Rattle.iri_normal.proofs.StableLaws.{dot_before, no_dots_left, no_dots_same, slashed, unsplit, unsplit-pieces}
 use Rattle.iri_normal.proofs.TripletDots.{dot_segment-pct, empty-pct, encode_point, point_scalar, point_unreserved, two_dots-pct}
 use Rattle.iri_normal.proofs.TripletHeads.{pct-heads}
 use Rattle.iri_normal.proofs.TripletPaths.{all_whole, pieces-pct, whole-pieces}
@@ -122,7 +121,7 @@ given-again q h e =
 
 -- ---- and the guard gives such a path again
 guard-again : (v : List ℕ) → has_dot_segment (47 ∷ 47 ∷ v) ≡ false → guard (dots (47 ∷ 46 ∷ 47 ∷ 47 ∷ v)) false ≡ 47 ∷ 46 ∷ 47 ∷ 47 ∷ v
-guard-again v h = ap (λ t. guard t false) (dot_before (47 ∷ v) ∙ no_dots-same (47 ∷ 47 ∷ v) h)
+guard-again v h = ap (λ t. guard t false) (dot_before (47 ∷ v) ∙ no_dots_same (47 ∷ 47 ∷ v) h)
 
 module _ (s : Tests) (k : IsSpec s) (p : List ℕ) (w : whole_triplets p ≡ true) where
   normal-pieces : pieces 47 (pct s p) ≡ map (pct s) (pieces 47 p)
@@ -170,7 +169,7 @@ module _ (s : Tests) (k : IsSpec s) (p : List ℕ) (w : whole_triplets p ≡ tru
   without : has_dot_segment p ≡ false → (stands : Bool) → (stands || not (starts_with_slashes p)) ≡ true
       → guard (dots (pct s p)) stands ≡ pct s p
   without h stands g =
-      ap (λ t. guard t stands) (no_dots-same (pct s p) (has-pct ∙ h))
+      ap (λ t. guard t stands) (no_dots_same (pct s p) (has-pct ∙ h))
       ∙ (ap (λ b. cond (stands || not b) (pct s p) (47 ∷ 46 ∷ pct s p)) (pct-heads s p k w)
       ∙ ap (λ b. cond b (pct s p) (47 ∷ 46 ∷ pct s p)) g)
 

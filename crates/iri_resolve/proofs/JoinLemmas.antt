@@ -5,7 +5,7 @@ use Rattle.iri_resolve.proofs.SchemeSteps.{joined_in-exactly, texts_in-exactly}
 use Rattle.iri_normal.proofs.SchemeForm.{form-is}
 use Rattle.iri_normal.specs.NormalForm.{normal_form_in}
 use Rattle.iri_normal.specs.Modes.{mode_of}
-use Rattle.iri_resolve.specs.Steps.{AreApartIn, LeadToOneIn, LeadToNormalIn}
+use Rattle.iri_resolve.specs.Steps.{AreApartIn, LeadToNormalIn}
 use Rattle.iri_resolve.proofs.StepsKept.{Valid}
 
 -- the texts of two normal forms are those of two forms
@@ -25,9 +25,8 @@ apart s c t u k v w h j =
 pub to-one : (s : Tests) (c : CanonMode) (t u : Parts) (l m : List Step) → IsSpec s → Valid s t → Valid s u
     → bytes_eq (recompose (form s (mode_of c) false t)) (recompose (form s (mode_of c) false u)) ≡ true
     → replayed_in s c t l ≡ Some (normal_form_in s c t) → replayed_in s c u m ≡ Some (normal_form_in s c u)
-    → LeadToOneIn s c t u l m × LeadToNormalIn s c t u l m
+    → LeadToNormalIn s c t u l m
 to-one s c t u l m k v w h a b =
     let e = (texts_in-exactly s c t u k v.fits v.scheme w.fits w.scheme).0
     ((bytes_eq-Decides (recompose (normal_form_in s c t)) (recompose (normal_form_in s c u))).0 (told s c t u true h)) in
-    let one : replayed_in s c u m ≡ Some (normal_form_in s c t) = b ∙ ap Some (sym e) in
-    ((normal_form_in s c t, a, one), (a, one))
+    (a, b ∙ ap Some (sym e))

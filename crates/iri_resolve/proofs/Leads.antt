@@ -1,8 +1,9 @@
 -- Steps one after the other, and changes in the middle of a text.
-use Rattle.iri_resolve.proofs.Common.{◌≡◌, ℕ, ◌+◌, ◌*◌, Bool, true, false, List, [], ◌∷◌, ◌++◌, Option, Some, None, length, refl, sym, ◌∙◌}
-use Rattle.iri_resolve.proofs.Common.{ap, arith, drop, is_ascii_hexdigit, to_ascii_uppercase, len_utf8, encode_utf8, get_or-append_seam}
-use Rattle.iri_resolve.proofs.Common.{set-append_seam, nat_tests, Tests, Parts, octets, whole_triplets, decoded, CanonMode, is_small_digit}
-use Rattle.iri_resolve.proofs.Common.{with_capital_digit, with_character, with_decoded, step_in, onward, replayed_in, Step}
+use Rattle.iri_resolve.proofs.Common.{option_and_then, ◌≡◌, ℕ, ◌+◌, ◌*◌, Bool, true, false, List, [], ◌∷◌, ◌++◌, Option, Some, None, length}
+use Rattle.iri_resolve.proofs.Common.{refl, sym, ◌∙◌, ap, arith, drop, is_ascii_hexdigit, to_ascii_uppercase, len_utf8, encode_utf8}
+use Rattle.iri_resolve.proofs.Common.{get_or-append_seam, set-append_seam, nat_tests, Tests, Parts, octets, whole_triplets, decoded}
+use Rattle.iri_resolve.proofs.Common.{CanonMode, is_small_digit, with_capital_digit, with_character, with_decoded, step_in, replayed_in}
+use Rattle.iri_resolve.proofs.Common.{Step}
 use Rattle.std.proofs.Math.Seq.{take-append_seam, drop-append_seam, drop-append-add}
 use Rattle.iri_percent.proofs.forms.Seams.{whole-after}
 
@@ -13,9 +14,9 @@ unfolding replayed_in
 replayed_in-append s c t u [] m h = let same : t ≡ u = cc in ap (λ v. replayed_in s c v m) same
 replayed_in-append s c t u (x ∷ l) m h = at (step_in s c t x) h (λ w k. replayed_in-append s c w u l m k)
   where
-    at : (o : Option Parts) → onward o (λ v. replayed_in s c v l) ≡ Some u
+    at : (o : Option Parts) → option_and_then (λ v. replayed_in s c v l) o ≡ Some u
         → ((w : Parts) → replayed_in s c w l ≡ Some u → replayed_in s c w (l ++ m) ≡ replayed_in s c u m)
-        → onward o (λ v. replayed_in s c v (l ++ m)) ≡ replayed_in s c u m
+        → option_and_then (λ v. replayed_in s c v (l ++ m)) o ≡ replayed_in s c u m
     at None k go = cc
     at (Some w) k go = go w k
 
@@ -31,7 +32,7 @@ led-nothing s m ok put x h = record { leads = refl; good = h }
 pub led-step : (s : Tests) (m : CanonMode) (ok : List ℕ → Bool) (put : List ℕ → Parts) (x y : List ℕ) (n : Step)
     → step_in s m (put x) n ≡ Some (put y) → ok y ≡ true → Led s m ok put x (n ∷ []) y
 unfolding replayed_in
-led-step s m ok put x y n h g = record { leads = ap (λ o. onward o (λ v. Some v)) h; good = g }
+led-step s m ok put x y n h g = record { leads = ap (λ o. option_and_then (λ v. Some v) o) h; good = g }
 
 pub led-on : (s : Tests) (m : CanonMode) (ok : List ℕ → Bool) (put : List ℕ → Parts) (x y z : List ℕ) (l n : List Step) → Led s m ok put x l y
     → Led s m ok put y n z → Led s m ok put x (l ++ n) z

@@ -1,22 +1,22 @@
 -- The steps of each part lead to its normal form.
-use Rattle.iri_resolve.proofs.Common.{◌≡◌, ℕ, ◌+◌, ◌<◌, ◌≤◌, Bool, true, false, cond, ◌||◌, List, [], ◌∷◌, ◌++◌, Option, Some, None, length}
-use Rattle.iri_resolve.proofs.Common.{refl, sym, ◌∙◌, ap, subst, arith, append_assoc, length-append, not, is_some, drop, slice_index}
-use Rattle.iri_resolve.proofs.Common.{is_ascii_uppercase, to_ascii_lowercase, bytes_eq, get_or-append_seam, set-append_seam}
+use Rattle.iri_resolve.proofs.Common.{option_map, ◌≡◌, ℕ, ◌+◌, ◌<◌, ◌≤◌, Bool, true, false, cond, ◌||◌, List, [], ◌∷◌, ◌++◌, Option, Some}
+use Rattle.iri_resolve.proofs.Common.{None, length, refl, sym, ◌∙◌, ap, subst, arith, append_assoc, length-append, not, is_some, drop}
+use Rattle.iri_resolve.proofs.Common.{slice_index, is_ascii_uppercase, to_ascii_lowercase, bytes_eq, get_or-append_seam, set-append_seam}
 use Rattle.iri_resolve.proofs.Common.{bytes_eq-Decides, AuthorityParts, FitsAuthority, authority_parts, is_authority, recompose_authority}
 use Rattle.iri_resolve.proofs.Common.{userinfo_text, authority_recomposed, reading_is, Tests, IsSpec, if_there, is_userinfo, is_path}
 use Rattle.iri_resolve.proofs.Common.{is_query, is_fragment, is_host, Parts, Fits, starts_with_slashes, is_ascii_host, normal_authority}
 use Rattle.iri_resolve.proofs.Common.{normal_authority_parts, normal_host, normal_port, normal_userinfo, normal, pct, CanonMode, reads}
 use Rattle.iri_resolve.proofs.Common.{userinfo-whole, host-whole, path-whole, query-whole, fragment-whole, other_same, dots, guard}
-use Rattle.iri_resolve.proofs.Common.{normal_path, normal_form, form, with_small_letter, component_steps, scheme_steps, host_start, placed}
-use Rattle.iri_resolve.proofs.Common.{replayed_in, step_in, dots_steps, loses_dots, Authority, Path, Query, Fragment, SchemeLetter, Dots}
+use Rattle.iri_resolve.proofs.Common.{normal_path, normal_form, form, with_small_letter, component_steps, scheme_steps, host_start}
+use Rattle.iri_resolve.proofs.Common.{replayed_in, step_in, loses_dots, Authority, Path, Query, Fragment, SchemeLetter, Dots, step_if}
 use Rattle.std.proofs.Common.{drop_of_length-le, drop-cons}
 use Rattle.std.proofs.Math.Numerals.{add-one}
-use Rattle.iri_normal.specs.LowerCase.{lowered, where_there}
+use Rattle.iri_normal.specs.NormalForm.{lowered}
 use Rattle.iri_normal.proofs.AuthorityForm.{userinfo-fits, host-fits}
 use Rattle.iri_normal.proofs.PathLaws.{stands-still}
 use Rattle.iri_normal.proofs.TripletPaths.{dots-pct}
 use Rattle.iri_resolve.specs.NormalSteps.{authority_parts_steps, authority_steps, host_steps, path_steps, plain_steps, port_steps}
-use Rattle.iri_resolve.specs.NormalSteps.{scheme_letter_steps, steps_there, triplet_steps}
+use Rattle.iri_resolve.specs.NormalSteps.{steps_there, triplet_steps}
 use Rattle.iri_resolve.proofs.ComponentLemmas.{component-led}
 use Rattle.iri_resolve.proofs.GuardLemmas.{dots-lost}
 use Rattle.iri_resolve.proofs.Leads.{Led, led-nothing, led-on, led-step, replayed_in-append}
@@ -32,7 +32,7 @@ module _ (s : Tests) (m : CanonMode) (u : Parts) where
   scheme t = record u { scheme = Some t }
 
   letter-led : (a r : List ℕ) (x at : ℕ) → at ≡ length a
-      → Led s m any scheme (a ++ x ∷ r) (scheme_letter_steps at x) (a ++ to_ascii_lowercase x ∷ r)
+      → Led s m any scheme (a ++ x ∷ r) (step_if (is_ascii_uppercase x) (SchemeLetter at)) (a ++ to_ascii_lowercase x ∷ r)
   unfolding step_in with_small_letter
   letter-led a r x at e =
       elim (is_ascii_uppercase x) as (λ b. is_ascii_uppercase x ≡ b
@@ -40,7 +40,7 @@ module _ (s : Tests) (m : CanonMode) (u : Parts) where
         | true ↦ λ g.
             let small : with_small_letter (length a) (a ++ x ∷ r) ≡ Some (a ++ to_ascii_lowercase x ∷ r) =
             rw (get_or-append_seam a x r 0, g) (ap Some (set-append_seam a x r (to_ascii_lowercase x))) in
-            rw e (led-step s m any scheme (a ++ x ∷ r) (a ++ to_ascii_lowercase x ∷ r) (SchemeLetter (length a)) (ap (placed scheme) small) refl)
+            rw e (led-step s m any scheme (a ++ x ∷ r) (a ++ to_ascii_lowercase x ∷ r) (SchemeLetter (length a)) (ap (option_map scheme) small) refl)
         | false ↦ λ g. rw (other_same x g) (led-nothing s m any scheme (a ++ x ∷ r) refl)
       ] refl
 
@@ -50,33 +50,33 @@ module _ (s : Tests) (m : CanonMode) (u : Parts) where
   goes a (x ∷ t) at e =
       let y = to_ascii_lowercase x in
       let two = goes (a ++ y ∷ []) t (at + 1) (omega (arith, e, length-append a (y ∷ []))) in
-      led-on s m any scheme (a ++ x ∷ t) (a ++ y ∷ t) (a ++ y ∷ lowered t) (scheme_letter_steps at x) (scheme_steps (at + 1) t)
+      led-on s m any scheme (a ++ x ∷ t) (a ++ y ∷ t) (a ++ y ∷ lowered t) (step_if (is_ascii_uppercase x) (SchemeLetter at)) (scheme_steps (at + 1) t)
       (letter-led a t x at e)
       (subst (λ z. Led s m any scheme z (scheme_steps (at + 1) t) (a ++ y ∷ lowered t)) (append_assoc a (y ∷ []) t)
       (subst (λ z. Led s m any scheme ((a ++ y ∷ []) ++ t) (scheme_steps (at + 1) t) z) (append_assoc a (y ∷ []) (lowered t)) two))
 
   scheme-led : (o : Option (List ℕ))
-      → replayed_in s m (record u { scheme = o }) (steps_there (scheme_steps 0) o) ≡ Some (record u { scheme = where_there lowered o })
+      → replayed_in s m (record u { scheme = o }) (steps_there (scheme_steps 0) o) ≡ Some (record u { scheme = option_map lowered o })
   unfolding replayed_in
   scheme-led None = refl
   scheme-led (Some t) = (goes [] t 0 refl).leads
 
 pub next-letter : (w : List ℕ) (i : ℕ) → i < length w
-    → scheme_steps i (drop i w) ≡ scheme_letter_steps i (slice_index w i) ++ scheme_steps (i + 1) (drop (i + 1) w)
+    → scheme_steps i (drop i w) ≡ step_if (is_ascii_uppercase (slice_index w i)) (SchemeLetter i) ++ scheme_steps (i + 1) (drop (i + 1) w)
 unfolding scheme_steps
 next-letter w i h = ap (scheme_steps i) (drop-cons w i 0 h) ∙ rw add-one refl
 
 -- ---- path, query and fragment
 module _ (s : Tests) (k : IsSpec s) (m : CanonMode) (u : Parts) where
   query-led : (o : Option (List ℕ)) → if_there (is_query s) o ≡ true
-      → replayed_in s m (record u { query = o }) (steps_there (triplet_steps s Query) o) ≡ Some (record u { query = where_there (pct s) o })
+      → replayed_in s m (record u { query = o }) (steps_there (triplet_steps s Query) o) ≡ Some (record u { query = option_map (pct s) o })
   unfolding replayed_in
   query-led None h = refl
   query-led (Some t) h = (component-led s k m Query false 0 (is_query s) (λ q. record u { query = Some q }) (query-place s u k) t
       (query-whole s t k h) h).leads
 
   fragment-led : (o : Option (List ℕ)) → if_there (is_fragment s) o ≡ true
-      → replayed_in s m (record u { fragment = o }) (steps_there (triplet_steps s Fragment) o) ≡ Some (record u { fragment = where_there (pct s) o })
+      → replayed_in s m (record u { fragment = o }) (steps_there (triplet_steps s Fragment) o) ≡ Some (record u { fragment = option_map (pct s) o })
   unfolding replayed_in
   fragment-led None h = refl
   fragment-led (Some t) h = (component-led s k m Fragment false 0 (is_fragment s) (λ q. record u { fragment = Some q }) (fragment-place s u k) t
@@ -137,7 +137,7 @@ module _ (s : Tests) (k : IsSpec s) (m : CanonMode) (u : Parts) where
 
   authority-led : (o : Option (List ℕ)) → if_there (is_authority s) o ≡ true
       → replayed_in s m (record u { authority = o }) (steps_there (authority_steps s) o)
-      ≡ Some (record u { authority = where_there (normal_authority s) o })
+      ≡ Some (record u { authority = option_map (normal_authority s) o })
   unfolding replayed_in normal_authority authority_steps
   authority-led None h = refl
   authority-led (Some a) h =
@@ -158,11 +158,11 @@ module _ (s : Tests) (k : IsSpec s) (m : CanonMode) (u : Parts) where
 pub plain-led : (s : Tests) (m : CanonMode) (t : Parts) → IsSpec s → Fits s t → replayed_in s m t (plain_steps s t) ≡ Some (normal_form s t)
 unfolding normal_form form normal_path plain_steps
 plain-led s m t k f =
-    let t1 : Parts = record t { scheme = where_there lowered t.scheme } in
-    let t2 : Parts = record t1 { authority = where_there (normal_authority s) t.authority } in
+    let t1 : Parts = record t { scheme = option_map lowered t.scheme } in
+    let t2 : Parts = record t1 { authority = option_map (normal_authority s) t.authority } in
     let t3 : Parts = record t2 { path = guard (pct s (dots t.path)) (is_some t.authority) } in
-    let t4 : Parts = record t3 { query = where_there (pct s) t.query } in
-    let t5 : Parts = record t4 { fragment = where_there (pct s) t.fragment } in
+    let t4 : Parts = record t3 { query = option_map (pct s) t.query } in
+    let t5 : Parts = record t4 { fragment = option_map (pct s) t.fragment } in
     let b = steps_there (authority_steps s) t.authority in
     let c = path_steps s (is_some t.authority) t.path in
     let d = steps_there (triplet_steps s Query) t.query in
@@ -187,7 +187,7 @@ swapped false = refl
 
 -- the step of dot segments that go, told by the path as it stands
 pub path-pushed : (s : Tests) (p : List ℕ) (stands : Bool) → IsSpec s → is_path s p ≡ true → (stands || not (starts_with_slashes p)) ≡ true
-    → triplet_steps s Path p ++ dots_steps (loses_dots p stands) ≡ path_steps s stands p
+    → triplet_steps s Path p ++ step_if (loses_dots p stands) Dots ≡ path_steps s stands p
 unfolding path_steps
 path-pushed s p stands k h g =
     let lost : bytes_eq (guard (dots (pct s p)) stands) (pct s p) ≡ not (loses_dots p stands) = dots-lost s k p (path-whole s p k h) stands g in

@@ -1,11 +1,12 @@
 -- Where the texts of the components stand, and the steps that change them there.
-use Rattle.iri_resolve.proofs.Common.{◌≡◌, ℕ, ◌+◌, ◌-◌, ◌<◌, Bool, true, false, ◌&&◌, List, [], ◌∷◌, ◌++◌, Option, Some, length, refl, ◌∙◌}
-use Rattle.iri_resolve.proofs.Common.{ap, arith, length-append, nat_lt, to_ascii_lowercase, lt-ltb, le-ltb, AuthorityParts, FitsAuthority}
-use Rattle.iri_resolve.proofs.Common.{authority_parts, recompose_authority, reading_is, Tests, IsSpec, unreserved, userinfo_char, path_char}
-use Rattle.iri_resolve.proofs.Common.{query_char, fragment_char, is_userinfo, is_path, is_query, is_fragment, both, is_host, text_over}
-use Rattle.iri_resolve.proofs.Common.{Parts, normal, is_ascii_host, in_userinfo, in_path, in_query, in_fragment, host-whole}
-use Rattle.iri_resolve.proofs.Common.{userinfo_percent, path_percent, query_percent, fragment_percent, CanonMode, with_small_host_letter}
-use Rattle.iri_resolve.proofs.Common.{placed, host_start, at_place, step_in, Part, Authority, Path, Query, Fragment, HostLetter}
+use Rattle.iri_resolve.proofs.Common.{option_map, ◌≡◌, ℕ, ◌+◌, ◌-◌, ◌<◌, Bool, true, false, ◌&&◌, List, [], ◌∷◌, ◌++◌, Option, Some, length}
+use Rattle.iri_resolve.proofs.Common.{refl, ◌∙◌, ap, arith, length-append, nat_lt, to_ascii_lowercase, lt-ltb, le-ltb, AuthorityParts}
+use Rattle.iri_resolve.proofs.Common.{FitsAuthority, authority_parts, recompose_authority, reading_is, Tests, IsSpec, unreserved}
+use Rattle.iri_resolve.proofs.Common.{userinfo_char, path_char, query_char, fragment_char, is_userinfo, is_path, is_query, is_fragment}
+use Rattle.iri_resolve.proofs.Common.{both, is_host, text_over, Parts, normal, is_ascii_host, in_userinfo, in_path, in_query, in_fragment}
+use Rattle.iri_resolve.proofs.Common.{host-whole, userinfo_percent, path_percent, query_percent, fragment_percent, CanonMode}
+use Rattle.iri_resolve.proofs.Common.{with_small_host_letter, host_start, at_place, step_in, Part, Authority, Path, Query, Fragment}
+use Rattle.iri_resolve.proofs.Common.{HostLetter}
 use Rattle.iri_resolve.proofs.AuthoritySteps.{host-kept, letter-kept, ascii-same}
 use Rattle.iri_resolve.proofs.ChangeKeeps.{TripletChange}
 
@@ -22,11 +23,11 @@ nought n = omega arith
 -- ---- path, query and fragment
 class-place : (s : Tests) (part : Part) (class : ℕ → Bool) (put : List ℕ → Parts) → class 37 ≡ false
     → ((c : ℕ) → unreserved s c ≡ true → class c ≡ true)
-    → ((change : ℕ → List ℕ → Option (List ℕ)) (i : ℕ) (x : List ℕ) → at_place change (put x) part i ≡ placed put (change i x))
+    → ((change : ℕ → List ℕ → Option (List ℕ)) (i : ℕ) (x : List ℕ) → at_place change (put x) part i ≡ option_map put (change i x))
     → IsPlace s part false 0 (text_over class) put
 class-place s part class put n f at = record {
   triplets = λ change i x y c o h. (
-    ap (at_place change (put x) part) (nought i) ∙ at change i x ∙ ap (placed put) h,
+    ap (at_place change (put x) part) (nought i) ∙ at change i x ∙ ap (option_map put) h,
     c.over class i x y n f h o,
   );
   letter = λ m i x y low o h. cc;

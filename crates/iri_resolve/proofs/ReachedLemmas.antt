@@ -3,11 +3,11 @@ use Rattle.iri_resolve.proofs.Common.{◌≡◌, ℕ, ◌-◌, Bool, true, false
 use Rattle.iri_resolve.proofs.Common.{nat_lt, string_bytes, to_ascii_lowercase, AuthorityParts, authority_parts, recompose_authority, Tests}
 use Rattle.iri_resolve.proofs.Common.{IsSpec, unreserved, userinfo_char, if_there, is_host, text_over, Parts, reading_is, is_ascii_host}
 use Rattle.iri_resolve.proofs.Common.{dropped_port, dots, guard, normal, CanonMode, in_userinfo, host-whole, userinfo_percent, bytes_of}
-use Rattle.iri_resolve.proofs.Common.{with_small_host_letter, with_small_letter, placed, in_part, in_host, in_userinfo_or_host, host_start}
-use Rattle.iri_resolve.proofs.Common.{step_in, with_small_letter_in_host, at_place, with_dots_removed, with_slash, without_dropped_port}
+use Rattle.iri_resolve.proofs.Common.{with_small_host_letter, with_small_letter, in_host, in_userinfo_or_host, host_start, step_in}
+use Rattle.iri_resolve.proofs.Common.{with_small_letter_in_host, at_place, with_dots_removed, with_slash, without_dropped_port}
 use Rattle.iri_resolve.proofs.Common.{without_empty_port, change_of, is_port_dropped, Holds, WentThere, ReadOnThere, Reaches, authority_of}
 use Rattle.iri_resolve.proofs.Common.{is_port_empty, other_than, parts_of, went, Part, Authority, Path, Query, Fragment, Step, SchemeLetter}
-use Rattle.iri_resolve.proofs.Common.{HostLetter, HexDigit, Decode, EmptyPort, Dots, DefaultPort, SlashPath}
+use Rattle.iri_resolve.proofs.Common.{HostLetter, HexDigit, Decode, EmptyPort, Dots, DefaultPort, SlashPath, option_map, option_and_then}
 use Rattle.std.specs.Prelude.{String}
 use Rattle.std.specs.declared.alloc.Global.{Global}
 use Rattle.iri_normal.specs.NormalForm.{becomes_slash}
@@ -20,7 +20,7 @@ use Rattle.iri_resolve.specs.declared.reached.ReachedAuthority.{ReachedAuthority
 use Rattle.iri_resolve.specs.declared.change.Change.TheVariants.{CapitalDigit, Decoded}
 
 -- ---- a text in its place
-pub placed-went : {X : Type 0} (f : List ℕ → X) (b : Bool) (x : List ℕ) → placed f (went b x) ≡ went b (f x)
+pub placed-went : {X : Type 0} (f : List ℕ → X) (b : Bool) (x : List ℕ) → option_map f (went b x) ≡ went b (f x)
 placed-went f true x = refl
 placed-went f false x = refl
 
@@ -29,10 +29,10 @@ part-went f true x y h = (sym h, refl)
 part-went f false x y h = sym h
 
 pub put-went : {X : Type 0} (put : Option (List ℕ) → X) (f : List ℕ → Option (List ℕ)) (b : Bool) (o p : Option (List ℕ))
-    → WentThere f b o p → went b (put p) ≡ placed (λ x. put (Some x)) (in_part f o)
+    → WentThere f b o p → went b (put p) ≡ option_map (λ x. put (Some x)) (option_and_then f o)
 put-went put f true o None h = cc
-put-went put f true o (Some y) h = ap (placed (λ x. put (Some x))) (sym h.0)
-put-went put f false o p h = ap (placed (λ x. put (Some x))) (sym h)
+put-went put f true o (Some y) h = ap (option_map (λ x. put (Some x))) (sym h.0)
+put-went put f false o p h = ap (option_map (λ x. put (Some x))) (sym h)
 
 part-over : (s : Tests) (change : ℕ → List ℕ → Option (List ℕ)) (i : ℕ) (p : ℕ → Bool) (b : Bool) (o q : Option (List ℕ))
     → TripletChange s change → p 37 ≡ false → ((c : ℕ) → unreserved s c ≡ true → p c ≡ true) → b ≡ true → WentThere (change i) b o q
@@ -51,7 +51,7 @@ userinfo-on s change i a u b k c r low h =
     let put : Option (List ℕ) → List ℕ = λ o. recompose_authority (record p { userinfo = o }) in
     record {
       text = put-went put (change i) b (bytes_of a.userinfo) (bytes_of u) h
-          ∙ sym (ap (λ v. cond v (placed (λ x. put (Some x)) (in_part (change i) p.userinfo)) (in_host change i p)) low);
+          ∙ sym (ap (λ v. cond v (option_map (λ x. put (Some x)) (option_and_then (change i) p.userinfo)) (in_host change i p)) low);
       read = λ e. record {
         fits = record {
           userinfo = part-over s change i (userinfo_char s) b (bytes_of a.userinfo) (bytes_of u) c (userinfo_percent s k) (in_userinfo s) e h
@@ -68,7 +68,7 @@ in-host : (change : ℕ → List ℕ → Option (List ℕ)) (i : ℕ) (p : Autho
     → went b (recompose_authority (record p { host = h })) ≡ in_host change i p
 in-host change i p h b far e =
     let put : List ℕ → List ℕ = λ z. recompose_authority (record p { host = z }) in
-    sym (placed-went put b h) ∙ (ap (placed put) e ∙ sym (ap (λ v. cond v None (placed put (change (i - host_start p) p.host))) far))
+    sym (placed-went put b h) ∙ (ap (option_map put) e ∙ sym (ap (λ v. cond v None (option_map put (change (i - host_start p) p.host))) far))
 
 -- another host of the same normal form in lower case
 other-host : (s : Tests) (a : ReachedAuthority) (h : String Global) → IsSpec s → IsRead s a → is_host s (string_bytes h) ≡ true
@@ -96,7 +96,7 @@ host-on s change i a h b k c r far e =
     let p = authority_of a in
     record {
       text = in-host change i p (string_bytes h) b far e
-          ∙ sym (ap (λ v. cond v (placed (λ u. recompose_authority (record p { userinfo = Some u })) (in_part (change i) p.userinfo))
+          ∙ sym (ap (λ v. cond v (option_map (λ u. recompose_authority (record p { userinfo = Some u })) (option_and_then (change i) p.userinfo))
           (in_host change i p)) far);
       read = λ y. host-read s change (i - host_start p) a h b k c r e y;
     }
@@ -127,7 +127,7 @@ letter-before s i a low =
     let p = authority_of a in
     record {
       text = sym (none-either (is_ascii_host p.host) (in_host with_small_host_letter i p) (ap (λ v. cond v None
-          (placed (λ h. recompose_authority (record p { host = h })) (with_small_host_letter (i - host_start p) p.host))) low));
+          (option_map (λ h. recompose_authority (record p { host = h })) (with_small_host_letter (i - host_start p) p.host))) low));
       read = λ e. cc;
     }
 
@@ -196,7 +196,7 @@ with_authority r o = record (parts_of r) { authority = o }
 
 pub authority-reached : (s : Tests) (f : AuthorityParts → Option (List ℕ)) (b : Bool) (r : Reached) (a : Option ReachedAuthority)
     (o : Option Parts) → ReadOnThere s f b r.authority a
-    → o ≡ placed (λ z. with_authority r (Some z)) (in_part (λ z. f (authority_parts z)) (authority_text r.authority))
+    → o ≡ option_map (λ z. with_authority r (Some z)) (option_and_then (λ z. f (authority_parts z)) (authority_text r.authority))
     → Reaches s o b (record r { authority = a })
 authority-reached s f b r a o h e = record {
   parts = put-went (with_authority r) (λ z. f (authority_parts z)) b (authority_text r.authority) (authority_text a) h.text ∙ sym e;
@@ -205,22 +205,22 @@ authority-reached s f b r a o h e = record {
 
 pub scheme-reached : (s : Tests) (b : Bool) (r : Reached) (x : String Global) (w : Option (List ℕ)) → Holds s r
     → went b (string_bytes x) ≡ w
-    → Reaches s (placed (λ z. record (parts_of r) { scheme = Some z }) w) b (record r { scheme = x })
+    → Reaches s (option_map (λ z. record (parts_of r) { scheme = Some z }) w) b (record r { scheme = x })
 scheme-reached s b r x w h e = record {
-  parts = sym (placed-went (λ z. record (parts_of r) { scheme = Some z }) b (string_bytes x)) ∙ ap (placed (λ z. record (parts_of r) { scheme = Some z })) e;
+  parts = sym (placed-went (λ z. record (parts_of r) { scheme = Some z }) b (string_bytes x)) ∙ ap (option_map (λ z. record (parts_of r) { scheme = Some z })) e;
   read = λ _. h.read;
 }
 
 pub path-reached : (s : Tests) (b : Bool) (r : Reached) (x : String Global) (w : Option (List ℕ)) → Holds s r
-    → went b (string_bytes x) ≡ w → Reaches s (placed (λ z. record (parts_of r) { path = z }) w) b (record r { path = x })
+    → went b (string_bytes x) ≡ w → Reaches s (option_map (λ z. record (parts_of r) { path = z }) w) b (record r { path = x })
 path-reached s b r x w h e = record {
-  parts = sym (placed-went (λ z. record (parts_of r) { path = z }) b (string_bytes x)) ∙ ap (placed (λ z. record (parts_of r) { path = z })) e;
+  parts = sym (placed-went (λ z. record (parts_of r) { path = z }) b (string_bytes x)) ∙ ap (option_map (λ z. record (parts_of r) { path = z })) e;
   read = λ _. h.read;
 }
 
 pub query-reached : (s : Tests) (f : List ℕ → Option (List ℕ)) (b : Bool) (r : Reached) (x : Option (String Global)) → Holds s r
     → WentThere f b (bytes_of r.query) (bytes_of x)
-    → Reaches s (placed (λ z. record (parts_of r) { query = Some z }) (in_part f (bytes_of r.query))) b (record r { query = x })
+    → Reaches s (option_map (λ z. record (parts_of r) { query = Some z }) (option_and_then f (bytes_of r.query))) b (record r { query = x })
 query-reached s f b r x h e = record {
   parts = put-went (λ z. record (parts_of r) { query = z }) f b (bytes_of r.query) (bytes_of x) e;
   read = λ _. h.read;
@@ -228,7 +228,7 @@ query-reached s f b r x h e = record {
 
 pub fragment-reached : (s : Tests) (f : List ℕ → Option (List ℕ)) (b : Bool) (r : Reached) (x : Option (String Global)) → Holds s r
     → WentThere f b (bytes_of r.fragment) (bytes_of x)
-    → Reaches s (placed (λ z. record (parts_of r) { fragment = Some z }) (in_part f (bytes_of r.fragment))) b (record r { fragment = x })
+    → Reaches s (option_map (λ z. record (parts_of r) { fragment = Some z }) (option_and_then f (bytes_of r.fragment))) b (record r { fragment = x })
 fragment-reached s f b r x h e = record {
   parts = put-went (λ z. record (parts_of r) { fragment = z }) f b (bytes_of r.fragment) (bytes_of x) e;
   read = λ _. h.read;
@@ -260,7 +260,7 @@ module _ (s : Tests) (m : CanonMode) (b : Bool) (r : Reached) where
       → Reaches s (step_in s m (parts_of r) DefaultPort) b (record r { authority = a })
   unfolding step_in
   dropped-reached d a e h = authority-reached s (λ p. without_dropped_port d p p.port) b r a _ h
-      (ap (λ z. placed (λ a. with_authority r (Some a)) (in_part (λ a. without_dropped_port z (authority_parts a) (authority_parts a).port)
+      (ap (λ z. option_map (λ a. with_authority r (Some a)) (option_and_then (λ a. without_dropped_port z (authority_parts a) (authority_parts a).port)
       (authority_text r.authority))) (sym e))
 
   pub dots-reached : (x : String Global) → Holds s r

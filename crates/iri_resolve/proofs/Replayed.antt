@@ -1,6 +1,6 @@
 -- One step more.
 use Rattle.iri_resolve.proofs.Common.{◌≡◌, ℕ, zero, suc, ◌+◌, List, [], ◌∷◌, ◌++◌, Some, refl, ◌∙◌, ap, arith, take, Tests, Parts}
-use Rattle.iri_resolve.proofs.Common.{CanonMode, step_in, onward, replayed_in, Step}
+use Rattle.iri_resolve.proofs.Common.{CanonMode, step_in, replayed_in, Step, option_and_then}
 use Rattle.std.specs.Prelude.{slice_get}
 use Rattle.iri_resolve.proofs.Leads.{replayed_in-append}
 
@@ -15,7 +15,7 @@ unfolding replayed_in
 one_more s c t u v l k x r g h =
     let next : k + 1 ≡ suc k = omega arith in
     ap (λ n. replayed_in s c t (take n l)) next ∙ ap (replayed_in s c t) (take_next l k x g)
-    ∙ replayed_in-append s c t u (take k l) (x ∷ []) r ∙ ap (λ o. onward o (λ w. Some w)) h
+    ∙ replayed_in-append s c t u (take k l) (x ∷ []) r ∙ ap (λ o. option_and_then (λ w. Some w) o) h
 
 pub none_yet : (s : Tests) (c : CanonMode) (t : Parts) (l : List Step) → replayed_in s c t (take 0 l) ≡ Some t
 unfolding replayed_in

@@ -2,10 +2,12 @@
 use Rattle.iri_resolve.proofs.Common.{IsSome, AuthorityParts, FitsAuthority, authority_parts, is_authority, recompose_authority, Tests}
 use Rattle.iri_resolve.proofs.Common.{IsSpec, path_char, if_there, Parts, Fits, path_rules, recompose, authority_recomposed, reading_is}
 use Rattle.iri_resolve.proofs.Common.{passes, is_dropped, normal_authority, normal_port, dropped_port, CanonMode, reads, with_capital_digit}
-use Rattle.iri_resolve.proofs.Common.{with_decoded, with_small_letter, in_part, onward, placed, replayed_in, step_in, with_dots_removed}
-use Rattle.iri_resolve.proofs.Common.{with_slash, with_small_letter_in_host, without_dropped_port, without_empty_port, is_port_dropped}
-use Rattle.iri_resolve.proofs.Common.{steps_of, Step, SchemeLetter, HostLetter, HexDigit, Decode, EmptyPort, Dots, DefaultPort, SlashPath}
-use Rattle.std.proofs.Common.{◌≡◌, ◌≢◌, ◌↔◌, ℕ, Bool, true, false, cond, List, [], ◌∷◌, Option, Some, None, refl, sym, ◌∙◌, ap, subst}
+use Rattle.iri_resolve.proofs.Common.{with_decoded, with_small_letter, replayed_in, step_in, with_dots_removed, with_slash}
+use Rattle.iri_resolve.proofs.Common.{with_small_letter_in_host, without_dropped_port, without_empty_port, is_port_dropped, steps_of, Step}
+use Rattle.iri_resolve.proofs.Common.{SchemeLetter, HostLetter, HexDigit, Decode, EmptyPort, Dots, DefaultPort, SlashPath, ◌≡◌, ℕ, Bool}
+use Rattle.iri_resolve.proofs.Common.{true, false, cond, List, [], ◌∷◌, Option, Some, None, refl, sym, ◌∙◌, ap, subst, option_map}
+use Rattle.iri_resolve.proofs.Common.{option_and_then, normal_form, normal_path, step_if}
+use Rattle.std.proofs.Common.{◌≢◌, ◌↔◌}
 use Rattle.std.specs.Prelude.{codes}
 use Rattle.std.specs.Str.{str_eq_ignore_ascii_case}
 use Rattle.std.proofs.lemmas.Option.{cond_some}
@@ -14,16 +16,15 @@ use Rattle.iri_percent.specs.NormalHost.{normal_authority_in, normal_authority_p
 use Rattle.iri_percent.specs.SchemeRules.{default_port, is_either}
 use Rattle.iri_percent.specs.declared.canon_mode.CanonMode.TheVariants.{Default, Scheme}
 use Rattle.iri_percent.proofs.hosts.Authorities.{authority_in}
-use Rattle.iri_normal.specs.LowerCase.{where_there}
-use Rattle.iri_normal.specs.NormalForm.{becomes_slash, normal_form, normal_form_in, normal_parts, normal_path, slash_or}
-use Rattle.iri_resolve.specs.Steps.{Joined, JoinedIn}
-use Rattle.iri_resolve.specs.NormalSteps.{default_port_steps, has_port, plain_steps, scheme_rule_steps, slash_steps}
+use Rattle.iri_normal.specs.NormalForm.{becomes_slash, normal_form_in, slash_or}
+use Rattle.iri_resolve.specs.Steps.{JoinedIn}
+use Rattle.iri_resolve.specs.NormalSteps.{has_port, plain_steps, scheme_rule_steps}
 use Rattle.iri_normal.proofs.AuthorityForm.{normal-parts}
 use Rattle.iri_resolve.proofs.AuthoritySteps.{letter-changed, port-changed, placed-gives, part-gives}
 use Rattle.iri_resolve.proofs.NormalStepLemmas.{plain-led}
 use Rattle.iri_resolve.proofs.Leads.{replayed_in-append}
 use Rattle.iri_normal.proofs.FormLaws.{normal-slash, normal_in-fits}
-use Rattle.iri_normal.proofs.SchemeForm.{by_mode, dropped-still, form-by_mode, kept_port, normal-is, one-form, slash-normal, without}
+use Rattle.iri_normal.proofs.SchemeForm.{by_mode, dropped-still, form-by_mode, kept_port, normal-is, one-form, slash-normal, without, normal_parts}
 use Rattle.iri_resolve.proofs.ChangeKeeps.{capital-keeps, decoding-keeps}
 use Rattle.iri_resolve.proofs.StepsKept.{Kept, Valid, authority-changed, authority-fits, change-kept, dots-removed, dots-step, path-fits}
 use Rattle.iri_resolve.proofs.StepsKept.{scheme-step}
@@ -154,7 +155,7 @@ replayed_in-kept s m t u [] k v h = let same : t ≡ u = cc in
     subst (λ z. KeptIn s m t z) same (record { fits = v.fits; scheme = v.scheme; form = refl })
 replayed_in-kept s m t u (x ∷ xs) k v h = at (step_in s m t x) refl h (λ w o j. replayed_in-kept s m w u xs k o j)
   where
-    at : (o : Option Parts) → step_in s m t x ≡ o → onward o (λ w. replayed_in s m w xs) ≡ Some u
+    at : (o : Option Parts) → step_in s m t x ≡ o → option_and_then (λ w. replayed_in s m w xs) o ≡ Some u
         → ((w : Parts) → Valid s w → replayed_in s m w xs ≡ Some u → KeptIn s m w u) → KeptIn s m t u
     at None e j go = cc
     at (Some w) e j go =
@@ -165,7 +166,7 @@ replayed_in-kept s m t u (x ∷ xs) k v h = at (step_in s m t x) refl h (λ w o 
 -- ---- to the normal form
 one-step : (s : Tests) (m : CanonMode) (t u : Parts) (x : Step) → step_in s m t x ≡ Some u → replayed_in s m t (x ∷ []) ≡ Some u
 unfolding replayed_in
-one-step s m t u x h = ap (λ o. onward o (λ v. Some v)) h
+one-step s m t u x h = ap (λ o. option_and_then (λ v. Some v) o) h
 
 no-step : (s : Tests) (m : CanonMode) (t : Parts) → replayed_in s m t [] ≡ Some t
 unfolding replayed_in
@@ -197,7 +198,7 @@ port-normal d (Some (x ∷ xs)) n = refl
 
 -- an authority has the port that is dropped exactly where its normal form has it
 has_port-normal : (s : Tests) (d o : Option (List ℕ)) → IsSpec s → d ≢ Some [] → if_there (is_authority s) o ≡ true
-    → has_port d (where_there (normal_authority s) o) ≡ has_port d o
+    → has_port d (option_map (normal_authority s) o) ≡ has_port d o
 has_port-normal s d None k n h = refl
 has_port-normal s d (Some a) k n h =
     ap (λ p. is_port_dropped d p.port) (normal-parts s None a k h) ∙ port-normal d (authority_parts a).port n
@@ -210,7 +211,7 @@ port-goes : (d : List ℕ) (o : Option (List ℕ)) → is_port_dropped (Some d) 
 port-goes d None h = cc
 port-goes d (Some p) h = rw h refl
 
-without-same : (d o : Option (List ℕ)) → has_port d o ≡ false → where_there (without d) o ≡ o
+without-same : (d o : Option (List ℕ)) → has_port d o ≡ false → option_map (without d) o ≡ o
 without-same d None h = refl
 without-same None (Some a) h = refl
 without-same (Some d) (Some a) h =
@@ -233,14 +234,14 @@ dropped-is d p None h = cc
 dropped-is d p (Some x) h = rw h refl
 
 abbrev without_port_of : CanonMode → Parts → Parts
-without_port_of m t = record t { authority = where_there (without (dropped_port m t.scheme)) t.authority }
+without_port_of m t = record t { authority = option_map (without (dropped_port m t.scheme)) t.authority }
 
 port-led : (s : Tests) (m : CanonMode) (t : Parts) (o : Option (List ℕ)) (b : Bool) → t.authority ≡ o → has_port (dropped_port m t.scheme) o ≡ b
-    → replayed_in s m t (default_port_steps b) ≡ Some (without_port_of m t)
+    → replayed_in s m t (step_if b DefaultPort) ≡ Some (without_port_of m t)
 unfolding step_in
 port-led s m t o false e h =
     let d = dropped_port m t.scheme in
-    let same : where_there (without d) t.authority ≡ t.authority = without-same d t.authority (ap (has_port d) e ∙ h) in
+    let same : option_map (without d) t.authority ≡ t.authority = without-same d t.authority (ap (has_port d) e ∙ h) in
     no-step s m t ∙ ap (λ z. Some (record t { authority = z })) (sym same)
 port-led s m t None true e h = cc
 port-led s m t (Some a) true e h =
@@ -248,29 +249,29 @@ port-led s m t (Some a) true e h =
     let p = authority_parts a in
     let change : List ℕ → Option (List ℕ) = λ a. without_dropped_port d (authority_parts a) (authority_parts a).port in
     let put : List ℕ → Parts = λ a. record t { authority = Some a } in
-    let new : where_there (without d) t.authority ≡ Some (recompose_authority (record p { port = None })) =
-    ap (where_there (without d)) e ∙ ap Some (without-other d a h) in
+    let new : option_map (without d) t.authority ≡ Some (recompose_authority (record p { port = None })) =
+    ap (option_map (without d)) e ∙ ap Some (without-other d a h) in
     one-step s m t (without_port_of m t) DefaultPort
-    (ap (λ z. placed put (in_part change z)) e ∙ (ap (placed put) (dropped-is d p p.port h)
+    (ap (λ z. option_map put (option_and_then change z)) e ∙ (ap (option_map put) (dropped-is d p p.port h)
     ∙ ap (λ z. Some (record t { authority = z })) (sym new)))
 
-stands-on : (d a : Option (List ℕ)) (f : List ℕ → List ℕ) (p : List ℕ) → becomes_slash d (where_there f a) p ≡ becomes_slash d a p
+stands-on : (d a : Option (List ℕ)) (f : List ℕ → List ℕ) (p : List ℕ) → becomes_slash d (option_map f a) p ≡ becomes_slash d a p
 stands-on None a f p = refl
 stands-on (Some d) None f p = refl
 stands-on (Some d) (Some z) f p = refl
 
 slash-led : (s : Tests) (m : CanonMode) (t : Parts) (b : Bool) → becomes_slash (dropped_port m t.scheme) t.authority t.path ≡ b
-    → replayed_in s m t (slash_steps b) ≡ Some (record t { path = slash_or b t.path })
+    → replayed_in s m t (step_if b SlashPath) ≡ Some (record t { path = slash_or b t.path })
 unfolding step_in
 slash-led s m t false h = no-step s m t
 slash-led s m t true h = one-step s m t (record t { path = 47 ∷ [] }) SlashPath
-    (ap (λ b. placed (λ p. record t { path = p }) (cond b (Some (47 ∷ [])) None)) h)
+    (ap (λ b. option_map (λ p. record t { path = p }) (cond b (Some (47 ∷ [])) None)) h)
 
 by_mode-led : (s : Tests) (m : CanonMode) (t : Parts) → replayed_in s m t (scheme_rule_steps (dropped_port m t.scheme) t) ≡ Some (by_mode m t)
 by_mode-led s m t =
     let d = dropped_port m t.scheme in
     let b = becomes_slash d t.authority t.path in
-    replayed_in-append s m t (without_port_of m t) (default_port_steps (has_port d t.authority)) (slash_steps b)
+    replayed_in-append s m t (without_port_of m t) (step_if (has_port d t.authority) DefaultPort) (step_if b SlashPath)
     (port-led s m t t.authority (has_port d t.authority) refl refl)
     ∙ slash-led s m (without_port_of m t) b (stands-on d t.authority (without d) t.path)
 
@@ -323,12 +324,3 @@ texts_in-exactly s m t u k f i g j = (
       (record { fits = (normal_in-fits s m t k f i).0; text = e }) (record { fits = (normal_in-fits s m u k g j).0; text = refl }),
   λ e. ap recompose e,
 )
-
--- ---- by the rules of every scheme
-pub joined-exactly : (s : Tests) (t u : Parts) → IsSpec s → Fits s t → IsSome t.scheme → Fits s u → IsSome u.scheme
-    → Joined s t u ↔ (normal_form s t ≡ normal_form s u)
-joined-exactly s t u k f i g j = joined_in-exactly s Default t u k f i g j
-
-pub texts-exactly : (s : Tests) (t u : Parts) → IsSpec s → Fits s t → IsSome t.scheme → Fits s u → IsSome u.scheme
-    → (recompose (normal_form s t) ≡ recompose (normal_form s u)) ↔ (normal_form s t ≡ normal_form s u)
-texts-exactly s t u k f i g j = texts_in-exactly s Default t u k f i g j

@@ -1,13 +1,14 @@
 -- Each step keeps the parts valid, and their normal form.
-use Rattle.iri_resolve.proofs.Common.{◌≡◌, ℕ, true, false, cond, List, [], ◌∷◌, ◌++◌, Option, Some, None, refl, sym, ◌∙◌, ap, IsSome}
-use Rattle.iri_resolve.proofs.Common.{is_some, take, to_ascii_lowercase, bytes_eq, authority_parts, is_authority, Tests, IsSpec, path_char}
-use Rattle.iri_resolve.proofs.Common.{query_char, fragment_char, both, Parts, Fits, path_rules, as_it_is, pct, path-whole, query-whole}
-use Rattle.iri_resolve.proofs.Common.{fragment-whole, path_percent, query_percent, fragment_percent, dots, guard, normal_path, normal_form}
-use Rattle.iri_resolve.proofs.Common.{form, with_small_letter, at_place, in_part, in_userinfo_or_host, placed, with_dots_removed, Part}
-use Rattle.iri_resolve.proofs.Common.{Authority, Path, Query, Fragment, in_fragment, in_path, in_query}
+use Rattle.iri_resolve.proofs.Common.{option_map, option_and_then, ◌≡◌, ℕ, true, false, cond, List, [], ◌∷◌, ◌++◌, Option, Some, None, refl}
+use Rattle.iri_resolve.proofs.Common.{sym, ◌∙◌, ap, IsSome, is_some, take, to_ascii_lowercase, bytes_eq, authority_parts, is_authority}
+use Rattle.iri_resolve.proofs.Common.{Tests, IsSpec, path_char, query_char, fragment_char, both, Parts, Fits, path_rules, as_it_is, pct}
+use Rattle.iri_resolve.proofs.Common.{path-whole, query-whole, fragment-whole, path_percent, query_percent, fragment_percent, dots, guard}
+use Rattle.iri_resolve.proofs.Common.{normal_path, normal_form, form, with_small_letter, at_place, in_userinfo_or_host, with_dots_removed}
+use Rattle.iri_resolve.proofs.Common.{Part, Authority, Path, Query, Fragment, in_fragment, in_path, in_query, if_there, is_path, is_query}
+use Rattle.iri_resolve.proofs.Common.{is_fragment}
 use Rattle.std.specs.List.{list_all}
-use Rattle.iri_grammar.specs.Components.{if_there, is_scheme, is_scheme_char, is_letter, is_path, is_query, is_fragment}
-use Rattle.iri_normal.proofs.StableLaws.{guarded-stable}
+use Rattle.iri_grammar.specs.Components.{is_scheme, is_scheme_char, is_letter}
+use Rattle.iri_normal.proofs.StableLaws.{guarded_stable}
 use Rattle.iri_normal.proofs.TripletPaths.{dots-pct}
 use Rattle.iri_resolve.proofs.ByteLaws.{small_letter}
 use Rattle.iri_resolve.proofs.ChangeKeeps.{TripletChange, rules-same}
@@ -120,7 +121,7 @@ dots-step s t k v = record {
   fits = path-fits s t (guard (dots t.path) (is_some t.authority)) v.fits
       (plain-over s t.authority t.path v.fits.path) (dots-rules t.scheme t.authority t.path v.scheme v.fits.rules);
   scheme = v.scheme;
-  form = rw (guarded-stable t.path (is_some t.authority)) refl;
+  form = rw (guarded_stable t.path (is_some t.authority)) refl;
 }
 
 pub dots-removed : (t : Parts) (u : List ℕ) → with_dots_removed t ≡ Some u → guard (dots t.path) (is_some t.authority) ≡ u
@@ -158,7 +159,7 @@ fragment-triplets s change t i q u k c v e h =
 -- ---- each step
 pub authority-changed : (s : Tests) (t u : Parts) (change : List ℕ → Option (List ℕ)) → IsSpec s → Valid s t
     → ((a b : List ℕ) → is_authority s a ≡ true → change a ≡ Some b → AuthorityChange s a b)
-    → placed (λ a. record t { authority = Some a }) (in_part change t.authority) ≡ Some u → Kept s t u
+    → option_map (λ a. record t { authority = Some a }) (option_and_then change t.authority) ≡ Some u → Kept s t u
 authority-changed s t u change k v go h = part-gives (Kept s t) (λ a. record t { authority = Some a }) change t.authority u h
     (λ a b e f. authority-step s t a b k v e (λ o. go a b o f))
 

@@ -14,7 +14,7 @@ use Rattle.iri_percent.specs.Triplets.{pct}
 use Rattle.iri_percent.specs.Units.{octets}
 use Rattle.iri_percent.specs.declared.canon_mode.CanonMode.{CanonMode}
 use Rattle.iri_normal.specs.DotRemoval.{dots}
-use Rattle.iri_normal.specs.Guard.{guard}
+use Rattle.iri_normal.specs.DotRemoval.{guard}
 use Rattle.iri_normal.specs.NormalForm.{becomes_slash}
 use Rattle.iri_resolve.specs.Changes.{is_small_digit}
 use Rattle.iri_resolve.specs.declared.step.Part.{Part}
@@ -27,20 +27,14 @@ abbrev pub steps_there : (List ℕ → List Step) → Option (List ℕ) → List
 steps_there steps None = []
 steps_there steps (Some t) = steps t
 
--- of a letter of the scheme, a letter of the host, and a hex digit
-abbrev pub scheme_letter_steps : ℕ → ℕ → List Step
-scheme_letter_steps at letter = cond (is_ascii_uppercase letter) (SchemeLetter at ∷ []) []
-
-abbrev pub letter_steps : Bool → ℕ → List Step
-letter_steps is_capital at = cond is_capital (HostLetter at ∷ []) []
-
-abbrev pub digit_steps : Part → ℕ → ℕ → List Step
-digit_steps part at digit = cond (is_small_digit digit) (HexDigit part at ∷ []) []
+-- one step, or none
+abbrev pub step_if : Bool → Step → List Step
+step_if go step = cond go (step ∷ []) []
 
 -- of a scheme
 unfoldable pub scheme_steps : ℕ → List ℕ → List Step
 scheme_steps at [] = []
-scheme_steps at (x ∷ xs) = scheme_letter_steps at x ++ scheme_steps (at + 1) xs
+scheme_steps at (x ∷ xs) = step_if (is_ascii_uppercase x) (SchemeLetter at) ++ scheme_steps (at + 1) xs
 
 -- of what a text begins with, how many bytes that has, and how many in normal form
 pub record Prefix : Type 0 where
@@ -50,17 +44,17 @@ pub record Prefix : Type 0 where
 
 -- a byte outside triplets
 abbrev pub byte_prefix : Bool → ℕ → ℕ → Prefix
-byte_prefix lower at x = record { steps = letter_steps (lower && is_ascii_uppercase x) at; len = 1; normal_len = 1 }
+byte_prefix lower at x = record { steps = step_if (lower && is_ascii_uppercase x) (HostLetter at); len = 1; normal_len = 1 }
 
 -- the triplets of an unreserved character, which are decoded; a triplet that stays
 abbrev pub triplet_prefix : Part → Bool → ℕ → List ℕ → Option ℕ → Prefix
 triplet_prefix part lower at t (Some c) = record {
-  steps = Decode part at ∷ letter_steps (lower && is_ascii_uppercase c) at;
+  steps = Decode part at ∷ step_if (lower && is_ascii_uppercase c) (HostLetter at);
   len = 3 * len_utf8 c;
   normal_len = len_utf8 c;
 }
 triplet_prefix part lower at t None = record {
-  steps = digit_steps part (at + 1) (slice_index t 1) ++ digit_steps part (at + 2) (slice_index t 2);
+  steps = step_if (is_small_digit (slice_index t 1)) (HexDigit part (at + 1)) ++ step_if (is_small_digit (slice_index t 2)) (HexDigit part (at + 2));
   len = 3;
   normal_len = 3;
 }
@@ -119,16 +113,9 @@ abbrev pub has_port : Option (List ℕ) → Option (List ℕ) → Bool
 has_port dropped None = false
 has_port dropped (Some a) = is_port_dropped dropped (authority_parts a).port
 
--- of a port that is dropped, and of a path that becomes `/`
-abbrev pub default_port_steps : Bool → List Step
-default_port_steps go = cond go (DefaultPort ∷ []) []
-
-abbrev pub slash_steps : Bool → List Step
-slash_steps go = cond go (SlashPath ∷ []) []
-
--- of parts, by scheme rules, where a port is dropped
+-- of parts, by scheme rules, where a port is dropped: the port, and an empty path that becomes `/`
 abbrev pub scheme_rule_steps : Option (List ℕ) → Parts → List Step
-scheme_rule_steps dropped t = default_port_steps (has_port dropped t.authority) ++ slash_steps (becomes_slash dropped t.authority t.path)
+scheme_rule_steps dropped t = step_if (has_port dropped t.authority) DefaultPort ++ step_if (becomes_slash dropped t.authority t.path) SlashPath
 
 -- of parts in a mode
 unfoldable pub steps_of : Tests → CanonMode → Parts → List Step

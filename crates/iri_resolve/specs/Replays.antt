@@ -3,7 +3,6 @@ use Rattle.std.specs.Prelude.{◌≡◌, ℕ, List, Some, None, take, slice_get}
 use Rattle.iri_grammar.specs.Classes.{Tests}
 use Rattle.iri_grammar.specs.Parts.{Parts}
 use Rattle.iri_percent.specs.declared.canon_mode.CanonMode.{CanonMode}
-use Rattle.iri_percent.specs.declared.canon_mode.CanonMode.TheVariants.{Default}
 use Rattle.iri_resolve.specs.Steps.{step_in, replayed_in}
 use Rattle.iri_resolve.specs.declared.step.Step.{Step}
 use Rattle.iri_resolve.specs.declared.replay.ReplayError.{ReplayError}
@@ -21,9 +20,6 @@ pub record IsIllegal (s : Tests) (mode : CanonMode) (t : Parts) (l : List Step) 
 abbrev pub EndsByIn : Tests → CanonMode → Parts → List Step → ReplayError → Type 0
 EndsByIn s mode t l (Illegal k) = IsIllegal s mode t l k
 EndsByIn s mode t l Memory = Unit {0}
-
-abbrev pub EndsBy : Tests → Parts → List Step → ReplayError → Type 0
-EndsBy s t l error = EndsByIn s Default t l error
 
 -- why a step gives no parts
 abbrev pub StopsAt : Tests → CanonMode → Parts → Step → ℕ → ReplayError → Type 0

@@ -15,22 +15,22 @@ use Rattle.iri_normal.specs.Dots.{is_dot_segment}
 use Rattle.iri_normal.specs.DotRemoval.{dots}
 use Rattle.iri_resolve.specs.Changes.{with_small_letter, with_small_host_letter, with_capital_digit, with_decoded}
 use Rattle.iri_resolve.specs.NormalSteps.{authority_steps, component_steps, path_steps, plain_steps, scheme_steps, steps_of}
-use Rattle.iri_resolve.specs.Steps.{step, step_in, replayed, replayed_in}
+use Rattle.iri_resolve.specs.Steps.{step_in, replayed_in}
 use Rattle.iri_resolve.specs.declared.step.Part.TheVariants.{Authority, Path, Query, Fragment}
 use Rattle.iri_resolve.specs.declared.step.Step.TheVariants.{SchemeLetter, HostLetter, HexDigit, Decode, EmptyPort, Dots, DefaultPort, SlashPath}
 
 abbrev link : Parts
 link = record { scheme = Some (codes "HTTP"); authority = Some (codes "H"); path = codes "/%7e"; query = None; fragment = None }
 
-to_normal : replayed uri_tests link (SchemeLetter 0 ∷ SchemeLetter 1 ∷ SchemeLetter 2 ∷ SchemeLetter 3 ∷ HostLetter 0 ∷ Decode Path 1 ∷ [])
+to_normal : replayed_in uri_tests Default link (SchemeLetter 0 ∷ SchemeLetter 1 ∷ SchemeLetter 2 ∷ SchemeLetter 3 ∷ HostLetter 0 ∷ Decode Path 1 ∷ [])
     ≡ Some (record { scheme = Some (codes "http"); authority = Some (codes "h"); path = codes "/~"; query = None; fragment = None })
 unfolding replayed_in step_in with_small_letter with_small_host_letter with_decoded whole_triplets is_ascii_host authority_parts
     recompose_authority first_char chars encode unreserved is_ascii_unreserved
 to_normal = refl
 
 -- there is no empty port, no dot segment, no small digit outside triplets, and no letter after the end
-no_step : (step uri_tests link EmptyPort ∷ step uri_tests link Dots ∷ step uri_tests link (HexDigit Path 0)
-    ∷ step uri_tests link (SchemeLetter 4) ∷ step uri_tests link (HexDigit Query 1) ∷ []) ≡ None ∷ None ∷ None ∷ None ∷ None ∷ []
+no_step : (step_in uri_tests Default link EmptyPort ∷ step_in uri_tests Default link Dots ∷ step_in uri_tests Default link (HexDigit Path 0)
+    ∷ step_in uri_tests Default link (SchemeLetter 4) ∷ step_in uri_tests Default link (HexDigit Query 1) ∷ []) ≡ None ∷ None ∷ None ∷ None ∷ None ∷ []
 unfolding step_in with_small_letter with_capital_digit whole_triplets authority_parts recompose_authority dots is_dot_segment
 no_step = refl
 
@@ -38,13 +38,13 @@ abbrev named : Parts
 named = record link { authority = Some (codes "U%3a@H%2d:") }
 
 -- the userinfo keeps its letters, and `:` stays in its triplet
-kept : (step uri_tests named (HostLetter 0) ∷ step uri_tests named (Decode Authority 1) ∷ step uri_tests named (HostLetter 8) ∷ [])
+kept : (step_in uri_tests Default named (HostLetter 0) ∷ step_in uri_tests Default named (Decode Authority 1) ∷ step_in uri_tests Default named (HostLetter 8) ∷ [])
     ≡ None ∷ None ∷ None ∷ []
 unfolding step_in with_small_letter with_small_host_letter with_decoded whole_triplets is_ascii_host authority_parts recompose_authority
     first_char chars encode unreserved is_ascii_unreserved
 kept = refl
 
-changed : replayed uri_tests named (HexDigit Authority 3 ∷ HostLetter 5 ∷ Decode Authority 6 ∷ EmptyPort ∷ [])
+changed : replayed_in uri_tests Default named (HexDigit Authority 3 ∷ HostLetter 5 ∷ Decode Authority 6 ∷ EmptyPort ∷ [])
     ≡ Some (record link { authority = Some (codes "U%3A@h-") })
 unfolding replayed_in step_in with_small_letter with_small_host_letter with_capital_digit with_decoded whole_triplets is_ascii_host
     authority_parts recompose_authority first_char chars encode unreserved is_ascii_unreserved
@@ -54,8 +54,8 @@ abbrev past_ascii : Parts
 past_ascii = record link { authority = Some (codes "H%C3%89") }
 
 -- a host past ASCII keeps its letters; a character past ASCII is decoded in an IRI, not in a URI
-past : (step iri_tests past_ascii (HostLetter 0) ∷ step iri_tests past_ascii (Decode Authority 1)
-    ∷ step uri_tests past_ascii (Decode Authority 1) ∷ step iri_tests past_ascii (Decode Authority 4) ∷ [])
+past : (step_in iri_tests Default past_ascii (HostLetter 0) ∷ step_in iri_tests Default past_ascii (Decode Authority 1)
+    ∷ step_in uri_tests Default past_ascii (Decode Authority 1) ∷ step_in iri_tests Default past_ascii (Decode Authority 4) ∷ [])
     ≡ None ∷ Some (record link { authority = Some (codes "H" ++ encode 0xC9) }) ∷ None ∷ None ∷ []
 unfolding step_in with_small_letter with_small_host_letter with_decoded whole_triplets is_ascii_host authority_parts recompose_authority
     first_char chars encode unreserved is_ascii_unreserved is_ucschar is_ucschar_plane
@@ -71,12 +71,12 @@ without_authority = record {
 }
 
 -- the guard is put once; a digit inside a triplet is not that of another text
-guarded : replayed uri_tests without_authority (Dots ∷ HexDigit Query 1 ∷ [])
+guarded : replayed_in uri_tests Default without_authority (Dots ∷ HexDigit Query 1 ∷ [])
     ≡ Some (record without_authority { path = codes "/.//b"; query = Some (codes "%AB") })
 unfolding replayed_in step_in with_capital_digit whole_triplets dots is_dot_segment
 guarded = refl
 
-guarded_once : replayed uri_tests without_authority (Dots ∷ Dots ∷ []) ≡ None
+guarded_once : replayed_in uri_tests Default without_authority (Dots ∷ Dots ∷ []) ≡ None
 unfolding replayed_in step_in dots is_dot_segment
 guarded_once = refl
 
@@ -89,7 +89,7 @@ by_scheme : replayed_in uri_tests Scheme bare (DefaultPort ∷ SlashPath ∷ [])
 unfolding replayed_in step_in default_port authority_parts recompose_authority
 by_scheme = refl
 
-in_one_mode : (step uri_tests bare DefaultPort ∷ step uri_tests bare SlashPath ∷ []) ≡ None ∷ None ∷ []
+in_one_mode : (step_in uri_tests Default bare DefaultPort ∷ step_in uri_tests Default bare SlashPath ∷ []) ≡ None ∷ None ∷ []
 unfolding step_in authority_parts recompose_authority
 in_one_mode = refl
 

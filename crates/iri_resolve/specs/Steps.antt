@@ -1,5 +1,5 @@
 -- Steps that lead parts towards their normal form (RFC 3986 sections 6.2.2 and 6.2.3), and parts that steps join.
-use Rattle.std.specs.Prelude.{◌≡◌, ℕ, ◌-◌, cond, List, [], ◌∷◌, Option, Some, None, is_some, length, nat_lt}
+use Rattle.std.specs.Prelude.{◌≡◌, ℕ, ◌-◌, cond, List, [], ◌∷◌, Option, Some, None, is_some, length, nat_lt, option_map, option_and_then}
 use Rattle.std.specs.Str.{bytes_eq}
 use Rattle.iri_grammar.specs.Classes.{Tests}
 use Rattle.iri_grammar.specs.Authority.{AuthorityParts, authority_parts, recompose_authority, userinfo_text}
@@ -7,26 +7,15 @@ use Rattle.iri_grammar.specs.Parts.{Parts}
 use Rattle.iri_percent.specs.NormalHost.{is_ascii_host, is_dropped}
 use Rattle.iri_percent.specs.SchemeRules.{dropped_port}
 use Rattle.iri_percent.specs.declared.canon_mode.CanonMode.{CanonMode}
-use Rattle.iri_percent.specs.declared.canon_mode.CanonMode.TheVariants.{Default}
 use Rattle.iri_grammar.specs.Characters.{slash}
 use Rattle.iri_normal.specs.DotRemoval.{dots}
-use Rattle.iri_normal.specs.Guard.{guard}
+use Rattle.iri_normal.specs.DotRemoval.{guard}
 use Rattle.iri_normal.specs.NormalForm.{becomes_slash, normal_form_in}
 use Rattle.iri_resolve.specs.Changes.{with_small_letter, with_small_host_letter, with_capital_digit, with_decoded}
 use Rattle.iri_resolve.specs.declared.step.Part.{Part}
 use Rattle.iri_resolve.specs.declared.step.Part.TheVariants.{Authority, Path, Query, Fragment}
 use Rattle.iri_resolve.specs.declared.step.Step.{Step}
 use Rattle.iri_resolve.specs.declared.step.Step.TheVariants.{SchemeLetter, HostLetter, HexDigit, Decode, EmptyPort, Dots, DefaultPort, SlashPath}
-
--- what a change gives, put to its place; none where the change gives nothing
-abbrev pub placed : {X : Type 0} → (List ℕ → X) → Option (List ℕ) → Option X
-placed f None = None
-placed f (Some x) = Some (f x)
-
--- a change of a part that stands; none where it doesn't stand
-abbrev pub in_part : (List ℕ → Option (List ℕ)) → Option (List ℕ) → Option (List ℕ)
-in_part change None = None
-in_part change (Some x) = change x
 
 -- where the host of an authority begins
 abbrev pub host_start : AuthorityParts → ℕ
@@ -35,12 +24,12 @@ host_start a = length (userinfo_text a.userinfo)
 -- a change at the place i of an authority, in its host
 abbrev pub in_host : (ℕ → List ℕ → Option (List ℕ)) → ℕ → AuthorityParts → Option (List ℕ)
 in_host change i a = cond (nat_lt i (host_start a)) None
-    (placed (λ h. recompose_authority (record a { host = h })) (change (i - host_start a) a.host))
+    (option_map (λ h. recompose_authority (record a { host = h })) (change (i - host_start a) a.host))
 
 -- a change at the place i of an authority, in its userinfo or its host
 abbrev pub in_userinfo_or_host : (ℕ → List ℕ → Option (List ℕ)) → ℕ → AuthorityParts → Option (List ℕ)
 in_userinfo_or_host change i a = cond (nat_lt i (host_start a))
-    (placed (λ u. recompose_authority (record a { userinfo = Some u })) (in_part (change i) a.userinfo)) (in_host change i a)
+    (option_map (λ u. recompose_authority (record a { userinfo = Some u })) (option_and_then (change i) a.userinfo)) (in_host change i a)
 
 -- an authority without its empty port
 abbrev pub without_empty_port : AuthorityParts → Option (List ℕ) → Option (List ℕ)
@@ -67,34 +56,30 @@ with_dots_removed t = cond (bytes_eq (guard (dots t.path) (is_some t.authority))
 
 -- a change of triplets at the place i of a part
 abbrev pub at_place : (ℕ → List ℕ → Option (List ℕ)) → Parts → Part → ℕ → Option Parts
-at_place change t Authority i = placed (λ a. record t { authority = Some a })
-    (in_part (λ a. in_userinfo_or_host change i (authority_parts a)) t.authority)
-at_place change t Path i = placed (λ p. record t { path = p }) (change i t.path)
-at_place change t Query i = placed (λ q. record t { query = Some q }) (in_part (change i) t.query)
-at_place change t Fragment i = placed (λ f. record t { fragment = Some f }) (in_part (change i) t.fragment)
+at_place change t Authority i = option_map (λ a. record t { authority = Some a })
+    (option_and_then (λ a. in_userinfo_or_host change i (authority_parts a)) t.authority)
+at_place change t Path i = option_map (λ p. record t { path = p }) (change i t.path)
+at_place change t Query i = option_map (λ q. record t { query = Some q }) (option_and_then (change i) t.query)
+at_place change t Fragment i = option_map (λ f. record t { fragment = Some f }) (option_and_then (change i) t.fragment)
 
 -- the parts after a step of a mode; none where it is no step from these parts
 unfoldable pub step_in : Tests → CanonMode → Parts → Step → Option Parts
-step_in s mode t (SchemeLetter i) = placed (λ x. record t { scheme = Some x }) (in_part (with_small_letter i) t.scheme)
-step_in s mode t (HostLetter i) = placed (λ a. record t { authority = Some a })
-    (in_part (λ a. with_small_letter_in_host i (authority_parts a)) t.authority)
+step_in s mode t (SchemeLetter i) = option_map (λ x. record t { scheme = Some x }) (option_and_then (with_small_letter i) t.scheme)
+step_in s mode t (HostLetter i) = option_map (λ a. record t { authority = Some a })
+    (option_and_then (λ a. with_small_letter_in_host i (authority_parts a)) t.authority)
 step_in s mode t (HexDigit part i) = at_place with_capital_digit t part i
 step_in s mode t (Decode part i) = at_place (with_decoded s) t part i
-step_in s mode t EmptyPort = placed (λ a. record t { authority = Some a })
-    (in_part (λ a. without_empty_port (authority_parts a) (authority_parts a).port) t.authority)
-step_in s mode t Dots = placed (λ p. record t { path = p }) (with_dots_removed t)
-step_in s mode t DefaultPort = placed (λ a. record t { authority = Some a })
-    (in_part (λ a. without_dropped_port (dropped_port mode t.scheme) (authority_parts a) (authority_parts a).port) t.authority)
-step_in s mode t SlashPath = placed (λ p. record t { path = p }) (with_slash (dropped_port mode t.scheme) t)
-
-abbrev pub onward : Option Parts → (Parts → Option Parts) → Option Parts
-onward None go = None
-onward (Some t) go = go t
+step_in s mode t EmptyPort = option_map (λ a. record t { authority = Some a })
+    (option_and_then (λ a. without_empty_port (authority_parts a) (authority_parts a).port) t.authority)
+step_in s mode t Dots = option_map (λ p. record t { path = p }) (with_dots_removed t)
+step_in s mode t DefaultPort = option_map (λ a. record t { authority = Some a })
+    (option_and_then (λ a. without_dropped_port (dropped_port mode t.scheme) (authority_parts a) (authority_parts a).port) t.authority)
+step_in s mode t SlashPath = option_map (λ p. record t { path = p }) (with_slash (dropped_port mode t.scheme) t)
 
 -- the parts after all of these steps, one after the other; none where one of them is no step from the parts reached
 unfoldable pub replayed_in : Tests → CanonMode → Parts → List Step → Option Parts
 replayed_in s mode t [] = Some t
-replayed_in s mode t (x ∷ xs) = onward (step_in s mode t x) (λ u. replayed_in s mode u xs)
+replayed_in s mode t (x ∷ xs) = option_and_then (λ u. replayed_in s mode u xs) (step_in s mode t x)
 
 -- steps from both lead to the same parts
 abbrev pub JoinedIn : Tests → CanonMode → Parts → Parts → Type 0
@@ -104,30 +89,7 @@ JoinedIn s mode t u = (l m : List Step) × (v : Parts) × (replayed_in s mode t 
 abbrev pub AreApartIn : Tests → CanonMode → Parts → Parts → Type 0
 AreApartIn s mode t u = JoinedIn s mode t u → ⊥
 
--- these two lists do
-abbrev pub LeadToOneIn : Tests → CanonMode → Parts → Parts → List Step → List Step → Type 0
-LeadToOneIn s mode t u l m = (v : Parts) × (replayed_in s mode t l ≡ Some v) × (replayed_in s mode u m ≡ Some v)
-
--- they lead to the one normal form of both
+-- these two lists lead to the one normal form of both
 abbrev pub LeadToNormalIn : Tests → CanonMode → Parts → Parts → List Step → List Step → Type 0
 LeadToNormalIn s mode t u l m =
     (replayed_in s mode t l ≡ Some (normal_form_in s mode t)) × (replayed_in s mode u m ≡ Some (normal_form_in s mode t))
-
--- the same by the rules of every scheme
-abbrev pub step : Tests → Parts → Step → Option Parts
-step s t x = step_in s Default t x
-
-abbrev pub replayed : Tests → Parts → List Step → Option Parts
-replayed s t l = replayed_in s Default t l
-
-abbrev pub Joined : Tests → Parts → Parts → Type 0
-Joined s t u = JoinedIn s Default t u
-
-abbrev pub AreApart : Tests → Parts → Parts → Type 0
-AreApart s t u = AreApartIn s Default t u
-
-abbrev pub LeadToOne : Tests → Parts → Parts → List Step → List Step → Type 0
-LeadToOne s t u l m = LeadToOneIn s Default t u l m
-
-abbrev pub LeadToNormal : Tests → Parts → Parts → List Step → List Step → Type 0
-LeadToNormal s t u l m = LeadToNormalIn s Default t u l m

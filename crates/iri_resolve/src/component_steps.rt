@@ -1,14 +1,15 @@
 // The steps of one component, from left to right: each has the length of what is in normal form already as its place, so no
 // text in between is built.
+ghost use Rattle.iri_resolve.specs.Changes.{is_small_digit};
 ghost use Rattle.std.specs.Prelude.{◌≡◌, ◌<◌, ◌≤◌, ◌+◌, ◌^◌, ◌++◌, ◌&&◌, [], ◌∷◌, IfOk, true, length};
 ghost use Rattle.std.specs.Char.{is_ascii_uppercase};
 ghost use Rattle.iri_text.specs.Shown.{Shows};
 ghost use Rattle.iri_percent.specs.Triplets.{normal};
 ghost use Rattle.iri_percent.specs.Units.{whole_triplets};
 ghost use Rattle.iri_percent.specs.inside.Pieces.{case_of};
-ghost use Rattle.iri_resolve.specs.NormalSteps.{component_steps, digit_steps, letter_steps, prefix_of};
+ghost use Rattle.iri_resolve.specs.NormalSteps.{component_steps, prefix_of, step_if};
 ghost use Rattle.iri_resolve.specs.StepSinks.{done};
-ghost use Rattle.iri_resolve.specs.declared.step.Step.TheVariants.{Decode};
+ghost use Rattle.iri_resolve.specs.declared.step.Step.TheVariants.{Decode, HostLetter, HexDigit};
 
 use crate::change::is_small_digit;
 use crate::step::{Part, Step};
@@ -26,7 +27,7 @@ struct Lengths {
 
 // A letter of a host becomes small, where it is a capital.
 fn push_letter<T: StepSink>(sink: &mut T, is_capital: bool, at: usize) -> Result<(), Stop>
-    ensures { Shows T.puts T.halts T.stops sink.old (letter_steps is_capital at) sink.new result }
+    ensures { Shows T.puts T.halts T.stops sink.old (step_if is_capital (HostLetter at)) sink.new result }
 {
     if !is_capital {
         return Ok(());
@@ -36,7 +37,7 @@ fn push_letter<T: StepSink>(sink: &mut T, is_capital: bool, at: usize) -> Result
 
 // A hex digit becomes a capital, where it is a small letter.
 fn push_digit<T: StepSink>(sink: &mut T, part: Part, at: usize, digit: u8) -> Result<(), Stop>
-    ensures { Shows T.puts T.halts T.stops sink.old (digit_steps part at digit) sink.new result }
+    ensures { Shows T.puts T.halts T.stops sink.old (step_if (is_small_digit digit) (HexDigit part at)) sink.new result }
 {
     if !is_small_digit(digit) {
         return Ok(());
@@ -54,7 +55,7 @@ fn push_digits<T: StepSink>(
 ) -> Result<(), Stop>
     requires { at + 2 < 2 ^ 64 }
     ensures { Shows T.puts T.halts T.stops sink.old
-        (digit_steps part (at + 1) high ++ digit_steps part (at + 2) low) sink.new result }
+        (step_if (is_small_digit high) (HexDigit part (at + 1)) ++ step_if (is_small_digit low) (HexDigit part (at + 2))) sink.new result }
 {
     push_digit(sink, part, at + 1, high)?;
     push_digit(sink, part, at + 2, low)
@@ -67,7 +68,7 @@ fn push_decoded<T: StepSink>(
     at: usize,
     is_capital: bool,
 ) -> Result<(), Stop>
-    ensures { Shows T.puts T.halts T.stops sink.old (Decode part at ∷ letter_steps is_capital at) sink.new result }
+    ensures { Shows T.puts T.halts T.stops sink.old (Decode part at ∷ step_if is_capital (HostLetter at)) sink.new result }
 {
     sink.push(Step::Decode(part, at))?;
     push_letter(sink, is_capital, at)

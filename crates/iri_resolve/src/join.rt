@@ -1,11 +1,11 @@
 //! Steps that lead two targets to one.
 ghost use Rattle.std.specs.Prelude.{◌≡◌, false, IfOk, MatchOption, string_bytes};
 ghost use Rattle.iri_grammar.specs.Parts.{recompose};
+ghost use Rattle.iri_percent.specs.declared.canon_mode.CanonMode.TheVariants.{Default};
 ghost use Rattle.iri_normal.specs.NormalForm.{form};
 ghost use Rattle.std.specs.Str.{bytes_eq};
 ghost use Rattle.iri_normal.specs.Modes.{mode_of};
-ghost use Rattle.iri_resolve.specs.Steps.{AreApart, AreApartIn, LeadToOne, LeadToOneIn};
-ghost use Rattle.iri_resolve.specs.Steps.{LeadToNormal, LeadToNormalIn};
+ghost use Rattle.iri_resolve.specs.Steps.{AreApartIn, LeadToNormalIn};
 
 use crate::normal_steps::steps_to_normal_in;
 use crate::step_list::StepList;
@@ -71,13 +71,13 @@ pub fn join_steps<S: Spec>(
     a: &Target<S>,
     b: &Target<S>,
 ) -> Result<Option<(StepList, StepList)>, AllocError>
-    ensures { IfOk result (λ lists. MatchOption lists (AreApart S.tests a.now b.now)
-        (λ l. LeadToOne S.tests a.now b.now l.0 l.1 × LeadToNormal S.tests a.now b.now l.0 l.1)) }
+    ensures { IfOk result (λ lists. MatchOption lists (AreApartIn S.tests Default a.now b.now)
+        (λ l. LeadToNormalIn S.tests Default a.now b.now l.0 l.1)) }
 {
     join_steps_in(alloc, CanonMode::Default, a, b)
 }
 
-/// The same with the steps and the canonical texts of a mode.
+/// Two lists of steps of a mode that lead two targets to one; none where their canonical texts by its rules differ.
 ///
 /// # Errors
 ///
@@ -101,7 +101,7 @@ pub fn join_steps_in<S: Spec>(
     b: &Target<S>,
 ) -> Result<Option<(StepList, StepList)>, AllocError>
     ensures { IfOk result (λ lists. MatchOption lists (AreApartIn S.tests mode a.now b.now)
-        (λ l. LeadToOneIn S.tests mode a.now b.now l.0 l.1 × LeadToNormalIn S.tests mode a.now b.now l.0 l.1)) }
+        (λ l. LeadToNormalIn S.tests mode a.now b.now l.0 l.1)) }
 {
     let _first = a.slices();
     let _second = b.slices();

@@ -9,7 +9,7 @@ ghost use Rattle.iri_normal.specs.NormalForm.{normal_form, normal_form_in};
 ghost use Rattle.iri_normal.specs.Slices.{slices};
 ghost use Rattle.iri_resolve.specs.NormalSteps.{steps_of};
 ghost use Rattle.iri_resolve.specs.StepSinks.{step_lines};
-ghost use Rattle.iri_resolve.specs.Steps.{replayed, replayed_in};
+ghost use Rattle.iri_resolve.specs.Steps.{replayed_in};
 
 use crate::part_steps::push_steps;
 use crate::step_lines::StepLines;
@@ -44,13 +44,13 @@ use std::alloc::{AllocError, Global};
 /// ```
 pub fn steps_to_normal<S: Spec>(alloc: Global, target: &Target<S>) -> Result<StepList, AllocError>
     ensures list { IfOk result (λ l. l ≡ steps_of S.tests Default target.now) }
-    ensures leads { IfOk result (λ l. replayed S.tests target.now l ≡ Some (normal_form S.tests target.now)) }
+    ensures leads { IfOk result (λ l. replayed_in S.tests Default target.now l ≡ Some (normal_form S.tests target.now)) }
 {
     steps_to_normal_in(alloc, CanonMode::Default, target)
 }
 
-/// The same with the steps of a mode: those of every scheme, and then the default port and the empty path (RFC 3986
-/// section 6.2.3).
+/// Steps of a mode that lead from a target to its normal form: those of every scheme, and then the default port and the
+/// empty path (RFC 3986 section 6.2.3).
 ///
 /// # Errors
 ///
@@ -84,7 +84,7 @@ pub fn steps_to_normal_in<S: Spec>(
     Ok(steps)
 }
 
-/// Puts the same steps into a sink, one after the other: into a list, or into one that takes no memory.
+/// Puts the steps to the normal form into a sink, one after the other: into a list, or into one that allocates nothing.
 ///
 /// # Errors
 ///
@@ -116,7 +116,7 @@ fn show_lines<S: Spec, W: TextSink>(
 }
 
 /// Shows the steps from a text to its normal form (RFC 3986 section 6.2.2) in words, each as it is found, with an LF after
-/// it. It takes no memory.
+/// it. Allocates nothing.
 ///
 /// # Errors
 ///
@@ -141,11 +141,11 @@ pub fn show_steps<S: Spec, K: NormalKind, W: TextSink>(
     show_steps_in(sink, CanonMode::Default, view)
 }
 
-/// The same with the steps of a mode.
+/// Shows the steps of a mode, a line each.
 ///
 /// # Errors
 ///
-/// Those of [`show_steps`].
+/// As [`show_steps`].
 ///
 /// ```
 /// use iri::format::SliceSink;

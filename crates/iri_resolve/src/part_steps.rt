@@ -1,4 +1,6 @@
 // The steps of parts to their normal form, put into a sink of steps.
+ghost use Rattle.std.specs.Char.{is_ascii_uppercase};
+ghost use Rattle.iri_resolve.specs.declared.step.Step.TheVariants.{SchemeLetter, DefaultPort, SlashPath, Dots};
 ghost use Rattle.std.specs.Prelude.{◌≡◌, ◌<◌, ◌≤◌, ◌+◌, ◌^◌, ◌++◌, ◌&&◌, ◌||◌, IfOk, Some, is_some, length, not, true};
 ghost use Rattle.iri_text.specs.Shown.{Shows};
 ghost use Rattle.iri_grammar.specs.Authority.{is_authority, userinfo_text};
@@ -10,14 +12,14 @@ ghost use Rattle.iri_grammar.specs.Parts.{Fits, is_empty, starts_with_slash, sta
 ghost use Rattle.iri_grammar.specs.Pieces.{pieces};
 ghost use Rattle.iri_percent.specs.NormalHost.{normal_userinfo};
 ghost use Rattle.iri_percent.specs.Units.{whole_triplets};
-ghost use Rattle.iri_normal.specs.DotRemoval.{is_two_dots};
+ghost use Rattle.iri_normal.specs.Dots.{is_two_dots};
 ghost use Rattle.iri_normal.specs.Dots.{has_dot_segment, is_dot_segment};
 ghost use Rattle.iri_normal.specs.Slices.{slices};
-ghost use Rattle.iri_resolve.specs.NormalSteps.{authority_steps, default_port_steps, has_port, host_steps, path_steps};
-ghost use Rattle.iri_resolve.specs.NormalSteps.{plain_steps, port_steps, scheme_letter_steps, scheme_rule_steps, scheme_steps};
-ghost use Rattle.iri_resolve.specs.NormalSteps.{slash_steps, steps_of, steps_there, triplet_steps};
+ghost use Rattle.iri_resolve.specs.NormalSteps.{authority_steps, has_port, host_steps, path_steps, step_if};
+ghost use Rattle.iri_resolve.specs.NormalSteps.{plain_steps, port_steps, scheme_rule_steps, scheme_steps};
+ghost use Rattle.iri_resolve.specs.NormalSteps.{steps_of, steps_there, triplet_steps};
 ghost use Rattle.iri_resolve.specs.StepSinks.{done};
-ghost use Rattle.iri_resolve.specs.inside.GuardAlone.{dots_steps, is_guard_alone, loses_dots};
+ghost use Rattle.iri_resolve.specs.inside.GuardAlone.{is_guard_alone, loses_dots};
 ghost use Rattle.iri_resolve.specs.declared.step.Part.TheVariants.{Authority, Query, Fragment};
 
 use crate::component_steps::push_component;
@@ -33,7 +35,7 @@ use iri_text::Stop;
 
 // A letter of the scheme becomes small, where it is a capital.
 fn push_scheme_letter<T: StepSink>(sink: &mut T, at: usize, letter: u8) -> Result<(), Stop>
-    ensures { Shows T.puts T.halts T.stops sink.old (scheme_letter_steps at letter) sink.new result }
+    ensures { Shows T.puts T.halts T.stops sink.old (step_if (is_ascii_uppercase letter) (SchemeLetter at)) sink.new result }
 {
     if !letter.is_ascii_uppercase() {
         return Ok(());
@@ -170,7 +172,7 @@ fn push_triplets<S: Spec, T: StepSink>(
 
 // The step of dot segments that go.
 fn push_dots<T: StepSink>(sink: &mut T, go: bool) -> Result<(), Stop>
-    ensures { Shows T.puts T.halts T.stops sink.old (dots_steps go) sink.new result }
+    ensures { Shows T.puts T.halts T.stops sink.old (step_if go Dots) sink.new result }
 {
     if !go {
         return Ok(());
@@ -211,7 +213,7 @@ fn push_default_port<S: Spec, T: StepSink>(
 ) -> Result<(), Stop>
     requires { if_there (is_authority S.tests) (now_of authority) ≡ true }
     ensures { Shows T.puts T.halts T.stops sink.old
-        (default_port_steps (has_port (now_of dropped.entry) (now_of authority.entry))) sink.new result }
+        (step_if (has_port (now_of dropped.entry) (now_of authority.entry)) DefaultPort) sink.new result }
 {
     let Some(authority) = authority else {
         return Ok(());
@@ -224,7 +226,7 @@ fn push_default_port<S: Spec, T: StepSink>(
 
 // The step of an empty path that becomes `/`.
 fn push_slash<T: StepSink>(sink: &mut T, go: bool) -> Result<(), Stop>
-    ensures { Shows T.puts T.halts T.stops sink.old (slash_steps go) sink.new result }
+    ensures { Shows T.puts T.halts T.stops sink.old (step_if go SlashPath) sink.new result }
 {
     if !go {
         return Ok(());

@@ -1,9 +1,10 @@
 //! Steps, done one after the other.
 ghost use Rattle.std.specs.Prelude.{◌≡◌, IfOk, MatchResult, OnOk, Some, string_bytes};
+ghost use Rattle.iri_percent.specs.declared.canon_mode.CanonMode.TheVariants.{Default};
 ghost use Rattle.iri_normal.specs.Resolver.{bytes_of};
 ghost use Rattle.iri_resolve.specs.inside.Reached.{Holds, parts_of};
-ghost use Rattle.iri_resolve.specs.Replays.{EndsBy, EndsByIn, StopsAt};
-ghost use Rattle.iri_resolve.specs.Steps.{replayed, replayed_in, step_in};
+ghost use Rattle.iri_resolve.specs.Replays.{EndsByIn, StopsAt};
+ghost use Rattle.iri_resolve.specs.Steps.{replayed_in, step_in};
 
 use crate::reached::Reached;
 use crate::reached_authority::{borrowed, copied, read_there, recomposed_there};
@@ -120,17 +121,17 @@ pub fn replay<S: Spec>(
     target: &Target<S>,
     steps: &StepList,
 ) -> Result<Target<S>, ReplayError>
-    ensures { MatchResult result (λ t. replayed S.tests target.now steps.now ≡ Some t)
-        (EndsBy S.tests target.now steps.now) }
+    ensures { MatchResult result (λ t. replayed_in S.tests Default target.now steps.now ≡ Some t)
+        (EndsByIn S.tests Default target.now steps.now) }
 {
     replay_in(alloc, CanonMode::Default, target, steps)
 }
 
-/// The same with the steps of a mode (RFC 3986 section 6.2.3).
+/// The parts after all of these steps of a mode (RFC 3986 section 6.2.3).
 ///
 /// # Errors
 ///
-/// Those of [`replay`].
+/// `Illegal` and `Memory` exactly as [`replay`].
 pub fn replay_in<S: Spec>(
     alloc: Global,
     mode: CanonMode,

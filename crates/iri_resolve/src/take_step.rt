@@ -3,13 +3,14 @@ ghost use Rattle.std.specs.Prelude.{◌≡◌, ◌∷◌, [], ◌++◌, IfOk, So
 ghost use Rattle.iri_grammar.specs.Components.{is_path};
 ghost use Rattle.iri_grammar.specs.OptionalSlices.{now_of};
 ghost use Rattle.iri_percent.specs.SchemeRules.{dropped_port};
+ghost use Rattle.iri_percent.specs.declared.canon_mode.CanonMode.TheVariants.{Default};
 ghost use Rattle.iri_normal.specs.DotRemoval.{dots};
-ghost use Rattle.iri_normal.specs.Guard.{guard};
+ghost use Rattle.iri_normal.specs.DotRemoval.{guard};
 ghost use Rattle.iri_normal.specs.NormalForm.{becomes_slash};
 ghost use Rattle.iri_normal.specs.Resolver.{bytes_of};
 ghost use Rattle.iri_resolve.specs.inside.ChangeOf.{change_of};
 ghost use Rattle.iri_resolve.specs.inside.Reached.{Holds, Reaches, other_than, parts_of, went};
-ghost use Rattle.iri_resolve.specs.Steps.{at_place, step, step_in};
+ghost use Rattle.iri_resolve.specs.Steps.{at_place, step_in};
 ghost use Rattle.iri_grammar.specs.Characters.{slash};
 ghost use Rattle.iri_resolve.specs.declared.step.Step.TheVariants.{DefaultPort, Dots, SlashPath};
 
@@ -95,7 +96,7 @@ fn triplet_step<S: Spec>(
 // The dot segments of the path go.
 fn dots_step<S: Spec>(alloc: Global, reached: &mut Reached) -> Result<bool, AllocError>
     requires { Holds S.tests reached.old }
-    ensures { IfOk result (λ b. Reaches S.tests (step S.tests (parts_of reached.old) Dots) b reached.new) }
+    ensures { IfOk result (λ b. Reaches S.tests (step_in S.tests Default (parts_of reached.old) Dots) b reached.new) }
 {
     let stands = reached.authority.is_some();
     without_dots::<S>(alloc, &mut reached.path, stands)

@@ -4,7 +4,7 @@ use Rattle.iri_grammar.specs.Classes.{Tests}
 use Rattle.iri_grammar.specs.Parts.{Parts, recompose}
 use Rattle.iri_grammar.specs.Split.{split_of}
 use Rattle.iri_normal.specs.DotRemoval.{dots}
-use Rattle.iri_normal.specs.Guard.{guard}
+use Rattle.iri_normal.specs.DotRemoval.{guard}
 use Rattle.iri_normal.specs.NormalForm.{normal_form}
 use Rattle.iri_normal.specs.Target.{to_last_slash, last_segment}
 

@@ -35,7 +35,5 @@ pub begins_both : (a b c : Beginning) (t u : List ℕ) → Begins a t b → Begi
 begins_both a b c t u p q = record { begun = q.begun ∙ (ap (λ s. begun_by s u) p.begun ∙ sym (begun_by-append a.begun t u)) }
 
 abbrev pub is_slashes : Begun → Bool
-is_slashes Nothing = false
-is_slashes Slash = false
 is_slashes Slashes = true
-is_slashes Other = false
+is_slashes _ = false

@@ -1,8 +1,7 @@
 -- How segments act on a stack of others, those of the output buffer (RFC 3986 section 5.2.4): they take some of them away, and then push
 -- what stays of themselves.
 use Rattle.std.specs.Prelude.{ℕ, ◌+◌, ◌-◌, cond, ◌==◌, List, [], ◌∷◌, ◌++◌}
-use Rattle.iri_normal.specs.Dots.{is_dot_segment}
-use Rattle.iri_normal.specs.DotRemoval.{is_two_dots}
+use Rattle.iri_normal.specs.Dots.{is_dot_segment, is_two_dots}
 use Rattle.iri_grammar.specs.Characters.{slash}
 
 -- how many a segment with its slash takes away, where what follows takes n away: `..` one more, and another segment that isn't a dot

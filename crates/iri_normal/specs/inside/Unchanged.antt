@@ -10,8 +10,7 @@ use Rattle.iri_normal.specs.Dots.{has_dot_segment}
 use Rattle.iri_grammar.specs.Split.{split_of}
 use Rattle.iri_percent.specs.Triplets.{pct}
 use Rattle.iri_percent.specs.Units.{whole_triplets}
-use Rattle.iri_normal.specs.LowerCase.{lowered}
-use Rattle.iri_normal.specs.NormalForm.{canonical}
+use Rattle.iri_normal.specs.NormalForm.{lowered, canonical}
 use Rattle.iri_normal.specs.Prefix.{IsPrefix, prefix_in}
 use Rattle.iri_normal.specs.Target.{ends_at_slash, target}
 

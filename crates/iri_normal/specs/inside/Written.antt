@@ -1,9 +1,9 @@
 -- Dot removal with a buffer (RFC 3986 section 5.2.4): in it stand the segments that stay so far, each with its slash.
-use Rattle.std.specs.Prelude.{ℕ, zero, suc, Bool, cond, List, [], ◌∷◌, ◌++◌, Option, Some, None}
+use Rattle.std.specs.Prelude.{ℕ, zero, suc, Bool, cond, List, [], ◌∷◌, ◌++◌}
 use Rattle.iri_grammar.specs.Characters.{slash}
 use Rattle.iri_grammar.specs.Pieces.{pieces}
-use Rattle.iri_normal.specs.DotRemoval.{is_two_dots, without_last}
-use Rattle.iri_normal.specs.Dots.{is_dot_segment}
+use Rattle.iri_normal.specs.DotRemoval.{without_last}
+use Rattle.iri_normal.specs.Dots.{is_two_dots, is_dot_segment}
 
 -- the text without its last byte
 abbrev pub but_last : List ℕ → List ℕ
@@ -39,7 +39,3 @@ written_segments buffer (s ∷ ss) =
 -- the same of a path
 abbrev pub written : List ℕ → List ℕ → List ℕ
 written buffer path = written_segments buffer (pieces slash path)
-
-abbrev pub or_nothing : Option (List ℕ) → List ℕ
-or_nothing None = []
-or_nothing (Some t) = t

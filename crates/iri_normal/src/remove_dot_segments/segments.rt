@@ -8,7 +8,7 @@ ghost use Rattle.iri_grammar.specs.Pieces.{pieces};
 ghost use Rattle.iri_normal.specs.Dots.{is_dot_segment};
 ghost use Rattle.iri_normal.specs.inside.Kept.{taken};
 ghost use Rattle.iri_normal.specs.Target.{ends_at_slash};
-ghost use Rattle.iri_normal.specs.inside.CutText.{IsCut};
+ghost use Rattle.iri_normal.specs.inside.NextDots.{IsCut};
 ghost use Rattle.iri_normal.specs.inside.Written.{written};
 
 use crate::dots::{is_dot_segment, next_dots};

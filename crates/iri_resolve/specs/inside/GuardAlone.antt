@@ -1,11 +1,8 @@
 -- Whether a path loses dot segments, told by its segments.
-use Rattle.std.specs.Prelude.{ℕ, Bool, true, false, cond, not, ◌&&◌, ◌||◌, List, [], ◌∷◌}
+use Rattle.std.specs.Prelude.{ℕ, Bool, true, false, not, ◌&&◌, ◌||◌, List, [], ◌∷◌}
 use Rattle.iri_grammar.specs.Parts.{is_empty}
 use Rattle.iri_grammar.specs.Pieces.{pieces}
-use Rattle.iri_normal.specs.DotRemoval.{is_two_dots}
-use Rattle.iri_normal.specs.Dots.{any_dot_segment, has_dot_segment, is_dot_segment}
-use Rattle.iri_resolve.specs.declared.step.Step.{Step}
-use Rattle.iri_resolve.specs.declared.step.Step.TheVariants.{Dots}
+use Rattle.iri_normal.specs.Dots.{is_two_dots, any_dot_segment, has_dot_segment, is_dot_segment}
 
 -- a slash stands before these segments
 abbrev pub is_after_slash : List (List ℕ) → Bool
@@ -21,7 +18,3 @@ is_guard_alone _ = false
 -- the path is another one without its dot segments, and guarded
 abbrev pub loses_dots : List ℕ → Bool → Bool
 loses_dots path authority_stands = has_dot_segment path && (authority_stands || not (is_guard_alone (pieces 47 path)))
-
--- of dot segments that go
-abbrev pub dots_steps : Bool → List Step
-dots_steps go = cond go (Dots ∷ []) []

@@ -1,12 +1,11 @@
 -- What a replay has reached, and what it keeps there.
-use Rattle.std.specs.Prelude.{◌≡◌, ℕ, Bool, true, false, cond, List, Option, Some, None, is_some, string_bytes}
+use Rattle.std.specs.Prelude.{◌≡◌, ℕ, Bool, true, false, cond, List, Option, Some, None, is_some, string_bytes, option_and_then}
 use Rattle.std.specs.Str.{bytes_eq}
 use Rattle.iri_grammar.specs.Authority.{AuthorityParts, FitsAuthority, authority_parts, recompose_authority}
 use Rattle.iri_grammar.specs.Classes.{Tests}
 use Rattle.iri_grammar.specs.Parts.{Parts, Fits, is_empty}
 use Rattle.iri_percent.specs.NormalHost.{is_ascii_host}
 use Rattle.iri_normal.specs.Resolver.{bytes_of}
-use Rattle.iri_resolve.specs.Steps.{in_part}
 use Rattle.iri_resolve.specs.declared.reached.Reached.{Reached}
 use Rattle.iri_resolve.specs.declared.reached.ReachedAuthority.{ReachedAuthority}
 
@@ -49,8 +48,8 @@ went b x = cond b (Some x) None
 
 -- whether the change f of a text that may stand is one, and the text after it
 abbrev pub WentThere : (List ℕ → Option (List ℕ)) → Bool → Option (List ℕ) → Option (List ℕ) → Type 0
-WentThere f true old new = (in_part f old ≡ new) × (is_some new ≡ true)
-WentThere f false old new = in_part f old ≡ None
+WentThere f true old new = (option_and_then f old ≡ new) × (is_some new ≡ true)
+WentThere f false old new = option_and_then f old ≡ None
 
 -- whether the change f of an authority is one, and the authority after it
 pub record ReadOn (s : Tests) (f : AuthorityParts → Option (List ℕ)) (b : Bool) (old new : ReachedAuthority) : Type 0 where

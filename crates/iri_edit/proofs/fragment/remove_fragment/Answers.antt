@@ -18,9 +18,8 @@ cut_out-requires g c =
 
 pub returns-clause-text : goal.returns-clause-text
 returns-clause-text g c =
-    let s = g.S.Spec.tests in
     let k = g.met.S.Spec.lawful in
     let at = subst
     (λ z. IsFragmentAt z c.fragment_at-start.result.0 c.fragment_at-start.result.1) c.reference_of.ensures.text c.fragment_at-start.ensures in
     c.cut_out.ensures.text ∙ (at.replaces [] ∙ (append-nil _
-    ∙ sym (fragment-removed s k _ (g.met.K.WholeKind.whole s k _ c.reference_of.ensures.valid))))
+    ∙ sym (fragment-removed g.S.Spec.tests k _ (g.met.K.WholeKind.whole g.S.Spec.tests k _ c.reference_of.ensures.valid))))

@@ -30,9 +30,8 @@ returns g c =
     let yes : (is_host s new && (not c.args.names_only || is_named old)) ≡ true = sym c.may_replace.ensures ∙ c.if-not-may_replace.false in
     let text = c.in_ok-splice.ensures.ok ∙ host-spliced s _ old start at new in
     let same = text ∙ at.edits new in
-    let new_utf8 = c.utf8.new_host in
     let low = subst (IsCharBoundary c.splice.new.self.text) at.at
-    (IsCharBoundary-at_seam c.splice.new.self.text at.prefix (new ++ at.back) same (IsUtf8-append new at.back new_utf8 at.utf8)) in
+    (IsCharBoundary-at_seam c.splice.new.self.text at.prefix (new ++ at.back) same (IsUtf8-append new at.back c.utf8.new_host at.utf8)) in
     let length_both : length (at.prefix ++ new) ≡ start + length new = length-append at.prefix new ∙ ap (λ n. n + length new) at.at in
     let high = subst (IsCharBoundary c.splice.new.self.text) length_both
     (IsCharBoundary-at_seam c.splice.new.self.text (at.prefix ++ new) at.back

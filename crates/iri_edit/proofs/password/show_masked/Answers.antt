@@ -1,13 +1,14 @@
-use Rattle.iri_edit.proofs.Common.{◌≡◌, ◌+◌, ◌++◌, ◌∙◌, [], ap, drop, subst, sym, take, Shows, text, masked}
+use Rattle.iri_edit.proofs.Common.{◌≡◌, ◌+◌, ◌++◌, ◌∙◌, [], ap, drop, sym, take, text, masked}
 use Rattle.iri_edit.proofs.SameLemmas.{with_password-same}
 use Rattle.iri_edit.proofs.SpliceLemmas.{password-spliced}
+use Rattle.iri_normal.proofs.ShownTexts.{shows_same}
 use Rattle.iri_edit.proofs.password.show_masked.Goals as goal
 
 pub returns-in_default : goal.returns-in_default
 returns-in_default g c =
     let t = text c.args.reference in
     let e : c.as_str-text.result.now ≡ masked t = c.as_str-text.ensures.text ∙ sym (with_password-same t [] c.in_default.ensures) in
-    subst (λ z. Shows g.W.TextSink.puts g.W.TextSink.halts g.W.TextSink.stops c.args.sink.now z c.put.new.self c.put.result) e c.put.ensures
+    shows_same e c.put.ensures
 
 pub returns : goal.returns
 returns g c =
@@ -18,4 +19,4 @@ returns g c =
     let e : c.around.result.0.now ++ (c.around.result.1.now) ≡ masked t =
     ap (λ z. z ++ (c.around.result.1.now)) prefix
     ∙ (ap (λ z. take (c.in-Some.colon + 1) t ++ (z)) back ∙ password-spliced t c.in-Some.colon c.in-Some.end c.in-Some.ensures []) in
-    subst (λ z. Shows g.W.TextSink.puts g.W.TextSink.halts g.W.TextSink.stops c.args.sink.now z c.show_two.new.sink c.show_two.result) e c.show_two.ensures
+    shows_same e c.show_two.ensures

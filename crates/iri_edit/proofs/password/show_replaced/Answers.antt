@@ -1,6 +1,7 @@
-use Rattle.iri_edit.proofs.Common.{◌≡◌, ◌+◌, ◌++◌, ◌∙◌, ap, drop, subst, sym, take, Shows, text, with_password}
+use Rattle.iri_edit.proofs.Common.{◌≡◌, ◌+◌, ◌++◌, ◌∙◌, ap, drop, sym, take, text, with_password}
 use Rattle.iri_edit.proofs.SameLemmas.{with_password-same}
 use Rattle.iri_edit.proofs.SpliceLemmas.{password-spliced}
+use Rattle.iri_normal.proofs.ShownTexts.{shows_same}
 use Rattle.iri_edit.proofs.password.show_replaced.Goals as goal
 
 pub returns-in_default : goal.returns-in_default
@@ -8,7 +9,7 @@ returns-in_default g c =
     let t = text c.args.reference in
     let e : c.as_str-text.result.now ≡ with_password t (g.D.Show.text c.args.alt.now) =
     c.as_str-text.ensures.text ∙ sym (with_password-same t (g.D.Show.text c.args.alt.now) c.in_default.ensures) in
-    subst (λ z. Shows g.W.TextSink.puts g.W.TextSink.halts g.W.TextSink.stops c.args.sink.now z c.put.new.self c.put.result) e c.put.ensures
+    shows_same e c.put.ensures
 
 pub returns : goal.returns
 returns g c =
@@ -21,4 +22,4 @@ returns g c =
     ap (λ z. z ++ ((g.D.Show.text c.args.alt.now) ++ c.around.result.1.now)) prefix
     ∙ (ap (λ z. take (c.in-Some.colon + 1) t ++ ((g.D.Show.text c.args.alt.now) ++ z)) back
     ∙ password-spliced t c.in-Some.colon c.in-Some.end c.in-Some.ensures (g.D.Show.text c.args.alt.now)) in
-    subst (λ z. Shows g.W.TextSink.puts g.W.TextSink.halts g.W.TextSink.stops c.args.sink.now z c.show_three.new.sink c.show_three.result) e c.show_three.ensures
+    shows_same e c.show_three.ensures

@@ -33,7 +33,6 @@ returns-in_default-after g c =
 pub overflow_add-result-2 : goal.overflow_add-result-2
 overflow_add-result-2 g c =
     let inside = password-inside _ _ _ (here g c) in
-    let short = c.in-Some.ensures.0.short in
     omega arith
 
 pub returns : goal.returns

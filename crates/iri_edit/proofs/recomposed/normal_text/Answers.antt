@@ -10,8 +10,7 @@ in_normal_form text = record { parts = split_of text; whole = false; mode = Norm
 
 pub returns : goal.returns
 returns g c =
-    let s = g.S.Spec.tests in
     subst (λ t. IfOk c.try_to_string.result (λ normal. string_bytes normal ≡ t))
-    (ap (written_text s) (c.normalize.ensures ∙ ap in_normal_form c.from_valid.ensures)
-    ∙ ap recompose (form-is s Default false (split_of c.args.text.now)))
+    (ap (written_text g.S.Spec.tests) (c.normalize.ensures ∙ ap in_normal_form c.from_valid.ensures)
+    ∙ ap recompose (form-is g.S.Spec.tests Default false (split_of c.args.text.now)))
     c.try_to_string.ensures

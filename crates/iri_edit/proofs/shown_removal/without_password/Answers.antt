@@ -10,7 +10,6 @@ returns-in_default g c =
 pub returns : goal.returns
 returns g c =
     let t = text c.args.reference in
-    let same = c.as_str-text.ensures.text in
-    ap (λ z. z ++ (c.around.result.1.now)) (c.around.ensures.prefix ∙ ap (take c.in-Some.colon) same)
-    ∙ (ap (λ z. take c.in-Some.colon t ++ z) (c.around.ensures.back ∙ ap (drop c.in-Some.end) same)
+    ap (λ z. z ++ (c.around.result.1.now)) (c.around.ensures.prefix ∙ ap (take c.in-Some.colon) c.as_str-text.ensures.text)
+    ∙ (ap (λ z. take c.in-Some.colon t ++ z) (c.around.ensures.back ∙ ap (drop c.in-Some.end) c.as_str-text.ensures.text)
     ∙ password-removed t c.in-Some.colon c.in-Some.end c.in-Some.ensures)

@@ -1,4 +1,4 @@
-use Rattle.std.proofs.Common.{◌≡◌, drop}
+use Rattle.iri_normal.proofs.Common.{◌≡◌, drop}
 use Rattle.iri_normal.specs.inside.Beginning.{begun_by}
 use Rattle.iri_normal.proofs.beginning.after_text.Given as goal
 

@@ -1,4 +1,4 @@
-use Rattle.std.proofs.Common.{[], sym, ◌∙◌, append-nil}
+use Rattle.iri_normal.proofs.Common.{[], sym, ◌∙◌, append-nil}
 use Rattle.iri_normal.proofs.ComparedLemmas.{stopped}
 use Rattle.iri_normal.proofs.comparison.is_text.Goals as goal
 

@@ -1,4 +1,4 @@
-use Rattle.std.proofs.Common.{refl, arith}
+use Rattle.iri_normal.proofs.Common.{refl, arith}
 use Rattle.iri_normal.proofs.SegmentLemmas.{nothing-plain}
 use Rattle.iri_normal.proofs.NextLemmas.{found, none-there, pass-plain, pass-slash}
 use Rattle.iri_normal.proofs.dots.next_dots.Goals as goal

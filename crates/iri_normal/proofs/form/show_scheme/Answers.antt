@@ -1,15 +1,14 @@
-use Rattle.iri_normal.proofs.Common.{◌∷◌, [], subst, shows_exit, shows_then, Shows, lowered}
+use Rattle.iri_normal.proofs.Common.{◌∷◌, [], shows_exit, shows_then, lowered}
 use Rattle.iri_normal.proofs.FormLemmas.{scheme-in}
+use Rattle.iri_normal.proofs.ShownTexts.{shows_same}
 use Rattle.iri_normal.proofs.form.show_scheme.Goals as goal
 
 pub returns-in_err-show_scheme_name : goal.returns-in_err-show_scheme_name
 returns-in_err-show_scheme_name g c =
-    subst (λ t. Shows g.W.TextSink.puts g.W.TextSink.halts g.W.TextSink.stops c.args.sink.now t c.show_scheme_name.new.sink c.from_residual.result)
-    (scheme-in c.args.normal lowered c.args.scheme c.in-Some.scheme c.in-Some.is)
+    shows_same (scheme-in c.args.normal lowered c.args.scheme c.in-Some.scheme c.in-Some.is)
     (shows_exit g.met.W.TextSink.rules (58 ∷ []) c.from_residual.ensures.0 c.in_err-show_scheme_name.ensures)
 
 pub returns : goal.returns
 returns g c =
-    subst (λ t. Shows g.W.TextSink.puts g.W.TextSink.halts g.W.TextSink.stops c.args.sink.now t c.put.new.self c.put.result)
-    (scheme-in c.args.normal lowered c.args.scheme c.in-Some.scheme c.in-Some.is)
+    shows_same (scheme-in c.args.normal lowered c.args.scheme c.in-Some.scheme c.in-Some.is)
     (shows_then g.met.W.TextSink.rules c.in_ok-show_scheme_name.ensures c.put.ensures)

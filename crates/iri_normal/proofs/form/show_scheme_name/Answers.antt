@@ -1,5 +1,6 @@
-use Rattle.iri_normal.proofs.Common.{◌∙◌, cond, sym, subst, ap, Shows, normal_host, lowered}
+use Rattle.iri_normal.proofs.Common.{◌∙◌, cond, sym, ap, normal_host, lowered}
 use Rattle.iri_normal.proofs.FormLemmas.{scheme-host, scheme-lowered}
+use Rattle.iri_normal.proofs.ShownTexts.{shows_same}
 use Rattle.iri_normal.proofs.form.show_scheme_name.Goals as goal
 
 pub new-requires : goal.new-requires
@@ -8,6 +9,5 @@ new-requires g c = scheme-host g.S.Spec.tests c.args.scheme.now g.met.S.Spec.law
 pub returns-then-normal : goal.returns-then-normal
 returns-then-normal g c =
     let x = c.args.scheme.now in
-    subst (λ t. Shows g.W.TextSink.puts g.W.TextSink.halts g.W.TextSink.stops c.args.sink.now t c.show.new.sink c.show.result)
-    (ap (normal_host g.S.Spec.tests) c.new.ensures
+    shows_same (ap (normal_host g.S.Spec.tests) c.new.ensures
     ∙ (scheme-lowered g.S.Spec.tests x c.requires ∙ sym (ap (λ b. cond b (lowered x) x) c.if-normal.true))) c.show.ensures

@@ -1,11 +1,13 @@
 use Rattle.iri_normal.proofs.Common.{shown_none, shows_all, shows_exit, shows_then, Shows, is_path, pieces, path_char, path-whole, kept}
-use Rattle.iri_normal.proofs.Common.{in_form, ◌==◌, ends_at_slash}
-use Rattle.std.proofs.Common.{◌≡◌, ◌∙◌, ◌+◌, ◌<◌, ◌^◌, ◌||◌, Ok, true, length, length-append, sym, subst, ap, arith, rules}
+use Rattle.iri_normal.proofs.Common.{in_form, ◌==◌, ends_at_slash, ◌≡◌, ◌∙◌, ◌+◌, ◌<◌, ◌||◌, Ok, true, length, length-append, sym, subst}
+use Rattle.iri_normal.proofs.Common.{ap, arith}
+use Rattle.std.proofs.Common.{◌^◌, rules}
 use Rattle.iri_normal.proofs.EndedLemmas.{rest-ok}
 use Rattle.iri_normal.proofs.KeptLemmas.{kept-plain, one-segment}
 use Rattle.iri_normal.proofs.LongLemmas.{form-two}
 use Rattle.iri_normal.proofs.WriterLemmas.{form-nil}
 use Rattle.iri_normal.proofs.TargetLaws.{parts_over}
+use Rattle.iri_normal.proofs.ShownTexts.{shows_same}
 use Rattle.iri_normal.proofs.remove_dot_segments.+show_kept.Goals as goal
 
 pub show_part-requires : goal.show_part-requires
@@ -15,8 +17,7 @@ show_part-requires g t c =
 
 pub returns-then-stays : goal.returns-then-stays
 returns-then-stays g t c =
-    subst (λ x. Shows g.W.TextSink.puts g.W.TextSink.halts g.W.TextSink.stops c.args.sink.now x c.show_part.new.sink c.show_part.result)
-    (ap (in_form g.S.Spec.tests c.args.normal) (kept-plain c.args.text.now c.args.count (sym c.stays.ensures ∙ c.if-stays.true)))
+    shows_same (ap (in_form g.S.Spec.tests c.args.normal) (kept-plain c.args.text.now c.args.count (sym c.stays.ensures ∙ c.if-stays.true)))
     c.show_part.ensures
 
 pub show_kept-requires : goal.show_kept-requires
@@ -34,8 +35,7 @@ show_kept-requires g t c =
 
 pub returns-in_err-show_kept : goal.returns-in_err-show_kept
 returns-in_err-show_kept g t c =
-    subst (λ x. Shows g.W.TextSink.puts g.W.TextSink.halts g.W.TextSink.stops c.args.sink.now x c.show_kept.new.sink c.from_residual.result)
-    (form-two g.S.Spec.tests c.args.normal c.args.text.now c.in-Some.first.now c.in-Some.rest.now c.args.count c.taken.result
+    shows_same (form-two g.S.Spec.tests c.args.normal c.args.text.now c.in-Some.first.now c.in-Some.rest.now c.args.count c.taken.result
     c.in-Some.ensures c.taken.ensures.count)
     (shows_exit g.met.W.TextSink.rules (in_form g.S.Spec.tests c.args.normal
     (kept (pieces 47 c.in-Some.rest.now) c.args.count)) c.from_residual.ensures.0 c.in_err-show_kept.ensures)
@@ -57,8 +57,7 @@ show_kept-requires-2 g t c =
 
 pub returns : goal.returns
 returns g t c =
-    subst (λ x. Shows g.W.TextSink.puts g.W.TextSink.halts g.W.TextSink.stops c.args.sink.now x c.show_kept-2.new.sink c.show_kept-2.result)
-    (form-two g.S.Spec.tests c.args.normal c.args.text.now c.in-Some.first.now c.in-Some.rest.now c.args.count c.taken.result
+    shows_same (form-two g.S.Spec.tests c.args.normal c.args.text.now c.in-Some.first.now c.in-Some.rest.now c.args.count c.taken.result
     c.in-Some.ensures c.taken.ensures.count)
     (shows_then g.met.W.TextSink.rules c.in_ok-show_kept.ensures c.show_kept-2.ensures)
 

@@ -1,7 +1,7 @@
-use Rattle.iri_normal.proofs.Common.{◌≡◌, ◌∷◌, ◌∙◌, drop, true, sym, ap, subst, IsUtf8, pieces, Shows, whole_triplets, path-whole, kept}
-use Rattle.iri_normal.proofs.Common.{in_form}
+use Rattle.iri_normal.proofs.Common.{◌≡◌, ◌∷◌, ◌∙◌, drop, true, sym, ap, subst, IsUtf8, pieces, whole_triplets, path-whole, kept, in_form}
 use Rattle.iri_normal.proofs.KeptLemmas.{kept-path}
 use Rattle.iri_normal.proofs.LongLemmas.{path-utf8}
+use Rattle.iri_normal.proofs.ShownTexts.{shows_same}
 use Rattle.iri_normal.proofs.remove_dot_segments.show_few.Goals as goal
 
 pub text_of-requires-clause-utf8 : goal.text_of-requires-clause-utf8
@@ -22,5 +22,4 @@ show_part-requires g c =
 pub returns : goal.returns
 returns g c =
     let text = c.put_kept-len.ensures.text ∙ ap (λ l. 47 ∷ kept (pieces 47 l) c.args.count) c.as_bytes.ensures.value in
-    subst (λ x. Shows g.W.TextSink.puts g.W.TextSink.halts g.W.TextSink.stops c.args.sink.now x c.show_part.new.sink c.show_part.result)
-    (ap (in_form g.S.Spec.tests c.args.normal) (c.text_of.ensures ∙ ap (drop 1) text)) c.show_part.ensures
+    shows_same (ap (in_form g.S.Spec.tests c.args.normal) (c.text_of.ensures ∙ ap (drop 1) text)) c.show_part.ensures

@@ -1,7 +1,8 @@
-use Rattle.iri_normal.proofs.Common.{◌++◌, ◌∷◌, ◌∙◌, [], sym, subst, ap, shows_exit, shows_then, Shows, is_path, lacks, now_of, pieces}
+use Rattle.iri_normal.proofs.Common.{◌++◌, ◌∷◌, ◌∙◌, [], sym, ap, shows_exit, shows_then, is_path, lacks, now_of, pieces}
 use Rattle.iri_normal.proofs.Common.{path-whole, kept, in_form, popped_times}
 use Rattle.iri_normal.proofs.LongLemmas.{count-ends, first-path, form-three, more-ends, one-alone}
 use Rattle.iri_grammar.proofs.faults.Scans.{before-lacks}
+use Rattle.iri_normal.proofs.ShownTexts.{shows_same}
 use Rattle.iri_normal.proofs.remove_dot_segments.show_from_first.Goals as goal
 
 pub show_part-requires : goal.show_part-requires
@@ -10,8 +11,7 @@ show_part-requires g c = path-whole g.S.Spec.tests c.args.text.now g.met.S.Spec.
 pub returns-in_default : goal.returns-in_default
 returns-in_default g c =
     let e = sym c.cut.ensures.after ∙ ap now_of c.in_default.is in
-    subst (λ x. Shows g.W.TextSink.puts g.W.TextSink.halts g.W.TextSink.stops c.args.sink.now x c.show_part.new.sink c.show_part.result)
-    (ap (in_form g.S.Spec.tests c.args.normal) (one-alone c.args.text.now c.args.more.now e c.requires.plain c.requires.cut)) c.show_part.ensures
+    shows_same (ap (in_form g.S.Spec.tests c.args.normal) (one-alone c.args.text.now c.args.more.now e c.requires.plain c.requires.cut)) c.show_part.ensures
 
 pub show_first-requires-clause-path : goal.show_first-requires-clause-path
 show_first-requires-clause-path g c =
@@ -29,19 +29,17 @@ returns-in_err-show_first g c =
     let k = c.taken-count.result in
     let e = sym c.cut.ensures.after ∙ ap now_of c.in-Some.is in
     let tail = in_form s n (kept (pieces 47 c.in-Some.rest.now) k) ++ in_form s n (kept (pieces 47 c.args.more.now) 0) in
-    subst (λ x. Shows g.W.TextSink.puts g.W.TextSink.halts g.W.TextSink.stops c.args.sink.now x c.show_first.new.sink c.from_residual.result)
-    (ap (λ b. in_form s n (popped_times c.taken.result (b ++ 47 ∷ [])) ++ tail) c.cut.ensures.before
+    shows_same (ap (λ b. in_form s n (popped_times c.taken.result (b ++ 47 ∷ [])) ++ tail) c.cut.ensures.before
     ∙ form-three s n c.args.text.now c.in-Some.rest.now c.args.more.now c.taken.result k e c.requires.plain c.requires.cut
     c.taken-count.ensures.count c.taken.ensures.count)
     (shows_exit g.met.W.TextSink.rules tail c.from_residual.ensures.0 c.in_err-show_first.ensures)
 
 pub show_kept-requires-clause-ends : goal.show_kept-requires-clause-ends
 show_kept-requires-clause-ends g c =
-    let t = c.args.text.now in
     let r = c.in-Some.rest.now in
     let m = c.args.more.now in
     let e = sym c.cut.ensures.after ∙ ap now_of c.in-Some.is in
-    count-ends m r c.taken-count.result c.taken-count.ensures.count (more-ends t m r e c.requires.cut)
+    count-ends m r c.taken-count.result c.taken-count.ensures.count (more-ends c.args.text.now m r e c.requires.cut)
 
 pub show_kept-requires-clause-path : goal.show_kept-requires-clause-path
 show_kept-requires-clause-path g c =
@@ -56,9 +54,7 @@ returns-in_err-show_kept g c =
     let e = sym c.cut.ensures.after ∙ ap now_of c.in-Some.is in
     let last = in_form s n (kept (pieces 47 c.args.more.now) 0) in
     let tail = in_form s n (kept (pieces 47 c.in-Some.rest.now) k) ++ last in
-    subst (λ x. Shows g.W.TextSink.puts g.W.TextSink.halts g.W.TextSink.stops c.args.sink.now x c.show_kept.new.sink
-    c.from_residual-in_err-show_kept.result)
-    (ap (λ b. in_form s n (popped_times c.taken.result (b ++ 47 ∷ [])) ++ tail) c.cut.ensures.before
+    shows_same (ap (λ b. in_form s n (popped_times c.taken.result (b ++ 47 ∷ [])) ++ tail) c.cut.ensures.before
     ∙ form-three s n c.args.text.now c.in-Some.rest.now c.args.more.now c.taken.result k e c.requires.plain c.requires.cut
     c.taken-count.ensures.count c.taken.ensures.count)
     (shows_then g.met.W.TextSink.rules c.in_ok-show_first.ensures
@@ -71,8 +67,7 @@ returns g c =
     let k = c.taken-count.result in
     let e = sym c.cut.ensures.after ∙ ap now_of c.in-Some.is in
     let tail = in_form s n (kept (pieces 47 c.in-Some.rest.now) k) ++ in_form s n (kept (pieces 47 c.args.more.now) 0) in
-    subst (λ x. Shows g.W.TextSink.puts g.W.TextSink.halts g.W.TextSink.stops c.args.sink.now x c.show_kept-2.new.sink c.show_kept-2.result)
-    (ap (λ b. in_form s n (popped_times c.taken.result (b ++ 47 ∷ [])) ++ tail) c.cut.ensures.before
+    shows_same (ap (λ b. in_form s n (popped_times c.taken.result (b ++ 47 ∷ [])) ++ tail) c.cut.ensures.before
     ∙ form-three s n c.args.text.now c.in-Some.rest.now c.args.more.now c.taken.result k e c.requires.plain c.requires.cut
     c.taken-count.ensures.count c.taken.ensures.count)
     (shows_then g.met.W.TextSink.rules c.in_ok-show_first.ensures

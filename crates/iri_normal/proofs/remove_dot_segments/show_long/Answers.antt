@@ -1,5 +1,6 @@
-use Rattle.iri_normal.proofs.Common.{◌≡◌, ◌<◌, length, subst, ap, arith, nat_tests, Shows, in_form}
+use Rattle.iri_normal.proofs.Common.{◌≡◌, ◌<◌, length, ap, arith, nat_tests, in_form}
 use Rattle.iri_normal.proofs.LongLemmas.{cut-after, dots-base, dots-reference, path-parts}
+use Rattle.iri_normal.proofs.ShownTexts.{shows_same}
 use Rattle.iri_normal.proofs.remove_dot_segments.show_long.Goals as goal
 
 pub without_first_dots-base-requires : goal.without_first_dots-base-requires
@@ -15,8 +16,7 @@ returns-then-is_empty g c =
     let p = c.args.path.now in
     let base = c.without_first_dots-base in
     let none : length base.result.now ≡ 0 = grind (arith, nat_tests) in
-    subst (λ x. Shows g.W.TextSink.puts g.W.TextSink.halts g.W.TextSink.stops c.args.sink.now x c.show_from_first.new.sink c.show_from_first.result)
-    (ap (in_form g.S.Spec.tests c.args.normal) (dots-reference p.base.now p.reference.now base.result.now
+    shows_same (ap (in_form g.S.Spec.tests c.args.normal) (dots-reference p.base.now p.reference.now base.result.now
     c.without_first_dots-reference.result.now p.cut none base.ensures.same c.without_first_dots-reference.ensures.same))
     c.show_from_first.ensures
 
@@ -36,6 +36,5 @@ pub returns : goal.returns
 returns g c =
     let p = c.args.path.now in
     let base = c.without_first_dots-base in
-    subst (λ x. Shows g.W.TextSink.puts g.W.TextSink.halts g.W.TextSink.stops c.args.sink.now x c.show_from_first-2.new.sink c.show_from_first-2.result)
-    (ap (in_form g.S.Spec.tests c.args.normal) (dots-base p.base.now p.reference.now base.result.now p.cut base.ensures.same))
+    shows_same (ap (in_form g.S.Spec.tests c.args.normal) (dots-base p.base.now p.reference.now base.result.now p.cut base.ensures.same))
     c.show_from_first-2.ensures

@@ -7,15 +7,13 @@ use Rattle.iri_normal.proofs.remove_dot_segments.show_short.Goals as goal
 
 pub text_of-requires-clause-utf8 : goal.text_of-requires-clause-utf8
 text_of-requires-clause-utf8 g c =
-    let s = g.S.Spec.tests in
     let p = merged c.args.path.now in
     subst IsUtf8 (sym (rw (c.as_bytes.ensures.value, c.as_bytes-2.ensures.value) at c.put_path-len.ensures.text))
-    (path-utf8 s (dots p) (dots-over _ p (slash_in_path s) c.requires.path))
+    (path-utf8 g.S.Spec.tests (dots p) (dots-over _ p (slash_in_path g.S.Spec.tests) c.requires.path))
 
 pub show_part-requires : goal.show_part-requires
 show_part-requires g c =
-    let s = g.S.Spec.tests in
     let p = merged c.args.path.now in
     subst (λ l. whole_triplets l ≡ true)
     (sym (c.text_of.ensures ∙ rw (c.as_bytes.ensures.value, c.as_bytes-2.ensures.value) at c.put_path-len.ensures.text))
-    (dots_whole s g.met.S.Spec.lawful p c.requires.path)
+    (dots_whole g.S.Spec.tests g.met.S.Spec.lawful p c.requires.path)

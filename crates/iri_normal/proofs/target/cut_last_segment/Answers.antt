@@ -16,23 +16,18 @@ range_from-requires c _ =
 pub returns-in-Some-clause-ends : goal.returns-in-Some-clause-ends
 returns-in-Some-clause-ends c =
     let directory = last_slash c.args.path.now c.in-Some.i c.in-Some.ensures in
-    let value = c.range.ensures.value in
     let same : c.range.result.now ≡ to_last_slash c.args.path.now = grind (arith, common_steps) in
     subst (λ t. ends_at_slash t ≡ true) (sym same) (ends c.args.path.now)
 
 pub returns-in-Some-clause-directory : goal.returns-in-Some-clause-directory
 returns-in-Some-clause-directory c =
     let directory = last_slash c.args.path.now c.in-Some.i c.in-Some.ensures in
-    let value = c.range.ensures.value in
     grind (arith, common_steps)
 
 pub returns-in-Some-clause-last : goal.returns-in-Some-clause-last
 returns-in-Some-clause-last c =
-    let t = c.args.path.now in
-    let i = c.in-Some.i in
-    let value = c.range_from.ensures.value in
-    let same : c.range_from.result.now ≡ drop (i + 1) t = grind (arith, common_steps) in
-    same ∙ after_slash t i c.in-Some.ensures
+    let same : c.range_from.result.now ≡ drop (c.in-Some.i + 1) c.args.path.now = grind (arith, common_steps) in
+    same ∙ after_slash c.args.path.now c.in-Some.i c.in-Some.ensures
 
 pub returns-in-None-clause-directory : goal.returns-in-None-clause-directory
 returns-in-None-clause-directory c = (no_slash c.args.path.now c.in-None.ensures).1

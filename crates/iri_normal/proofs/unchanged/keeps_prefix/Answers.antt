@@ -1,10 +1,9 @@
 use Rattle.iri_normal.proofs.PlainReferences.{none-noted, plain-prefix}
-use Rattle.iri_grammar.specs.Splitters.{parts}
+use Rattle.iri_normal.proofs.Common.{parts}
 use Rattle.iri_normal.proofs.unchanged.keeps_prefix.Goals as goal
 
 pub returns : goal.returns
 returns g c h =
-    let n = c.seen-seen.result in
-    let k = none-noted n.capitals n.other_authority h in
+    let k = none-noted c.seen-seen.result.capitals c.seen-seen.result.other_authority h in
     let p = c.seen-seen.ensures.promises in
     plain-prefix g.S.Spec.tests (parts c.args.reference.now) c.requires (p.4 k.0).0 (p.4 k.0).1 (p.5 k.1)

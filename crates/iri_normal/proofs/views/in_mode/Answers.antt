@@ -5,8 +5,7 @@ use Rattle.iri_normal.proofs.views.in_mode.Goals as goal
 pub new-requires : goal.new-requires
 new-requires g c =
     let s = g.S.Spec.tests in
-    let x = c.args.view.text.now in
-    let none : g.K.Kind.fault s x ≡ None = ∥∥₁_elim c.args.view.valid (hlevel props) (λ e. e) in
+    let none : g.K.Kind.fault s c.args.view.text.now ≡ None = ∥∥₁_elim c.args.view.valid (hlevel props) (λ e. e) in
     let parts = c.of-target.ensures.parts in
-    view-sound s g.K.Kind.fault c.of-target.result x (parts ∙ (c.parts.ensures.split ∙ ap split_of c.of-split.ensures))
+    view-sound s g.K.Kind.fault c.of-target.result c.args.view.text.now (parts ∙ (c.parts.ensures.split ∙ ap split_of c.of-split.ensures))
     (subst (Fits s) (sym parts) c.parts.ensures.fits) none

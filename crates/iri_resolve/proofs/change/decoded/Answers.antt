@@ -12,21 +12,18 @@ pub overflow_add-i : goal.overflow_add-i
 overflow_add-i g c =
     let p = place g.S.Spec.tests c.args.i (string_bytes c.args.text.now) c.in-Some.c
     (ap (λ t. decoded g.S.Spec.tests (octets (drop c.args.i t))) (sym c.as_bytes.ensures.value) ∙ sym c.spelled_at.ensures ∙ c.in-Some.is) in
-    let w = p.within in
-    omega (arith, w, c.len_utf8.ensures.value, ap length c.as_bytes.ensures.value)
+    omega (arith, p.within, c.len_utf8.ensures.value, ap length c.as_bytes.ensures.value)
 
 pub replace_range-requires-clause-in_bounds : goal.replace_range-requires-clause-in_bounds
 replace_range-requires-clause-in_bounds g c =
     let p = place g.S.Spec.tests c.args.i (string_bytes c.args.text.now) c.in-Some.c
     (ap (λ t. decoded g.S.Spec.tests (octets (drop c.args.i t))) (sym c.as_bytes.ensures.value) ∙ sym c.spelled_at.ensures ∙ c.in-Some.is) in
-    let w = p.within in
-    omega (arith, w, c.len_utf8.ensures.value, c.as_bytes.ensures.len, ap length c.as_bytes.ensures.value)
+    omega (arith, p.within, c.len_utf8.ensures.value, c.as_bytes.ensures.len, ap length c.as_bytes.ensures.value)
 
 pub replace_range-requires-clause-start_boundary : goal.replace_range-requires-clause-start_boundary
 replace_range-requires-clause-start_boundary g c =
     let p = place g.S.Spec.tests c.args.i (string_bytes c.args.text.now) c.in-Some.c
     (ap (λ t. decoded g.S.Spec.tests (octets (drop c.args.i t))) (sym c.as_bytes.ensures.value) ∙ sym c.spelled_at.ensures ∙ c.in-Some.is) in
-    let l = p.inside in
     (omega arith, λ _ _ h. absurd (omega (arith, h, p.first)))
 
 pub replace_range-requires-clause-end_boundary : goal.replace_range-requires-clause-end_boundary

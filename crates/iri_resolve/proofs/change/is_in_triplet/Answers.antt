@@ -1,4 +1,4 @@
-use Rattle.std.proofs.Common.{◌||◌, sym, ◌∙◌, ap}
+use Rattle.iri_resolve.proofs.Common.{◌||◌, sym, ◌∙◌, ap}
 use Rattle.iri_resolve.specs.inside.LookBack.{percent_before}
 use Rattle.iri_resolve.proofs.LookBack.{looked-back}
 use Rattle.iri_resolve.proofs.change.is_in_triplet.Goals as goal

@@ -8,13 +8,12 @@ use Rattle.iri_resolve.proofs.component_steps.push_component.Goals as goal
 
 pub prefixes-init : goal.prefixes-init
 prefixes-init g c =
-    let s = g.S.Spec.tests in
     let same = c.as_bytes-rest.ensures.value in
-    let steps = component_steps s c.args.part c.args.lower 0 c.args.start in
+    let steps = component_steps g.S.Spec.tests c.args.part c.args.lower 0 c.args.start in
     record {
       steps = subst (λ t. Going g.T.StepSink.puts g.T.StepSink.stops c.args.sink.now (steps c.args.text.now) (steps t) c.args.sink.now) (sym same)
           (going g.met.T.StepSink.rules c.args.sink.now (steps c.args.text.now));
-      place = ap (λ t. c.args.start + length (normal s (case_of c.args.lower) t)) same;
+      place = ap (λ t. c.args.start + length (normal g.S.Spec.tests (case_of c.args.lower) t)) same;
       room = omega (arith, ap length same);
       whole = ap whole_triplets same ∙ c.requires.whole;
     }

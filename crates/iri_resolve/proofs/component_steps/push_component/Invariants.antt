@@ -1,4 +1,4 @@
-use Rattle.std.proofs.Common.{length}
+use Rattle.iri_resolve.proofs.Common.{length}
 use Rattle.iri_resolve.proofs.ComponentLemmas.{Walked}
 use Rattle.iri_resolve.proofs.component_steps.push_component.Given as goal
 

@@ -1,4 +1,4 @@
-use Rattle.std.proofs.Common.{arith}
+use Rattle.iri_resolve.proofs.Common.{arith}
 use Rattle.iri_percent.proofs.forms.Changes.{triplet_room}
 use Rattle.iri_resolve.proofs.component_steps.push_prefix.Goals as goal
 

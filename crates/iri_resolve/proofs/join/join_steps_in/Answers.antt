@@ -1,4 +1,4 @@
-use Rattle.std.proofs.Common.{sym, ◌∙◌}
+use Rattle.iri_resolve.proofs.Common.{sym, ◌∙◌}
 use Rattle.iri_resolve.proofs.JoinLemmas.{apart, to-one}
 use Rattle.iri_resolve.proofs.join.join_steps_in.Goals as goal
 

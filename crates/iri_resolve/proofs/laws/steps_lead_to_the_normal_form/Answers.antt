@@ -1,4 +1,4 @@
-use Rattle.iri_resolve.specs.NormalSteps.{steps_of}
+use Rattle.iri_resolve.proofs.Common.{steps_of}
 use Rattle.iri_resolve.proofs.SchemeSteps.{normal_in-leads}
 use Rattle.iri_resolve.proofs.laws.steps_lead_to_the_normal_form.Goals as goal
 

@@ -1,9 +1,10 @@
 use Rattle.iri_resolve.proofs.Common.{◌++◌, length, refl, sym, ◌∙◌, ap, subst, FitsAuthority, is_authority, userinfo_text, if_there}
 use Rattle.iri_resolve.proofs.Common.{is_userinfo, is_host, now_of, normal_userinfo, whole_triplets, part_whole, reads, userinfo-whole}
-use Rattle.iri_resolve.proofs.Common.{shows_exit, shows_then, Shows}
+use Rattle.iri_resolve.proofs.Common.{shows_exit, shows_then}
 use Rattle.iri_grammar.specs.Spans.{span_parts}
 use Rattle.iri_resolve.specs.NormalSteps.{authority_steps, host_steps, port_steps, steps_there}
 use Rattle.iri_resolve.proofs.NormalStepLemmas.{authority-pushed}
+use Rattle.iri_normal.proofs.ShownTexts.{shows_same}
 use Rattle.iri_resolve.proofs.part_steps.push_authority.Goals as goal
 
 pub push_userinfo-requires : goal.push_userinfo-requires
@@ -25,8 +26,7 @@ pub returns-in_err-start : goal.returns-in_err-start
 returns-in_err-start g c =
     let s = g.S.Spec.tests in
     let p = span_parts c.of-span.result in
-    subst (λ z. Shows g.T.StepSink.puts g.T.StepSink.halts g.T.StepSink.stops c.args.sink.now z c.push_userinfo.new.sink c.from_residual.result)
-    (authority-pushed s c.in-Some.authority.now p (length (userinfo_text (normal_userinfo s (now_of c.userinfo.result)))) (now_of c.userinfo.result) p.port p.host
+    shows_same (authority-pushed s c.in-Some.authority.now p (length (userinfo_text (normal_userinfo s (now_of c.userinfo.result)))) (now_of c.userinfo.result) p.port p.host
     c.of-span.ensures c.userinfo.ensures refl refl refl ∙ sym (ap (λ o. steps_there (authority_steps s) (now_of o)) c.in-Some.is))
     (shows_exit g.met.T.StepSink.rules (host_steps s (length (userinfo_text (normal_userinfo s (now_of c.userinfo.result)))) p.host ++ port_steps p.port)
     c.from_residual.ensures.0 c.in_err-start.ensures.steps)
@@ -35,8 +35,7 @@ pub returns-in_err-push_host : goal.returns-in_err-push_host
 returns-in_err-push_host g c =
     let s = g.S.Spec.tests in
     let p = span_parts c.of-span.result in
-    subst (λ z. Shows g.T.StepSink.puts g.T.StepSink.halts g.T.StepSink.stops c.args.sink.now z c.push_host.new.sink c.from_residual-in_err-push_host.result)
-    (authority-pushed s c.in-Some.authority.now p c.in_ok-start.start (now_of c.userinfo.result) p.port c.host.result.now
+    shows_same (authority-pushed s c.in-Some.authority.now p c.in_ok-start.start (now_of c.userinfo.result) p.port c.host.result.now
     c.of-span.ensures c.userinfo.ensures c.host.ensures refl c.in_ok-start.ensures.place
     ∙ sym (ap (λ o. steps_there (authority_steps s) (now_of o)) c.in-Some.is))
     (shows_then g.met.T.StepSink.rules c.in_ok-start.ensures.steps
@@ -46,8 +45,7 @@ pub returns : goal.returns
 returns g c =
     let s = g.S.Spec.tests in
     let p = span_parts c.of-span.result in
-    subst (λ z. Shows g.T.StepSink.puts g.T.StepSink.halts g.T.StepSink.stops c.args.sink.now z c.push_port.new.sink c.push_port.result)
-    (authority-pushed s c.in-Some.authority.now p c.in_ok-start.start (now_of c.userinfo.result) (now_of c.port.result) c.host.result.now
+    shows_same (authority-pushed s c.in-Some.authority.now p c.in_ok-start.start (now_of c.userinfo.result) (now_of c.port.result) c.host.result.now
     c.of-span.ensures c.userinfo.ensures c.host.ensures c.port.ensures c.in_ok-start.ensures.place
     ∙ sym (ap (λ o. steps_there (authority_steps s) (now_of o)) c.in-Some.is))
     (shows_then g.met.T.StepSink.rules c.in_ok-start.ensures.steps

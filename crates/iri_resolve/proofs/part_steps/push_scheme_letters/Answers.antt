@@ -1,5 +1,5 @@
-use Rattle.iri_resolve.proofs.Common.{◌<◌, ◌+◌, ◌++◌, length, ◌∙◌, ap, arith, sym, drop, slice_index, scheme_steps}
-use Rattle.iri_resolve.specs.NormalSteps.{scheme_letter_steps}
+use Rattle.iri_resolve.proofs.Common.{is_ascii_uppercase, SchemeLetter, step_if, ◌<◌, ◌+◌, ◌++◌, length, ◌∙◌, ap, arith, sym, drop}
+use Rattle.iri_resolve.proofs.Common.{slice_index, scheme_steps}
 use Rattle.iri_resolve.proofs.Going.{all_gone, going, going_on, gone_wrong}
 use Rattle.iri_resolve.proofs.NormalStepLemmas.{next-letter, no-letters}
 use Rattle.iri_resolve.proofs.part_steps.push_scheme_letters.Goals as goal
@@ -12,9 +12,9 @@ loop-i-preserved g c =
     let w = c.args.scheme.now in
     let i = c.loop-i.i in
     let low : i < length w = omega (arith, c.loop-i-test.true, ap length c.as_bytes-letters.ensures.value) in
-    going_on g.met.T.StepSink.rules (scheme_steps i (drop i w)) (scheme_letter_steps i (slice_index c.as_bytes-letters.result.now i))
+    going_on g.met.T.StepSink.rules (scheme_steps i (drop i w)) (step_if (is_ascii_uppercase (slice_index c.as_bytes-letters.result.now i)) (SchemeLetter i))
     (scheme_steps (i + 1) (drop (i + 1) w))
-    (next-letter w i low ∙ ap (λ t. scheme_letter_steps i (slice_index t i) ++ scheme_steps (i + 1) (drop (i + 1) w)) (sym c.as_bytes-letters.ensures.value))
+    (next-letter w i low ∙ ap (λ t. step_if (is_ascii_uppercase (slice_index t i)) (SchemeLetter i) ++ scheme_steps (i + 1) (drop (i + 1) w)) (sym c.as_bytes-letters.ensures.value))
     c.loop-i.invariant c.in_ok-push_scheme_letter.ensures
 
 pub returns-in_err-push_scheme_letter : goal.returns-in_err-push_scheme_letter
@@ -22,14 +22,13 @@ returns-in_err-push_scheme_letter g c =
     let w = c.args.scheme.now in
     let i = c.loop-i.i in
     let low : i < length w = omega (arith, c.loop-i-test.true, ap length c.as_bytes-letters.ensures.value) in
-    gone_wrong g.met.T.StepSink.rules (scheme_steps i (drop i w)) (scheme_letter_steps i (slice_index c.as_bytes-letters.result.now i))
+    gone_wrong g.met.T.StepSink.rules (scheme_steps i (drop i w)) (step_if (is_ascii_uppercase (slice_index c.as_bytes-letters.result.now i)) (SchemeLetter i))
     (scheme_steps (i + 1) (drop (i + 1) w))
-    (next-letter w i low ∙ ap (λ t. scheme_letter_steps i (slice_index t i) ++ scheme_steps (i + 1) (drop (i + 1) w)) (sym c.as_bytes-letters.ensures.value))
+    (next-letter w i low ∙ ap (λ t. step_if (is_ascii_uppercase (slice_index t i)) (SchemeLetter i) ++ scheme_steps (i + 1) (drop (i + 1) w)) (sym c.as_bytes-letters.ensures.value))
     c.from_residual.ensures.0 c.loop-i.invariant c.in_err-push_scheme_letter.ensures
 
 pub returns : goal.returns
 returns g c =
-    let w = c.args.scheme.now in
     let low = c.loop-i-test.false in
-    all_gone g.met.T.StepSink.rules (scheme_steps c.loop-i.i (drop c.loop-i.i w))
-    (no-letters w c.loop-i.i (omega (arith, low, ap length c.as_bytes-letters.ensures.value))) c.loop-i.invariant
+    all_gone g.met.T.StepSink.rules (scheme_steps c.loop-i.i (drop c.loop-i.i c.args.scheme.now))
+    (no-letters c.args.scheme.now c.loop-i.i (omega (arith, low, ap length c.as_bytes-letters.ensures.value))) c.loop-i.invariant

@@ -1,4 +1,4 @@
-use Rattle.std.proofs.lemmas.Result.{IfOk-weaker}
+use Rattle.iri_resolve.proofs.Common.{IfOk-weaker}
 use Rattle.iri_resolve.proofs.ReachedLemmas.{slash-reached}
 use Rattle.iri_resolve.proofs.take_step.slash_step.Goals as goal
 

@@ -28,18 +28,16 @@ returns-in-EmptyPort g c =
 pub returns-in-HexDigit : goal.returns-in-HexDigit
 returns-in-HexDigit g c =
     let s = g.S.Spec.tests in
-    let r = c.args.reached.now in
     subst (λ o. IfOk c.triplet_step.result (λ b. Reaches s o b c.triplet_step.new.reached))
-    (digit-placed s c.args.mode (parts_of r) c.in-HexDigit.part c.in-HexDigit.i
-    ∙ ap (step_in s c.args.mode (parts_of r)) (sym c.in-HexDigit.is)) c.triplet_step.ensures
+    (digit-placed s c.args.mode (parts_of c.args.reached.now) c.in-HexDigit.part c.in-HexDigit.i
+    ∙ ap (step_in s c.args.mode (parts_of c.args.reached.now)) (sym c.in-HexDigit.is)) c.triplet_step.ensures
 
 pub returns-in-Decode : goal.returns-in-Decode
 returns-in-Decode g c =
     let s = g.S.Spec.tests in
-    let r = c.args.reached.now in
     subst (λ o. IfOk c.triplet_step-in-Decode.result (λ b. Reaches s o b c.triplet_step-in-Decode.new.reached))
-    (decode-placed s c.args.mode (parts_of r) c.in-Decode.part c.in-Decode.i
-    ∙ ap (step_in s c.args.mode (parts_of r)) (sym c.in-Decode.is)) c.triplet_step-in-Decode.ensures
+    (decode-placed s c.args.mode (parts_of c.args.reached.now) c.in-Decode.part c.in-Decode.i
+    ∙ ap (step_in s c.args.mode (parts_of c.args.reached.now)) (sym c.in-Decode.is)) c.triplet_step-in-Decode.ensures
 
 pub returns-in-Dots : goal.returns-in-Dots
 unfolding step_in

@@ -1,4 +1,4 @@
-use Rattle.std.proofs.Common.{arith}
+use Rattle.iri_normal.proofs.Common.{arith}
 use Rattle.iri_normal.proofs.OutputLemmas.{popped-some, popped-none}
 use Rattle.iri_normal.proofs.remove_dot_segments.output_buffer.pop.Goals as goal
 

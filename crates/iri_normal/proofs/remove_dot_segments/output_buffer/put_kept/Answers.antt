@@ -11,17 +11,15 @@ put-all-requires-clause-ends c =
 
 pub pop_times-requires-clause-ends : goal.pop_times-requires-clause-ends
 pop_times-requires-clause-ends c =
-    let t = c.args.text.now in
     ap (λ l. ends_at_slash l || c.args.count == 0)
-    (c.put-all.ensures.text ∙ ap (λ b. written b t) (first-slash c.args.buf.now (omega (arith, c.told-buf))))
-    ∙ put-ends (47 ∷ []) t c.args.count refl c.requires.ends
+    (c.put-all.ensures.text ∙ ap (λ b. written b c.args.text.now) (first-slash c.args.buf.now (omega (arith, c.told-buf))))
+    ∙ put-ends (47 ∷ []) c.args.text.now c.args.count refl c.requires.ends
 
 pub returns-clause-text : goal.returns-clause-text
 returns-clause-text c =
-    let t = c.args.text.now in
     c.pop_times.ensures.text ∙ (ap (popped_times c.args.count)
-    (c.put-all.ensures.text ∙ ap (λ b. written b t) (first-slash c.args.buf.now (omega (arith, c.told-buf))))
-    ∙ after-slash t c.args.count c.requires.ends)
+    (c.put-all.ensures.text ∙ ap (λ b. written b c.args.text.now) (first-slash c.args.buf.now (omega (arith, c.told-buf))))
+    ∙ after-slash c.args.text.now c.args.count c.requires.ends)
 
 pub returns-clause-within : goal.returns-clause-within
 returns-clause-within c =

@@ -1,5 +1,5 @@
-use Rattle.std.proofs.Common.{◌≡◌, ◌≤◌, length, take}
-use Rattle.memchr.specs.Find.{Nowhere, Passes, is_byte}
+use Rattle.iri_normal.proofs.Common.{◌≡◌, ◌≤◌, length, take, is_byte}
+use Rattle.memchr.specs.Find.{Nowhere, Passes}
 use Rattle.iri_normal.proofs.remove_dot_segments.output_buffer.rfind_near.Given as goal
 
 -- no slash stands after what is left

@@ -1,5 +1,5 @@
 use Rattle.iri_normal.proofs.Common.{◌≡◌, ◌+◌, drop, take, sym, subst, arith, common_steps, lead_after_ascii}
-use Rattle.iri_normal.specs.inside.CutText.{IsCut}
+use Rattle.iri_normal.specs.inside.NextDots.{IsCut}
 use Rattle.iri_normal.proofs.LongLemmas.{cut-there}
 use Rattle.iri_normal.proofs.remove_dot_segments.segments.cut_eighth.Goals as goal
 
@@ -18,8 +18,6 @@ returns-in-Some c =
     let t = c.args.text.now in
     let i = c.in-Some.i in
     let h = rw c.as_bytes.ensures.value at c.in-Some.ensures in
-    let first_value = c.range.ensures.value in
-    let rest_value = c.range_from.ensures.value in
     let first : c.range.result.now ≡ take (i + 1) t = grind (arith, common_steps) in
     let rest : c.range_from.result.now ≡ drop (i + 1) t = grind (arith, common_steps) in
     subst (λ a. IsCut t a c.range_from.result.now) (sym first) (subst (λ b. IsCut t (take (i + 1) t) b) (sym rest) (cut-there t i h.0 h.1))

@@ -1,4 +1,4 @@
-use Rattle.std.proofs.Common.{arith}
+use Rattle.iri_normal.proofs.Common.{arith}
 use Rattle.iri_normal.proofs.LongLemmas.{slash-before-end}
 use Rattle.iri_normal.proofs.remove_dot_segments.segments.slash_to_cut.Goals as goal
 

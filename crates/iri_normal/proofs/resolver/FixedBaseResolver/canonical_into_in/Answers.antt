@@ -20,24 +20,18 @@ truncate-requires g c =
     λ _. seam (string_bytes c.args.dest.now) (string_bytes c.append.new.dest) p.prefix (length c.as_str-len.result.now) p.appended
     (ap length c.as_str-len.ensures.value) (IsUtf8-string_bytes c.args.dest.now) (IsUtf8-string_bytes c.append.new.dest)
 
-canonical_valid : (s : Tests) → IsSpec s → (mode : CanonMode) (b r : List ℕ) → absolute_fault s b ≡ None → reference_fault s r ≡ None
-    → iri_fault s (canonical_in s mode b r) ≡ None
+canonical_valid : (s : Tests) → IsSpec s → (mode : CanonMode) (b r : List ℕ) → ∥ absolute_fault s b ≡ None ∥₁
+    → ∥ reference_fault s r ≡ None ∥₁ → iri_fault s (canonical_in s mode b r) ≡ None
 canonical_valid s l mode b r hb hr =
+    let base : absolute_fault s b ≡ None = ∥∥₁_elim hb (hlevel props) (λ e. e) in
+    let reference : reference_fault s r ≡ None = ∥∥₁_elim hr (hlevel props) (λ e. e) in
     (iri-law s l (canonical_in s mode b r)).1
-    (canonical_in-iri s mode b r l ((absolute-law s l b).0 hb) ((reference-law s l r).0 hr))
+    (canonical_in-iri s mode b r l ((absolute-law s l b).0 base) ((reference-law s l r).0 reference))
 
 pub returns-in-Ok-clause-valid : goal.returns-in-Ok-clause-valid
-returns-in-Ok-clause-valid g c =
-    let s = g.S.Spec.tests in
-    let base : absolute_fault s (base_text c.args.self.now) ≡ None = ∥∥₁_elim c.args.self.now.base.view.valid (hlevel props) (λ e. e) in
-    let reference : reference_fault s (split_text c.args.reference.now) ≡ None =
-    ∥∥₁_elim c.args.reference.now.view.valid (hlevel props) (λ e. e) in
-    canonical_valid s g.met.S.Spec.lawful c.args.mode (base_text c.args.self.now) (split_text c.args.reference.now) base reference
+returns-in-Ok-clause-valid g c = canonical_valid g.S.Spec.tests g.met.S.Spec.lawful c.args.mode (base_text c.args.self.now)
+    (split_text c.args.reference.now) c.args.self.now.base.view.valid c.args.reference.now.view.valid
 
 pub returns-in-Err-clause-valid : goal.returns-in-Err-clause-valid
-returns-in-Err-clause-valid g c =
-    let s = g.S.Spec.tests in
-    let base : absolute_fault s (base_text c.args.self.now) ≡ None = ∥∥₁_elim c.args.self.now.base.view.valid (hlevel props) (λ e. e) in
-    let reference : reference_fault s (split_text c.args.reference.now) ≡ None =
-    ∥∥₁_elim c.args.reference.now.view.valid (hlevel props) (λ e. e) in
-    canonical_valid s g.met.S.Spec.lawful c.args.mode (base_text c.args.self.now) (split_text c.args.reference.now) base reference
+returns-in-Err-clause-valid g c = canonical_valid g.S.Spec.tests g.met.S.Spec.lawful c.args.mode (base_text c.args.self.now)
+    (split_text c.args.reference.now) c.args.self.now.base.view.valid c.args.reference.now.view.valid

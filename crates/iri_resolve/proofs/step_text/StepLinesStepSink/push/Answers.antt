@@ -1,4 +1,4 @@
-use Rattle.std.proofs.Common.{refl}
+use Rattle.iri_resolve.proofs.Common.{refl}
 use Rattle.iri_resolve.specs.inside.StepSinkLaws.{line_put}
 use Rattle.iri_resolve.proofs.step_text.StepLinesStepSink.push.Goals as goal
 
