@@ -1,5 +1,5 @@
 -- How many bytes a form, a target and a canonical text have at most.
-use Rattle.iri_normal.specs.Target.{or_base}
+use Rattle.iri_normal.specs.Target.{or_base, target_query, merged}
 use Rattle.iri_normal.proofs.Common.{option_map, ◌≡◌, ℕ, ◌+◌, ◌≤◌, Bool, true, false, cond, ◌&&◌, ◌||◌, not, List, [], ◌∷◌, ◌++◌, Option}
 use Rattle.iri_normal.proofs.Common.{Some, None, length, map, refl, sym, ap, subst, arith, length-append, is_some, to_ascii_uppercase}
 use Rattle.iri_normal.proofs.Common.{to_ascii_lowercase, encode_utf8, length-map, Tests, IsSpec, unreserved, path_char, if_there}
@@ -10,13 +10,12 @@ use Rattle.iri_normal.proofs.Common.{normal, as_it_is, pct, is_ascii_host, is_dr
 use Rattle.iri_normal.proofs.Common.{normal_authority_parts_in, normal_authority, normal_authority_in, dropped_port, CanonMode, Scheme}
 use Rattle.iri_normal.proofs.Common.{authority_in, normal_nil, normal_plain, normal_lone, normal_char, Reading, done, plain, char, lone}
 use Rattle.iri_normal.proofs.Common.{read, lowered, is_dot_segment, is_two_dots, without_last, dots, target, target_under, target_path}
-use Rattle.iri_normal.proofs.Common.{merge_prefix, to_last_slash, becomes_slash, canonical_in, canonical_parts_in, form}
-use Rattle.iri_normal.proofs.Common.{normal_path, preserved_path, slash_or, Mode, Plain, Normal, Preserving, ByScheme, userinfo-whole}
-use Rattle.iri_normal.proofs.Common.{host-whole, path-whole, query-whole, fragment-whole}
+use Rattle.iri_normal.proofs.Common.{merge_prefix, to_last_slash, becomes_slash, canonical_in, canonical_parts_in, form, normal_path}
+use Rattle.iri_normal.proofs.Common.{preserved_path, slash_or, Mode, Plain, Normal, Preserving, ByScheme, userinfo-whole, host-whole}
+use Rattle.iri_normal.proofs.Common.{path-whole, query-whole, fragment-whole}
 use Rattle.iri_grammar.specs.Authority.{FitsAuthority, userinfo_text}
 use Rattle.iri_grammar.proofs.authorities.AuthorityLaws.{authority_recomposed}
 use Rattle.iri_percent.proofs.units.AtStart.{length-spelled}
-use Rattle.iri_normal.specs.Target.{target_query, merged}
 use Rattle.iri_normal.specs.NormalForm.{parts_with, plain_path}
 use Rattle.iri_normal.proofs.CanonLaws.{canonical_in-text}
 use Rattle.iri_normal.proofs.SchemeForm.{normal-is, normal_parts}

@@ -1,5 +1,5 @@
 -- The mapping and normal forms, targets and canonical texts: they may be done in either order.
-use Rattle.iri_normal.specs.Target.{or_base}
+use Rattle.iri_normal.specs.Target.{or_base, target_query, merged}
 use Rattle.iri_normal.proofs.Common.{◌≡◌, ℕ, Bool, true, false, cond, ◌&&◌, ◌||◌, List, [], ◌∷◌, ◌++◌, Option, Some, None, refl, sym, ◌∙◌}
 use Rattle.iri_normal.proofs.Common.{ap, subst, arith, ltb-true, nat_lt, is_some, IsSome, option_map, to_ascii_lowercase, list_all, encode}
 use Rattle.iri_normal.proofs.Common.{encode_ascii, low_scalar, Tests, IsSpec, reg_name_char, path_char, is_ascii_userinfo}
@@ -9,9 +9,9 @@ use Rattle.iri_normal.proofs.Common.{Parts, Fits, IsReference, IsAbsolute, recom
 use Rattle.iri_normal.proofs.Common.{split_is, IsText, ended, letter, is_ascii_host, is_dropped, normal_host, normal_userinfo}
 use Rattle.iri_normal.proofs.Common.{normal_port_in, normal_authority_parts_in, normal_authority_in, default_port, dropped_port, CanonMode}
 use Rattle.iri_normal.proofs.Common.{Default, Scheme, authority_in, as_it_is-case, lower-case, as_it_is, normal, pct, reg_name_percent}
-use Rattle.iri_normal.proofs.Common.{path_percent, dots, lowered, becomes_slash, canonical_in, normal_form_in, normal_path}
-use Rattle.iri_normal.proofs.Common.{slash_or, target, target_under, target_path, merge_prefix, to_last_slash, AuthorityParts}
-use Rattle.iri_normal.proofs.Common.{authority_parts, recompose_authority, is_authority}
+use Rattle.iri_normal.proofs.Common.{path_percent, dots, lowered, becomes_slash, canonical_in, normal_form_in, normal_path, slash_or}
+use Rattle.iri_normal.proofs.Common.{target, target_under, target_path, merge_prefix, to_last_slash, AuthorityParts, authority_parts}
+use Rattle.iri_normal.proofs.Common.{recompose_authority, is_authority}
 use Rattle.iri_grammar.specs.Authority.{FitsAuthority}
 use Rattle.iri_grammar.specs.Classes.{uri_tests, userinfo_char, query_char, fragment_char}
 use Rattle.iri_grammar.proofs.hosts.LiteralChars.{is_literal_char, ip_literal-chars}
@@ -28,7 +28,6 @@ use Rattle.iri_normal.proofs.HostLaws.{ascii-plains, ascii-spelled, ascii-triple
 use Rattle.iri_normal.proofs.CanonLaws.{canonical_in-text}
 use Rattle.iri_normal.proofs.SchemeForm.{normal-is, there-both, normal_parts}
 use Rattle.iri_normal.proofs.PathLaws.{dots-over}
-use Rattle.iri_normal.specs.Target.{target_query, merged}
 use Rattle.iri_normal.proofs.TargetLaws.{target-fits, slash_in_path}
 use Rattle.iri_normal.proofs.MapPaths.{mapped-last_slash, mapped-dots, mapped-guard}
 use Rattle.iri_normal.proofs.FormLaws.{lowered-chars}

@@ -1,7 +1,7 @@
 -- The segments of a path.
 use Rattle.iri_normal.proofs.Common.{◌≡◌, ℕ, Bool, true, false, cond, not, ◌&&◌, ◌||◌, List, [], ◌∷◌, ◌++◌, Option, Some, None, refl, sym}
-use Rattle.iri_normal.proofs.Common.{◌∙◌, ap, subst, arith, ◌==◌, nat_tests, or-true, or-false, lacks, by_test, both, pieces, onto}
-use Rattle.iri_normal.proofs.Common.{after_dot, is_dot_segment, is_all, is_one_dot, is_one_dot_after, is_two_dots}
+use Rattle.iri_normal.proofs.Common.{◌∙◌, ap, subst, arith, ◌==◌, nat_tests, or-false, lacks, by_test, both, pieces, onto, after_dot}
+use Rattle.iri_normal.proofs.Common.{is_dot_segment, is_all, is_one_dot, is_one_dot_after, is_two_dots}
 
 -- each of the texts lacks the slash
 abbrev pub all_lack : List (List ℕ) → Bool
@@ -105,20 +105,6 @@ dot_segment-lacks d h = by_rest (after_dot d) refl h
 pub dot_kinds : (d : List ℕ) → is_dot_segment d ≡ (is_one_dot d || is_two_dots d)
 unfolding is_dot_segment
 dot_kinds d = refl
-
-pub one_dot-is_not_two : (d : List ℕ) → is_one_dot d ≡ true → is_two_dots d ≡ false
-one_dot-is_not_two d h = by_rest (after_dot d) h
-  where
-    by_rest : (o : Option (List ℕ)) → is_all o ≡ true → is_one_dot_after o ≡ false
-    by_rest None k = cc
-    by_rest (Some []) k = refl
-    by_rest (Some (x ∷ xs)) k = cc
-
-pub one_dot-is_dot : (d : List ℕ) → is_one_dot d ≡ true → is_dot_segment d ≡ true
-one_dot-is_dot d h = dot_kinds d ∙ rw h refl
-
-pub two_dots-is_dot : (d : List ℕ) → is_two_dots d ≡ true → is_dot_segment d ≡ true
-two_dots-is_dot d h = dot_kinds d ∙ rw h (or-true (is_one_dot d))
 
 pub dot-is_one : (d : List ℕ) → is_dot_segment d ≡ true → is_two_dots d ≡ false → is_one_dot d ≡ true
 dot-is_one d h k = sym (or-false (is_one_dot d)) ∙ (ap (λ b. is_one_dot d || b) (sym k) ∙ (sym (dot_kinds d) ∙ h))

@@ -5,11 +5,9 @@ use Rattle.iri_normal.proofs.Common.{onto, more_pieces, pieces_cut, is_dot_segme
 use Rattle.std.proofs.Common.{◌↔◌}
 use Rattle.iri_grammar.specs.Cut.{from}
 use Rattle.iri_normal.specs.DotRemoval.{first_segment, Step, LeadsTo, IsWithoutDots}
-use Rattle.iri_normal.specs.DotRemoval.Step.{remove_prefix, replace_dot, replace_last_dot, replace_dots, replace_last_dots, remove_all}
-use Rattle.iri_normal.specs.DotRemoval.Step.{move_segment}
+use Rattle.iri_normal.specs.DotRemoval.Step.{remove_prefix, replace, replace_last, remove_all, move_segment}
 use Rattle.iri_normal.specs.DotRemoval.LeadsTo.{ended, onward}
-use Rattle.iri_normal.proofs.PieceLaws.{pieces-some, pieces-slash, pieces-whole, dot_segment-lacks, one_dot-is_dot, one_dot-is_not_two}
-use Rattle.iri_normal.proofs.PieceLaws.{two_dots-is_dot, dot-is_one, nothing-is_no_dot}
+use Rattle.iri_normal.proofs.PieceLaws.{pieces-some, pieces-slash, pieces-whole, dot_segment-lacks, nothing-is_no_dot}
 use Rattle.iri_normal.proofs.OutputLaws.{text_after, text_from, dots-text}
 
 -- what steps from an input and an output lead to
@@ -41,47 +39,29 @@ moved x xs output h =
 -- no step changes what is led to
 pub step-keeps : (i o j p : List ℕ) → Step i o j p → text_from o (pieces 47 i) ≡ text_from p (pieces 47 j)
 step-keeps i o j p (remove_prefix d h e f) = rw (e, pieces-slash d j (dot_segment-lacks d h), h, f) refl
-step-keeps i o j p (replace_dot d rest h e f g) =
+step-keeps i o j p (replace d rest h e f g) =
     let r = pieces-some rest in
-    let dot = one_dot-is_dot d h in
-    rw (e, f, g, pieces-slash d rest (dot_segment-lacks d dot), nothing-is_no_dot, dot, one_dot-is_not_two d h, r.whole) refl
-step-keeps i o j p (replace_last_dot d h e f g) =
-    let dot = one_dot-is_dot d h in rw (
-      e,
-      f,
-      g,
-      pieces-whole d (dot_segment-lacks d dot),
-      nothing-is_no_dot,
-      dot,
-      one_dot-is_not_two d h,
-    ) refl
-step-keeps i o j p (replace_dots d rest h e f g) =
-    let r = pieces-some rest in
-    let dot = two_dots-is_dot d h in
     rw (
       e,
       f,
       g,
-      pieces-slash d rest (dot_segment-lacks d dot),
+      pieces-slash d rest (dot_segment-lacks d h),
       nothing-is_no_dot,
-      dot,
       h,
       r.whole,
       append-nil o,
-      append-nil (without_last o),
+      append-nil (cond (is_two_dots d) (without_last o) o),
     ) refl
-step-keeps i o j p (replace_last_dots d h e f g) =
-    let dot = two_dots-is_dot d h in rw (
-      e,
-      f,
-      g,
-      pieces-whole d (dot_segment-lacks d dot),
-      nothing-is_no_dot,
-      dot,
-      h,
-      append-nil o,
-      append-nil (without_last o),
-    ) refl
+step-keeps i o j p (replace_last d h e f g) = rw (
+  e,
+  f,
+  g,
+  pieces-whole d (dot_segment-lacks d h),
+  nothing-is_no_dot,
+  h,
+  append-nil o,
+  append-nil (cond (is_two_dots d) (without_last o) o),
+) refl
 step-keeps i o j p (remove_all h f g) = rw (f, g, pieces-whole i (dot_segment-lacks i h), h) (sym (nothing_more o))
 step-keeps i o j p (move_segment x xs h e f g) = rw (e, f, g) (moved x xs o h)
 
@@ -109,39 +89,23 @@ progress_after : (xs output : List ℕ) (o : Option (List ℕ)) → after 47 xs 
     → Progress (47 ∷ xs) output
 progress_after xs output None e h =
     let whole : before 47 xs ≡ xs = sym (append-nil (before 47 xs)) ∙ (rw e at (joined 47 xs)) in
-    let l = some_byte xs (rw whole at h) in
-    elim (is_two_dots xs) as (λ b. is_two_dots xs ≡ b → Progress (47 ∷ xs) output) [
-      | true ↦ λ two. record {
-        next_input = 47 ∷ [];
-        next_output = without_last output;
-        step = replace_last_dots xs two refl refl refl;
-        shorter = omega arith;
-      }
-      | false ↦ λ n. record {
-        next_input = 47 ∷ [];
-        next_output = output;
-        step = replace_last_dot xs (dot-is_one xs (rw whole at h) n) refl refl refl;
-        shorter = omega arith;
-      }
-    ] refl
+    let dot : is_dot_segment xs ≡ true = rw whole at h in
+    let l = some_byte xs dot in
+    record {
+      next_input = 47 ∷ [];
+      next_output = cond (is_two_dots xs) (without_last output) output;
+      step = replace_last xs dot refl refl refl;
+      shorter = omega arith;
+    }
 progress_after xs output (Some r) e h =
     let d = before 47 xs in
     let whole : 47 ∷ xs ≡ 47 ∷ (d ++ 47 ∷ r) = ap (λ ys. 47 ∷ ys) (sym (rw e at (joined 47 xs))) in
-    let l : length (47 ∷ r) + 1 ≤ length (47 ∷ xs) = omega (arith, ap length whole, length-append d (47 ∷ r)) in
-    elim (is_two_dots d) as (λ b. is_two_dots d ≡ b → Progress (47 ∷ xs) output) [
-      | true ↦ λ two. record {
-        next_input = 47 ∷ r;
-        next_output = without_last output;
-        step = replace_dots d r two whole refl refl;
-        shorter = l;
-      }
-      | false ↦ λ n. record {
-        next_input = 47 ∷ r;
-        next_output = output;
-        step = replace_dot d r (dot-is_one d h n) whole refl refl;
-        shorter = l;
-      }
-    ] refl
+    record {
+      next_input = 47 ∷ r;
+      next_output = cond (is_two_dots d) (without_last output) output;
+      step = replace d r h whole refl refl;
+      shorter = omega (arith, ap length whole, length-append d (47 ∷ r));
+    }
 
 -- a dot segment at the start
 progress_prefix : (x : ℕ) (xs output : List ℕ) (o : Option (List ℕ)) → after 47 xs ≡ o → is_dot_segment (x ∷ before 47 xs) ≡ true

@@ -1,12 +1,11 @@
 -- The target of a reference against parts with a scheme fits and has a scheme.
-use Rattle.iri_normal.specs.Target.{or_base}
+use Rattle.iri_normal.specs.Target.{or_base, merged}
 use Rattle.iri_normal.proofs.Common.{◌≡◌, ℕ, Bool, true, false, cond, not, ◌&&◌, List, [], ◌∷◌, ◌++◌, Option, Some, None, refl, sym, ap}
 use Rattle.iri_normal.proofs.Common.{◌∙◌, arith, append_assoc, subst, ◌==◌, is_some, IsSome, and-false, or-true, not-true, Tests, path_char}
 use Rattle.iri_normal.proofs.Common.{is_ascii_path, is_ascii_pchar, is_ascii_reg_name, is_ascii_unreserved, is_sub_delim, text_over}
 use Rattle.iri_normal.proofs.Common.{if_there, is_path, is_query, lacks, before, both, Parts, Fits, path_rules, is_empty, starts_with_slash}
 use Rattle.iri_normal.proofs.Common.{starts_with_slashes, target, target_under, target_path, merge_prefix, to_last_slash, last_segment}
 use Rattle.iri_normal.proofs.Common.{ends_at_slash, text_over-append, nothing_over}
-use Rattle.iri_normal.specs.Target.{merged}
 use Rattle.iri_normal.proofs.EndedLemmas.{end_slash}
 use Rattle.iri_normal.proofs.SlashLemmas.{at_last_slash, ends, no_slashes}
 use Rattle.iri_normal.proofs.TextLaws.{text_over-cut, slash_over}

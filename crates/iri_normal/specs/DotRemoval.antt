@@ -2,7 +2,7 @@
 use Rattle.std.specs.Prelude.{◌≡◌, ℕ, Bool, true, false, cond, not, ◌||◌, ◌==◌, List, [], ◌∷◌, ◌++◌}
 use Rattle.iri_grammar.specs.Cut.{before, from, lacks}
 use Rattle.iri_grammar.specs.Pieces.{pieces}
-use Rattle.iri_normal.specs.Dots.{is_dot_segment, is_one_dot, is_two_dots}
+use Rattle.iri_normal.specs.Dots.{is_dot_segment, is_two_dots}
 use Rattle.iri_grammar.specs.Characters.{dot, slash}
 use Rattle.iri_grammar.specs.Parts.{starts_with_slashes}
 
@@ -20,16 +20,12 @@ pub data Step (input output next_input next_output : List ℕ) : Type 0 where
   -- A: a prefix `../` or `./` is removed from the input
   remove_prefix : (d : List ℕ) → is_dot_segment d ≡ true → input ≡ d ++ slash ∷ next_input → next_output ≡ output
       → Step input output next_input next_output
-  -- B: a prefix `/./`, or `/.` as the whole input, is replaced by `/`
-  replace_dot : (d rest : List ℕ) → is_one_dot d ≡ true → input ≡ slash ∷ (d ++ slash ∷ rest) → next_input ≡ slash ∷ rest
-      → next_output ≡ output → Step input output next_input next_output
-  replace_last_dot : (d : List ℕ) → is_one_dot d ≡ true → input ≡ slash ∷ d → next_input ≡ slash ∷ [] → next_output ≡ output
-      → Step input output next_input next_output
-  -- C: a prefix `/../`, or `/..` as the whole input, is replaced by `/`, and the output loses its last segment and the `/` before it
-  replace_dots : (d rest : List ℕ) → is_two_dots d ≡ true → input ≡ slash ∷ (d ++ slash ∷ rest) → next_input ≡ slash ∷ rest
-      → next_output ≡ without_last output → Step input output next_input next_output
-  replace_last_dots : (d : List ℕ) → is_two_dots d ≡ true → input ≡ slash ∷ d → next_input ≡ slash ∷ [] → next_output ≡ without_last output
-      → Step input output next_input next_output
+  -- B, C: a prefix `/./` or `/../`, or `/.` or `/..` as the whole input, is replaced by `/`; by `..` the output loses its last segment
+  -- and the `/` before it
+  replace : (d rest : List ℕ) → is_dot_segment d ≡ true → input ≡ slash ∷ (d ++ slash ∷ rest) → next_input ≡ slash ∷ rest
+      → next_output ≡ cond (is_two_dots d) (without_last output) output → Step input output next_input next_output
+  replace_last : (d : List ℕ) → is_dot_segment d ≡ true → input ≡ slash ∷ d → next_input ≡ slash ∷ []
+      → next_output ≡ cond (is_two_dots d) (without_last output) output → Step input output next_input next_output
   -- D: `.` or `..` as the whole input is removed
   remove_all : is_dot_segment input ≡ true → next_input ≡ [] → next_output ≡ output → Step input output next_input next_output
   -- E: otherwise the first segment, with a `/` before it and up to the next `/`, moves to the end of the output
