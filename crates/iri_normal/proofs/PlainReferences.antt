@@ -5,7 +5,7 @@ use Rattle.iri_normal.proofs.Common.{MatchOption, list_all, or_parts, not-true, 
 use Rattle.iri_normal.proofs.Common.{is_scheme, is_scheme_char, lacks, delimited, Parts, Fits, authority_text, is_empty, path_rules}
 use Rattle.iri_normal.proofs.Common.{recompose, scheme_text, starts_with_slash, starts_with_slashes, split_of, both, lacks-append}
 use Rattle.iri_normal.proofs.Common.{scheme-chars, normal_authority, pct, whole_triplets, pct_delimiter, whole_plain, fragment-whole}
-use Rattle.iri_normal.proofs.Common.{path-whole, query-whole, has_dot_segment, guard, lowered, where_there, canonical, normal_form}
+use Rattle.iri_normal.proofs.Common.{path-whole, query-whole, has_dot_segment, guard, lowered, option_map, canonical, normal_form}
 use Rattle.iri_normal.proofs.Common.{eqb-true, absolute_fault, absolute-law, split_is, normal_nil, IsSome, normal_path, IsPrefix, prefix_in, ends_at_slash, merge_prefix, target, target_path, Normal}
 use Rattle.std.specs.Prelude.{IsNone}
 use Rattle.std.specs.Str.{IsAscii}
@@ -193,7 +193,7 @@ record TakesPath (s : Tests) (has_query : Bool) (r : Parts) : Type 0 where
 
 -- the query that it takes is the base's, or its own
 query-put : (s : Tests) (q base : Option (List ℕ)) → (is_some q ≡ false → if_there (lacks 37) base ≡ true)
-    → delimited 63 (where_there (pct s) (or_base q base)) ≡ cond (is_some q) [] (delimited 63 base) ++ delimited 63 (where_there (pct s) q)
+    → delimited 63 (option_map (pct s) (or_base q base)) ≡ cond (is_some q) [] (delimited 63 base) ++ delimited 63 (option_map (pct s) q)
 query-put s None None h = refl
 query-put s None (Some x) h = ap (λ y. 63 ∷ y) (pct-same s x (h refl)) ∙ sym (append-nil (63 ∷ x))
 query-put s (Some q) base h = refl
@@ -203,9 +203,9 @@ own-text : (s : Tests) (t : List ℕ) → (split_of t).scheme ≡ None → (spli
 own-text s t h k = sym (text-cut t ∙ rw (h, k) refl)
 
 own-form : (s : Tests) (r : Parts) → [] ≡ r.path
-    → pct s (rest r) ≡ delimited 63 (where_there (pct s) r.query) ++ delimited 35 (where_there (pct s) r.fragment)
+    → pct s (rest r) ≡ delimited 63 (option_map (pct s) r.query) ++ delimited 35 (option_map (pct s) r.fragment)
 own-form s r e =
-    let tail = delimited 63 (where_there (pct s) r.query) ++ delimited 35 (where_there (pct s) r.fragment) in
+    let tail = delimited 63 (option_map (pct s) r.query) ++ delimited 35 (option_map (pct s) r.fragment) in
     rest-form s r.path r.query r.fragment
     ∙ (ap (λ p. pct s p ++ tail) (sym e) ∙ ap (λ p. p ++ tail) (normal_nil s as_it_is))
 
@@ -216,8 +216,8 @@ takes-path s base t prefix directory has_query k h p =
     let b = split_of base in
     let r = split_of t in
     let u = target b r in
-    let q = delimited 63 (where_there (pct s) r.query) in
-    let f = delimited 35 (where_there (pct s) r.fragment) in
+    let q = delimited 63 (option_map (pct s) r.query) in
+    let f = delimited 35 (option_map (pct s) r.fragment) in
     let stays = both (is_some b.authority) (lacks_triplets_and_dots b.path b.path) p.path_stays in
     let plain = both (lacks 37 b.path) (not (has_dot_segment b.path)) stays.1 in
     let own = own-text s t h.scheme h.authority in
@@ -225,17 +225,17 @@ takes-path s base t prefix directory has_query k h p =
     let path : normal_path s u.authority u.path ≡ b.path = rw (h.scheme, h.authority, sym h.empty)
     (path-form s b.authority b.path k (not-true (has_dot_segment b.path) plain.1) (lacks-whole b.path plain.0) (rw stays.0 refl)
     ∙ pct-same s b.path plain.0) in
-    let query : delimited 63 (where_there (pct s) u.query) ≡ cond (is_some r.query) [] (delimited 63 b.query) ++ q =
+    let query : delimited 63 (option_map (pct s) u.query) ≡ cond (is_some r.query) [] (delimited 63 b.query) ++ q =
     rw (h.scheme, h.authority, sym h.empty) (query-put s r.query b.query (λ e. p.query_stays (h.query ∙ e))) in
-    let fragment : delimited 35 (where_there (pct s) u.fragment) ≡ f = rw (h.scheme, h.authority) refl in
+    let fragment : delimited 35 (option_map (pct s) u.fragment) ≡ f = rw (h.scheme, h.authority) refl in
     let text : directory ≡ b.path ++ cond (is_some r.query) [] (delimited 63 b.query) =
     p.text ∙ ap (λ c. b.path ++ cond c [] (delimited 63 b.query)) h.query in
     record {
       text = sym (prefix-form s Normal false u (prefix_in s true u) refl refl)
-          ∙ (ap (λ x. x ++ (normal_path s u.authority u.path ++ (delimited 63 (where_there (pct s) u.query)
-          ++ delimited 35 (where_there (pct s) u.fragment)))) before
-          ∙ (ap (λ x. prefix ++ (x ++ (delimited 63 (where_there (pct s) u.query) ++ delimited 35 (where_there (pct s) u.fragment)))) path
-          ∙ (ap (λ x. prefix ++ (b.path ++ (x ++ delimited 35 (where_there (pct s) u.fragment)))) query
+          ∙ (ap (λ x. x ++ (normal_path s u.authority u.path ++ (delimited 63 (option_map (pct s) u.query)
+          ++ delimited 35 (option_map (pct s) u.fragment)))) before
+          ∙ (ap (λ x. prefix ++ (x ++ (delimited 63 (option_map (pct s) u.query) ++ delimited 35 (option_map (pct s) u.fragment)))) path
+          ∙ (ap (λ x. prefix ++ (b.path ++ (x ++ delimited 35 (option_map (pct s) u.fragment)))) query
           ∙ (ap (λ x. prefix ++ (b.path ++ ((cond (is_some r.query) [] (delimited 63 b.query) ++ q) ++ x))) fragment
           ∙ (ap (λ x. prefix ++ (b.path ++ x)) (append_assoc (cond (is_some r.query) [] (delimited 63 b.query)) q f)
           ∙ (ap (λ x. prefix ++ x) (sym (append_assoc b.path (cond (is_some r.query) [] (delimited 63 b.query)) (q ++ f)))

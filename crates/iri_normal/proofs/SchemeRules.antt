@@ -2,7 +2,7 @@
 use Rattle.iri_normal.proofs.Common.{◌≡◌, ℕ, Bool, true, false, cond, ◌&&◌, List, [], ◌∷◌, ◌++◌, Option, Some, None, refl, sym, ◌∙◌, ap, subst}
 use Rattle.iri_normal.proofs.Common.{◌+◌, ◌-◌, suc, length, append_assoc, length-append, arith, nat_tests, nat_lt, bytes_eq, recompose_authority}
 use Rattle.iri_normal.proofs.Common.{or_parts, authority_parts, Tests, Parts, is_empty, normal_authority, normal_authority_in, normal_port_in}
-use Rattle.iri_normal.proofs.Common.{normal_authority_parts_in, dropped_port, default_port, where_there, starts_with_slash, Scheme, target}
+use Rattle.iri_normal.proofs.Common.{normal_authority_parts_in, dropped_port, default_port, option_map, starts_with_slash, Scheme, target}
 use Rattle.iri_normal.proofs.Common.{split_of, form, normal_form, canonical, canonical_in, becomes_slash, delimited, recompose, target_path}
 use Rattle.iri_normal.proofs.Common.{merge_prefix}
 use Rattle.std.specs.Prelude.{codes, get_or}
@@ -78,7 +78,7 @@ keeps-port s (Some x) a h =
     (kept s a (codes "21") two.0) refl
 
 authority-stays : (s : Tests) (scheme o : Option (List ℕ)) → ends_in_port o ≡ false
-    → where_there (normal_authority_in s (dropped_port Scheme scheme)) o ≡ where_there (normal_authority s) o
+    → option_map (normal_authority_in s (dropped_port Scheme scheme)) o ≡ option_map (normal_authority s) o
 authority-stays s scheme None h = refl
 authority-stays s scheme (Some a) h = ap Some (keeps-port s scheme a h)
 
