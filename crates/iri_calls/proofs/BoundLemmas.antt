@@ -21,8 +21,8 @@ use Rattle.iri_percent.specs.declared.canon_mode.CanonMode.{CanonMode}
 use Rattle.iri_normal.specs.Normalized.{written_text}
 use Rattle.iri_normal.specs.Target.{target, takes_base_path}
 use Rattle.iri_normal.specs.declared.mode.Mode.{Mode}
-use Rattle.iri_normal.proofs.CanonLemmas.{fault_none}
-use Rattle.iri_normal.proofs.LengthLaws.{length-canonical_in, length-form, length-plain_form, length-target}
+use Rattle.iri_normal.proofs.canonical_texts.CanonicalTexts.{fault_none}
+use Rattle.iri_normal.proofs.normal_forms.Lengths.{length-canonical_in, length-form, length-plain_form, length-target}
 use Rattle.iri_text.proofs.LinesLemmas.{no_cr-shorter}
 use Rattle.iri_calls.specs.Bounds.{HasAtMost}
 use Rattle.iri_calls.specs.Encodings.{place_numbered}

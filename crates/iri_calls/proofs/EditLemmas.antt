@@ -4,7 +4,7 @@ use Rattle.iri_calls.proofs.Common.{reference_fault, ErrorKind, no_fault, BAD_TE
 use Rattle.iri_edit.specs.Fragment.{with_fragment}
 use Rattle.iri_edit.specs.Password.{with_password}
 use Rattle.iri_edit.proofs.FragmentLemmas.{fragment-removed, fragment-put}
-use Rattle.iri_normal.proofs.CanonLemmas.{fault_none}
+use Rattle.iri_normal.proofs.canonical_texts.CanonicalTexts.{fault_none}
 use Rattle.iri_calls.specs.Edits.{cut_in, fragment_in, password_in}
 use Rattle.iri_calls.specs.declared.status.TheConstants.{BAD_PART}
 use Rattle.iri_calls.specs.Outcome.Outcome.{fault}

@@ -5,12 +5,11 @@ use Rattle.std.specs.Prelude.{option_map}
 use Rattle.iri_grammar.specs.ErrorTexts.{description}
 use Rattle.iri_grammar.proofs.faults.FaultLaws.{reference-law}
 use Rattle.iri_grammar.specs.Parts.{IsReference}
-use Rattle.iri_normal.proofs.CanonLaws.{canonical_in-iri, canonical_in-split, canonical_in-own}
+use Rattle.iri_normal.proofs.canonical_texts.CanonicalTexts.{canonical_in-iri, canonical_in-split, canonical_in-own, fault_none}
 use Rattle.iri_grammar.specs.inside.Laws.{uri_is_spec, iri_is_spec}
 use Rattle.iri_cli.specs.declared.run.words.Grammar.{Grammar}
 use Rattle.iri_cli.specs.declared.run.words.Grammar.TheVariants.{Uri, Iri}
 use Rattle.iri_cli.specs.canon.Answers.{AnswersAreCanonicalIn}
-use Rattle.iri_normal.proofs.CanonLemmas.{fault_none}
 
 pub refused_none : (k : Option ErrorKind) → option_map description k ≡ None → k ≡ None
 refused_none None h = refl

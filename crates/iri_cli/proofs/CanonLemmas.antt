@@ -1,9 +1,9 @@
 -- The answers of `canon`.
-use Rattle.iri_cli.proofs.Common.{◌≡◌, ◌≢◌, ℕ, ◌+◌, ◌≤◌, Bool, false, List, [], length, None, Result, Ok, Err, refl, sym, ap, subst, arith, ◌∙◌}
-use Rattle.iri_cli.proofs.Common.{Tests, IsSpec, bytes_fault, reference_fault, PutsAll, KeepsRoom, SinkState}
-use Rattle.iri_cli.proofs.Common.{room-so, Failed, CanonMode, canonical_in, longest_line, answer_room, refusal, answer_in, Answering}
-use Rattle.iri_cli.proofs.Common.{AnswersLine, PutsAnswer, canon_rules_in, is_ok, AnswerError, SinkFailed, Rules, begun, OnOk}
-use Rattle.iri_normal.proofs.LengthLaws.{length-canonical_in}
+use Rattle.iri_cli.proofs.Common.{◌≡◌, ◌≢◌, ℕ, ◌+◌, ◌≤◌, Bool, false, List, [], length, None, Result, Ok, Err, refl, sym, ap, subst, arith}
+use Rattle.iri_cli.proofs.Common.{◌∙◌, Tests, IsSpec, bytes_fault, reference_fault, PutsAll, KeepsRoom, SinkState, room-so, Failed}
+use Rattle.iri_cli.proofs.Common.{CanonMode, canonical_in, longest_line, answer_room, refusal, answer_in, Answering, AnswersLine}
+use Rattle.iri_cli.proofs.Common.{PutsAnswer, canon_rules_in, is_ok, AnswerError, SinkFailed, Rules, begun, OnOk}
+use Rattle.iri_normal.proofs.normal_forms.Lengths.{length-canonical_in}
 use Rattle.iri_cli.specs.inside.Puts.{said_good, IsCanonAt}
 use Rattle.iri_cli.specs.inside.SinkTexts.{puts_nothing}
 use Rattle.iri_cli.specs.declared.run.answers.AnswerError.TheVariants.{Memory}

@@ -1,16 +1,15 @@
 -- No reference of `gen` has a fault: each segment of the table is over the characters of a registered name, which are of a path too.
 use Rattle.iri_cli.proofs.Common.{◌≡◌, ℕ, suc, ◌<◌, ◌^◌, Bool, true, false, not, ◌&&◌, ◌||◌, List, [], ◌∷◌, ◌++◌, Some, None, refl, ◌∙◌, ap}
-use Rattle.iri_cli.proofs.Common.{subst, arith, append-nil, ◌==◌, get_or, nat_lt, list_all, is_utf8-from_IsUtf8, nat_tests, Tests}
-use Rattle.iri_cli.proofs.Common.{IsSpec, path_char, before, lacks, both, IsAbsolute, recompose, is_empty, starts_with_slash}
-use Rattle.iri_cli.proofs.Common.{starts_with_slashes, absolute_fault, reference_fault, absolute-law, of_bytes, reference-utf8}
-use Rattle.iri_cli.proofs.Common.{refusal, more_segments, gen_reference, gen_base}
+use Rattle.iri_cli.proofs.Common.{subst, arith, append-nil, ◌==◌, get_or, nat_lt, list_all, is_utf8-from_IsUtf8, nat_tests, Tests, IsSpec}
+use Rattle.iri_cli.proofs.Common.{path_char, before, lacks, both, IsAbsolute, recompose, is_empty, starts_with_slash, starts_with_slashes}
+use Rattle.iri_cli.proofs.Common.{absolute_fault, reference_fault, absolute-law, of_bytes, reference-utf8, refusal, more_segments}
+use Rattle.iri_cli.proofs.Common.{gen_reference, gen_base}
 use Rattle.std.proofs.Common.{zero, ◌/◌, ◌%◌}
 use Rattle.std.specs.Str.{IsAscii}
 use Rattle.std.proofs.lemmas.Str.{IsAscii-append, IsUtf8-from_ascii, chars-IsAscii}
 use Rattle.std.specs.Prelude.{option_map}
 use Rattle.iri_grammar.specs.ErrorTexts.{description}
-use Rattle.iri_grammar.specs.Classes.{uri_tests, is_ascii_reg_name, is_ascii_pchar, is_ascii_path}
-use Rattle.iri_grammar.specs.Classes.{reg_name_char}
+use Rattle.iri_grammar.specs.Classes.{uri_tests, is_ascii_reg_name, is_ascii_pchar, is_ascii_path, reg_name_char}
 use Rattle.iri_grammar.proofs.units.ClassLaws.{class_has_no_percent}
 use Rattle.iri_grammar.specs.declared.class.Class.TheVariants.{RegName, Path}
 use Rattle.iri_grammar.specs.Over.{over, text_over, IsOver, done, plain, triplet}
@@ -25,8 +24,8 @@ use Rattle.iri_grammar.proofs.authorities.AuthorityTexts.{all_below}
 use Rattle.iri_grammar.proofs.faults.MadeLaws.{made-reference}
 use Rattle.iri_grammar.proofs.faults.UriLaws.{absolute-wider}
 use Rattle.iri_grammar.specs.inside.Laws.{uri_is_spec}
-use Rattle.iri_normal.proofs.TargetLaws.{slash_in_path}
-use Rattle.iri_normal.proofs.TripletHeads.{head-apart}
+use Rattle.iri_normal.proofs.targets.Targets.{slash_in_path}
+use Rattle.iri_normal.proofs.triplets.PathTriplets.{head-apart}
 use Rattle.iri_docs.specs.OnLiterals.{on_literals}
 use Rattle.iri_cli.specs.generator.References.{gen_segments, gen_segment}
 

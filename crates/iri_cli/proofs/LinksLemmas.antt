@@ -1,6 +1,6 @@
 -- The answers of `links`.
-use Rattle.iri_cli.proofs.Common.{◌≡◌, ◌≤◌, ◌<◌, ◌^◌, ◌==◌, ◌&&◌, ◌∙◌, ℕ, true, not, List, [], ◌∷◌, ◌++◌, length, map, Option, None}
-use Rattle.iri_cli.proofs.Common.{Some, refl, sym, ap, arith, length-append, ◌||◌, codes, decimal, list_all, is_utf8, length-decimal-le}
+use Rattle.iri_cli.proofs.Common.{◌≡◌, ◌≤◌, ◌<◌, ◌^◌, ◌==◌, ◌&&◌, ◌∙◌, ℕ, true, not, List, [], ◌∷◌, ◌++◌, length, map, Option, None, Some}
+use Rattle.iri_cli.proofs.Common.{refl, sym, ap, arith, length-append, ◌||◌, codes, decimal, list_all, is_utf8, length-decimal-le}
 use Rattle.iri_cli.proofs.Common.{is_utf8-from_IsUtf8, both, before, lacks, reference_fault, ErrorKind, IsSpec, Tests, refusal, good_answer}
 use Rattle.std.specs.Option.{is_none}
 use Rattle.std.proofs.Math.Bool.{or-true}
@@ -10,7 +10,7 @@ use Rattle.iri_grammar.specs.ErrorTexts.{description}
 use Rattle.iri_grammar.specs.declared.error.ErrorKind.TheVariants.{InvalidScheme, InvalidUserInfo, InvalidHost, InvalidRegName, InvalidPort}
 use Rattle.iri_grammar.specs.declared.error.ErrorKind.TheVariants.{InvalidPath, InvalidQuery, InvalidFragment, UnexpectedFragment}
 use Rattle.iri_grammar.specs.declared.error.ErrorKind.TheVariants.{UnexpectedRelative, InvalidUtf8}
-use Rattle.iri_normal.proofs.OutputLaws.{lacks_there}
+use Rattle.iri_normal.proofs.removal.Output.{lacks_there}
 use Rattle.iri_link.specs.ErrorTexts.{displayed, words}
 use Rattle.iri_link.specs.Refusals.{RefusedBy}
 use Rattle.iri_grammar.specs.Blanks.{is_blank}

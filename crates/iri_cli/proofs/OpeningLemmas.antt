@@ -1,8 +1,8 @@
 -- How a run begins.
-use Rattle.iri_cli.proofs.Common.{◌≡◌, ℕ, ◌≤◌, List, [], ◌∷◌, true, Option, None, refl, ◌∙◌, ap, subst, arith, ⊎_elim, Tests}
-use Rattle.iri_cli.proofs.Common.{bytes_fault, absolute_fault, LineState, Appends-none, room-same, SinkState, refusal, Answering, IsReady}
-use Rattle.iri_cli.proofs.Common.{Rules, begun, HasRead, IsGoing, outside, Ran, Memory}
-use Rattle.iri_normal.proofs.CanonLemmas.{fault_none}
+use Rattle.iri_cli.proofs.Common.{◌≡◌, ℕ, ◌≤◌, List, [], ◌∷◌, true, Option, None, refl, ◌∙◌, ap, subst, arith, ⊎_elim, Tests, bytes_fault}
+use Rattle.iri_cli.proofs.Common.{absolute_fault, LineState, Appends-none, room-same, SinkState, refusal, Answering, IsReady, Rules, begun}
+use Rattle.iri_cli.proofs.Common.{HasRead, IsGoing, outside, Ran, Memory}
+use Rattle.iri_normal.proofs.canonical_texts.CanonicalTexts.{fault_none}
 use Rattle.iri_cli.specs.run.Buffers.{AreBuffers, IsNew}
 use Rattle.iri_cli.specs.inside.Opening.{BeginsAsCanon}
 use Rattle.iri_cli.specs.inside.Steps.{GivesBase}

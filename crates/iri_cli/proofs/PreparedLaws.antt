@@ -4,7 +4,6 @@ use Rattle.iri_cli.proofs.Common.{◌≡◌, ℕ, ◌≤◌, true, false, cond, 
 use Rattle.iri_cli.proofs.Common.{arith, append_assoc, append-nil, is_some, IsSome, Tests, IsSpec, Parts, IsAbsolute, path_rules, recompose}
 use Rattle.iri_cli.proofs.Common.{is_empty, starts_with_slash, split_of, CanonMode, canonical_in, bytes_fault, absolute_fault}
 use Rattle.iri_cli.proofs.Common.{reference_fault, absolute-law, of_bytes, reference-utf8, refusal, answer_in, answer_by}
-use Rattle.std.specs.Prelude.{option_map}
 use Rattle.iri_grammar.specs.ErrorTexts.{description}
 use Rattle.iri_grammar.proofs.faults.FaultLaws.{none-is}
 use Rattle.iri_grammar.specs.Parts.{Fits, Splits, scheme_text, authority_text}
@@ -19,13 +18,13 @@ use Rattle.iri_percent.specs.SchemeRules.{dropped_port}
 use Rattle.iri_percent.specs.declared.canon_mode.CanonMode.TheVariants.{Default, Scheme}
 use Rattle.iri_normal.specs.NormalForm.{becomes_slash, normal_path, normal_form, normal_form_in, form}
 use Rattle.iri_normal.specs.declared.mode.Mode.TheVariants.{ByScheme}
-use Rattle.iri_normal.proofs.CanonLaws.{canonical_in-text}
-use Rattle.iri_normal.proofs.AuthorityForm.{authority-fits, authority-stable}
-use Rattle.iri_normal.proofs.SchemeForm.{dropped-lowered, without, without-normal}
-use Rattle.iri_normal.proofs.FormLaws.{form-fits, scheme-stable, authorities-stable}
+use Rattle.iri_normal.proofs.canonical_texts.CanonicalTexts.{canonical_in-text}
+use Rattle.iri_normal.proofs.normal_forms.Authorities.{authority-fits, authority-stable}
+use Rattle.iri_normal.proofs.normal_forms.SchemeRules.{dropped-lowered, without, without-normal}
+use Rattle.iri_normal.proofs.normal_forms.PartsFit.{form-fits, scheme-stable, authorities-stable}
 use Rattle.iri_normal.specs.Prefix.{prefix_in}
-use Rattle.iri_normal.proofs.LengthLaws.{length-parts, length-scheme, length-authorities}
-use Rattle.iri_normal.proofs.PathLaws.{stands-still as same_there}
+use Rattle.iri_normal.proofs.normal_forms.Lengths.{length-parts, length-scheme, length-authorities}
+use Rattle.iri_normal.proofs.normal_forms.Paths.{stands-still as same_there}
 use Rattle.iri_cli.specs.canon.Prepared.{prepared_path, prepared_parts, prepared}
 use Rattle.iri_cli.proofs.PreparedPaths.{IsRooted, rooted_beside, whole_dots, same_empty, merged_dots, path_over, rules_kept, path_short}
 use Rattle.iri_cli.proofs.BytesLemmas.{base_absolute}

@@ -8,23 +8,21 @@ use Rattle.std.proofs.Math.Bool.{and-false}
 use Rattle.std.proofs.lemmas.Bool.{not-true}
 use Rattle.iri_grammar.proofs.hosts.Ipv6Laws.{joined_pieces}
 use Rattle.iri_grammar.proofs.units.UnitRuns.{text_over-append}
-use Rattle.iri_normal.specs.DotRemoval.{without_last, dots}
-use Rattle.iri_normal.specs.Dots.{is_two_dots}
-use Rattle.iri_normal.specs.Dots.{is_dot_segment, any_dot_segment, has_dot_segment}
-use Rattle.iri_normal.specs.DotRemoval.{guard}
+use Rattle.iri_normal.specs.DotRemoval.{without_last, dots, guard}
+use Rattle.iri_normal.specs.Dots.{is_two_dots, is_dot_segment, any_dot_segment, has_dot_segment}
 use Rattle.iri_normal.specs.Target.{to_last_slash, last_segment, ends_at_slash}
 use Rattle.iri_normal.specs.inside.Written.{but_last, left, closing, written_segments, written}
-use Rattle.iri_normal.proofs.LengthLaws.{length-dots, length-last}
-use Rattle.iri_normal.proofs.PathLaws.{dots-nothing, dots-slash, guarded, plain-over}
-use Rattle.iri_normal.proofs.PieceLaws.{nothing-is_no_dot}
-use Rattle.iri_normal.proofs.SchemeForm.{begun}
-use Rattle.iri_normal.proofs.SegmentLemmas.{alone, ended}
-use Rattle.iri_normal.proofs.SlashLemmas.{at_last_slash, ends, none_prefix}
-use Rattle.iri_normal.proofs.StableLaws.{guarded_stable, no_dots_same}
-use Rattle.iri_normal.proofs.TargetLaws.{cut_over}
-use Rattle.iri_normal.proofs.WrittenLemmas.{written-dots, written-ends, written-two}
+use Rattle.iri_normal.proofs.normal_forms.Lengths.{length-dots, length-last}
+use Rattle.iri_normal.proofs.normal_forms.Paths.{dots-nothing, dots-slash, guarded, plain-over}
+use Rattle.iri_normal.proofs.segments.DotKinds.{nothing-is_no_dot}
+use Rattle.iri_normal.proofs.normal_forms.SchemeRules.{begun}
+use Rattle.iri_normal.proofs.segments.CutPaths.{alone, ended}
+use Rattle.iri_normal.proofs.segments.Slashes.{at_last_slash, ends, none_prefix}
+use Rattle.iri_normal.proofs.removal.Stability.{guarded_stable, no_dots_same}
+use Rattle.iri_normal.proofs.targets.Targets.{cut_over}
+use Rattle.iri_normal.proofs.removal.Buffers.{written-dots, written-ends, written-two}
 use Rattle.iri_cli.specs.canon.Prepared.{prepared_path}
-use Rattle.iri_normal.proofs.StepLaws.{some_byte}
+use Rattle.iri_normal.proofs.removal.RfcSteps.{some_byte}
 
 -- ---- the directory: what stands before the last segment
 abbrev directory_of : Bool → List ℕ → List ℕ

@@ -11,12 +11,12 @@ use Rattle.iri_grammar.proofs.faults.MadeLaws.{made-authority, made-iri, made-sp
 use Rattle.iri_grammar.specs.WholeFault.{iri_fault}
 use Rattle.iri_grammar.specs.declared.error.ErrorKind.TheVariants.{InvalidScheme, InvalidUserInfo, InvalidHost, InvalidPort, InvalidPath}
 use Rattle.iri_grammar.specs.declared.error.ErrorKind.TheVariants.{InvalidQuery, InvalidFragment}
-use Rattle.iri_normal.proofs.FormLaws.{form-fits}
+use Rattle.iri_normal.proofs.normal_forms.PartsFit.{form-fits}
 use Rattle.iri_percent.specs.Triplets.{pct}
 use Rattle.iri_normal.specs.NormalForm.{lowered, form, normal_form}
 use Rattle.iri_edit.specs.Built.{built_fault, built_text, components_fault, given_parts}
 use Rattle.iri_edit.proofs.KindLemmas.{IsWhole}
-use Rattle.iri_normal.proofs.PathLaws.{stands-still as same-some}
+use Rattle.iri_normal.proofs.normal_forms.Paths.{stands-still as same-some}
 
 empty_host : (s : Tests) → is_host s [] ≡ true
 unfolding over_from chars is_utf8

@@ -2,13 +2,13 @@
 use Rattle.std.specs.Prelude.{option_map}
 use Rattle.iri_edit.proofs.Common.{◌≡◌, ℕ, Bool, true, false, cond, List, [], ◌∷◌, ◌++◌, Option, Some, None, refl, sym, ◌∙◌, subst, arith}
 use Rattle.iri_edit.proofs.Common.{chars, is_utf8, append-nil, AuthorityParts, FitsAuthority, Tests, IsSpec, if_there, is_userinfo, before}
-use Rattle.iri_edit.proofs.Common.{after, lacks, delimited, joined, over_from, ErrorKind, masked, user_with, user_alone}
-use Rattle.iri_edit.proofs.Common.{with_userinfo, without_password}
+use Rattle.iri_edit.proofs.Common.{after, lacks, delimited, joined, over_from, ErrorKind, masked, user_with, user_alone, with_userinfo}
+use Rattle.iri_edit.proofs.Common.{without_password}
 use Rattle.iri_grammar.proofs.authorities.AuthorityTexts.{one_byte-utf8}
 use Rattle.iri_grammar.specs.Classes.{userinfo_char, is_ascii_userinfo, is_ascii_reg_name, is_ascii_unreserved, is_sub_delim}
 use Rattle.iri_grammar.proofs.splits.CutLaws.{before-delimited}
 use Rattle.iri_grammar.proofs.units.UnitRuns.{text_over-append}
-use Rattle.iri_normal.proofs.TextLaws.{is_utf8-of, text_over-sides}
+use Rattle.iri_normal.proofs.targets.CutTexts.{is_utf8-of, text_over-sides}
 use Rattle.iri_edit.proofs.KindLemmas.{IsWhole, edited-valid}
 use Rattle.iri_grammar.proofs.faults.FaultLaws.{lacks-joined}
 use Rattle.iri_grammar.proofs.faults.Scans.{before-lacks}

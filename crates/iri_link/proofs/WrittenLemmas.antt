@@ -9,7 +9,7 @@ use Rattle.iri_grammar.specs.Parts.{IsAbsolute}
 use Rattle.iri_grammar.proofs.authorities.AuthorityTexts.{one_byte-utf8}
 use Rattle.iri_grammar.proofs.faults.FaultLaws.{reference-law, reference-utf8}
 use Rattle.iri_normal.specs.NormalForm.{canonical}
-use Rattle.iri_normal.proofs.CanonLaws.{canonical-iri, canonical-own}
+use Rattle.iri_normal.proofs.canonical_texts.CanonicalTexts.{canonical-iri, canonical-own}
 use Rattle.iri_link.proofs.OneListLemmas.{one_list}
 use Rattle.iri_link.proofs.ReferenceLemmas.{reference-closed}
 use Rattle.iri_link.proofs.Utf8Lemmas.{escaped-utf8}

@@ -32,20 +32,20 @@ pub fn target_is_short()
 {}
 
 /// The steps of dot removal lead from each path to one result, and `dots` is that result.
-#[tactic(auto, using(crate::proofs::StepLaws::one_result))]
+#[tactic(auto, using(crate::proofs::removal::RfcSteps::one_result))]
 pub fn dot_removal_has_one_result()
     ensures { (path result : List ℕ) → IsWithoutDots path result ↔ (dots path ≡ result) }
 {}
 
 /// Dot removal leaves no dot segment, and leaves a path without one as it is.
-#[tactic(auto, using(crate::proofs::StableLaws::no_dots_left, crate::proofs::StableLaws::no_dots_same))]
+#[tactic(auto, using(crate::proofs::removal::Stability::no_dots_left, crate::proofs::removal::Stability::no_dots_same))]
 pub fn dot_removal_leaves_no_dot_segment()
     ensures none { (path : List ℕ) → has_dot_segment (dots path) ≡ false }
     ensures same { (path : List ℕ) → has_dot_segment path ≡ false → dots path ≡ path }
 {}
 
 /// Dot removal doesn't change again what it and the guard gave.
-#[tactic(auto, using(crate::proofs::StableLaws::guarded_stable))]
+#[tactic(auto, using(crate::proofs::removal::Stability::guarded_stable))]
 pub fn dot_removal_is_stable()
     ensures { (path : List ℕ) → (authority_stands : Bool) → dots (guard (dots path) authority_stands) ≡ dots path }
 {}

@@ -1,7 +1,7 @@
 -- Live lines have an entry, and share it exactly where steps join their targets.
 use Rattle.iri_percent.specs.declared.canon_mode.CanonMode.TheVariants.{Default}
-use Rattle.std.proofs.Common.{◌≡◌, ◌↔◌, ℕ, zero, suc, ◌+◌, List, [], ◌∷◌, true, false, not, cond, bytes_eq, Option, Some, None}
-use Rattle.std.proofs.Common.{option_map, slice_get, length, refl, sym, ◌∙◌, ap, subst, arith}
+use Rattle.std.proofs.Common.{◌≡◌, ◌↔◌, ℕ, zero, suc, ◌+◌, List, [], ◌∷◌, true, false, not, cond, bytes_eq, Option, Some, None, option_map}
+use Rattle.std.proofs.Common.{slice_get, length, refl, sym, ◌∙◌, ap, subst, arith}
 use Rattle.std.specs.Prelude.{IsSome, IfOk, Result, Ok, Err}
 use Rattle.iri_grammar.specs.Classes.{Tests, IsSpec}
 use Rattle.iri_grammar.specs.Fault.{bytes_fault}
@@ -13,8 +13,8 @@ use Rattle.iri_grammar.proofs.splits.SplitUnique.{split_is}
 use Rattle.iri_normal.specs.NormalForm.{canonical}
 use Rattle.iri_normal.specs.Target.{target}
 use Rattle.iri_resolve.proofs.SchemeSteps.{joined_in-exactly, texts_in-exactly}
-use Rattle.iri_normal.proofs.CanonLemmas.{fault_none}
-use Rattle.iri_normal.proofs.TargetLaws.{target-fits}
+use Rattle.iri_normal.proofs.canonical_texts.CanonicalTexts.{fault_none}
+use Rattle.iri_normal.proofs.targets.Targets.{target-fits}
 use Rattle.iri_register.specs.Entries.{Entry, added, place, with_line}
 use Rattle.iri_register.specs.Commands.{Command, Line, live, numbers, entries_of_commands}
 use Rattle.iri_register.specs.Answers.{Adds, FindsPlace, TellsAdded}

@@ -14,8 +14,8 @@ use Rattle.iri_grammar.specs.Host.{is_reg_name}
 use Rattle.iri_grammar.specs.IpLiteral.{is_ip_literal}
 use Rattle.iri_percent.proofs.forms.Stability.{lower-case}
 use Rattle.iri_percent.proofs.units.OfParts.{literal-lacks, reg_name_percent}
-use Rattle.iri_normal.proofs.HostLaws.{ascii-read}
-use Rattle.iri_normal.proofs.LiteralLaws.{literal-lower}
+use Rattle.iri_normal.proofs.normal_forms.Authorities.{ascii-read}
+use Rattle.iri_normal.proofs.normal_forms.IpLiterals.{literal-lower}
 use Rattle.iri_normal.specs.NormalForm.{lowered}
 use Rattle.iri_resolve.proofs.ByteLaws.{ByteChange, small_host_letter, IsAsGood, byte_change-over, capital_low}
 use Rattle.iri_resolve.proofs.ChangeKeeps.{TripletChange}

@@ -9,7 +9,7 @@ use Rattle.iri_grammar.proofs.authorities.AuthorityTexts.{text_over-utf8, delimi
 use Rattle.iri_grammar.specs.Over.{over_from, over}
 use Rattle.iri_grammar.proofs.units.FirstUnits.{hex_is_ascii}
 use Rattle.iri_grammar.proofs.splits.CharBoundaries.{text_after_delimiter, text_before_delimiter}
-use Rattle.iri_normal.proofs.TextLaws.{is_utf8-of, over-of, chars-ascii}
+use Rattle.iri_normal.proofs.targets.CutTexts.{is_utf8-of, over-of, chars-ascii}
 
 -- ---- one byte
 -- u is t with the byte at i, which passes the test, changed by f

@@ -8,8 +8,8 @@ use Rattle.std.proofs.lemmas.List.{length-take}
 use Rattle.iri_grammar.specs.Cut.{lacks}
 use Rattle.iri_grammar.proofs.units.LackedBytes.{lacks-encodes}
 use Rattle.iri_grammar.proofs.splits.CutLaws.{lacks-other, test_apart}
-use Rattle.iri_normal.proofs.TripletPaths.{slash-delimits}
-use Rattle.iri_normal.proofs.OutputLaws.{lacks_there}
+use Rattle.iri_normal.proofs.triplets.PathTriplets.{slash-delimits}
+use Rattle.iri_normal.proofs.removal.Output.{lacks_there}
 use Rattle.iri_resolve.proofs.ByteLaws.{capital_digit}
 use Rattle.iri_resolve.proofs.ChangeLaws.{digit-normal, digit-over, decoding, decoded-normal, decoded-over, some_triplets}
 

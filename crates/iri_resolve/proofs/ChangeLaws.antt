@@ -18,8 +18,8 @@ use Rattle.iri_percent.proofs.units.WholeTriplets.{Reading, done, plain, char, l
 use Rattle.iri_percent.proofs.forms.Stability.{as_it_is-case, upper_hex, upper_octet, encode_percent, unreserved_percent, decoded_octets}
 use Rattle.iri_grammar.proofs.units.UnitRuns.{text_over-append}
 use Rattle.iri_resolve.proofs.ByteLaws.{capital_digit, IsAsGood, byte_change-over, text_over-after, digit_low}
-use Rattle.iri_normal.proofs.TripletDots.{map_same}
-use Rattle.iri_normal.proofs.TextLaws.{text_over-sides}
+use Rattle.iri_normal.proofs.triplets.DotTriplets.{map_same}
+use Rattle.iri_normal.proofs.targets.CutTexts.{text_over-sides}
 
 -- ---- capital digits
 -- a text with capital digits in its triplets, where so many digits of a triplet are still to come

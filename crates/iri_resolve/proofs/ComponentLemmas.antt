@@ -22,9 +22,9 @@ use Rattle.iri_percent.proofs.forms.Stability.{upper_hex, encode_percent, unrese
 use Rattle.iri_percent.proofs.units.OfParts.{whole-append}
 use Rattle.iri_resolve.specs.NormalSteps.{Prefix, byte_prefix, prefix_of, triplet_prefix}
 use Rattle.iri_resolve.proofs.ChangeKeeps.{capital-keeps, decoding-keeps}
-use Rattle.iri_resolve.proofs.Going.{Going, all_gone, going_on, gone_wrong}
-use Rattle.iri_resolve.proofs.Leads.{Led, led-nothing, led-step, led-on, not-whole, whole_nil, whole_percent, capital-at, capital_same}
-use Rattle.iri_resolve.proofs.Leads.{decoded-at}
+use Rattle.iri_resolve.proofs.PushedSteps.{Going, all_gone, going_on, gone_wrong}
+use Rattle.iri_resolve.proofs.Replays.{Led, led-nothing, led-step, led-on, not-whole, whole_nil, whole_percent, capital-at, capital_same}
+use Rattle.iri_resolve.proofs.Replays.{decoded-at}
 use Rattle.iri_resolve.proofs.Places.{IsPlace}
 use Rattle.iri_resolve.proofs.ByteLaws.{capital_low}
 

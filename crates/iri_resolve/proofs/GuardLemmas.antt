@@ -13,11 +13,10 @@ use Rattle.iri_grammar.proofs.hosts.PiecesLaws.{pieces_cut}
 use Rattle.iri_percent.proofs.units.AtDelimiters.{pct_delimiter, slash}
 use Rattle.iri_normal.specs.Dots.{is_all, is_one_dot, any_dot_segment, has_dot_segment, is_dot_segment}
 use Rattle.iri_resolve.specs.inside.GuardAlone.{is_after_slash, is_guard_alone}
-use Rattle.iri_normal.proofs.PieceLaws.{pieces-some, pieces-slash, dot-is_one, dot_segment-lacks, nothing-is_no_dot}
-use Rattle.iri_normal.proofs.StableLaws.{dot_before, no_dots_left, no_dots_same, slashed, unsplit, unsplit-pieces}
-use Rattle.iri_normal.proofs.TripletDots.{dot_segment-pct, empty-pct, encode_point, point_scalar, point_unreserved, two_dots-pct}
-use Rattle.iri_normal.proofs.TripletHeads.{pct-heads}
-use Rattle.iri_normal.proofs.TripletPaths.{all_whole, pieces-pct, whole-pieces}
+use Rattle.iri_normal.proofs.segments.DotKinds.{pieces-some, pieces-slash, dot-is_one, dot_segment-lacks, nothing-is_no_dot}
+use Rattle.iri_normal.proofs.removal.Stability.{dot_before, no_dots_left, no_dots_same, slashed, unsplit, unsplit-pieces}
+use Rattle.iri_normal.proofs.triplets.DotTriplets.{dot_segment-pct, empty-pct, encode_point, point_scalar, point_unreserved, two_dots-pct}
+use Rattle.iri_normal.proofs.triplets.PathTriplets.{pct-heads, all_whole, pieces-pct, whole-pieces}
 
 -- ---- `.`, in any spelling, has one triplet normal form
 spelled : (z : ℕ) → (z == 69 || z == 101) ≡ true → Spells (37 ∷ 50 ∷ z ∷ []) (46 ∷ [])

@@ -2,7 +2,7 @@
 use Rattle.iri_resolve.proofs.Common.{◌≡◌, Bool, true, false, List, Some, sym, ◌∙◌, ap, bytes_eq, bytes_eq-Decides, Tests, IsSpec, Parts}
 use Rattle.iri_resolve.proofs.Common.{recompose, CanonMode, form, replayed_in, Step}
 use Rattle.iri_resolve.proofs.SchemeSteps.{joined_in-exactly, texts_in-exactly}
-use Rattle.iri_normal.proofs.SchemeForm.{form-is}
+use Rattle.iri_normal.proofs.normal_forms.SchemeRules.{form-is}
 use Rattle.iri_normal.specs.NormalForm.{normal_form_in}
 use Rattle.iri_normal.specs.Modes.{mode_of}
 use Rattle.iri_resolve.specs.Steps.{AreApartIn, LeadToNormalIn}

@@ -1,7 +1,5 @@
 mod Common
 pub mod Edits
-pub mod Going
-pub mod Replayed
 pub mod ReachedLemmas
 pub mod ComponentLemmas
 pub mod GuardLemmas
@@ -14,7 +12,8 @@ pub mod ChangeKeeps
 pub mod ChangeLaws
 pub mod ChangeOf
 pub mod SchemeSteps
-pub mod Leads
 pub mod LookBack
 pub mod Places
 pub mod StepsKept
+pub mod Replays
+pub mod PushedSteps

@@ -12,14 +12,14 @@ use Rattle.iri_resolve.proofs.Common.{replayed_in, step_in, loses_dots, Authorit
 use Rattle.std.proofs.Common.{drop_of_length-le, drop-cons}
 use Rattle.std.proofs.Math.Numerals.{add-one}
 use Rattle.iri_normal.specs.NormalForm.{lowered}
-use Rattle.iri_normal.proofs.AuthorityForm.{userinfo-fits, host-fits}
-use Rattle.iri_normal.proofs.PathLaws.{stands-still}
-use Rattle.iri_normal.proofs.TripletPaths.{dots-pct}
+use Rattle.iri_normal.proofs.normal_forms.Authorities.{userinfo-fits, host-fits}
+use Rattle.iri_normal.proofs.normal_forms.Paths.{stands-still}
+use Rattle.iri_normal.proofs.triplets.PathTriplets.{dots-pct}
 use Rattle.iri_resolve.specs.NormalSteps.{authority_parts_steps, authority_steps, host_steps, path_steps, plain_steps, port_steps}
 use Rattle.iri_resolve.specs.NormalSteps.{steps_there, triplet_steps}
 use Rattle.iri_resolve.proofs.ComponentLemmas.{component-led}
 use Rattle.iri_resolve.proofs.GuardLemmas.{dots-lost}
-use Rattle.iri_resolve.proofs.Leads.{Led, led-nothing, led-on, led-step, replayed_in-append}
+use Rattle.iri_resolve.proofs.Replays.{Led, led-nothing, led-on, led-step, replayed_in-append}
 use Rattle.iri_resolve.proofs.Places.{ascii-place, fragment-place, host-place, is_host_in_ascii, path-place, query-place, userinfo-place}
 use Rattle.iri_resolve.proofs.Places.{with_authority}
 

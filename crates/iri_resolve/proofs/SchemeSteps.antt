@@ -19,17 +19,18 @@ use Rattle.iri_percent.proofs.hosts.Authorities.{authority_in}
 use Rattle.iri_normal.specs.NormalForm.{becomes_slash, normal_form_in, slash_or}
 use Rattle.iri_resolve.specs.Steps.{JoinedIn}
 use Rattle.iri_resolve.specs.NormalSteps.{has_port, plain_steps, scheme_rule_steps}
-use Rattle.iri_normal.proofs.AuthorityForm.{normal-parts}
+use Rattle.iri_normal.proofs.normal_forms.Authorities.{normal-parts}
 use Rattle.iri_resolve.proofs.AuthoritySteps.{letter-changed, port-changed, placed-gives, part-gives}
 use Rattle.iri_resolve.proofs.NormalStepLemmas.{plain-led}
-use Rattle.iri_resolve.proofs.Leads.{replayed_in-append}
-use Rattle.iri_normal.proofs.FormLaws.{normal-slash, normal_in-fits}
-use Rattle.iri_normal.proofs.SchemeForm.{by_mode, dropped-still, form-by_mode, kept_port, normal-is, one-form, slash-normal, without, normal_parts}
+use Rattle.iri_resolve.proofs.Replays.{replayed_in-append}
+use Rattle.iri_normal.proofs.normal_forms.PartsFit.{normal-slash, normal_in-fits}
+use Rattle.iri_normal.proofs.normal_forms.SchemeRules.{by_mode, dropped-still, form-by_mode, kept_port, normal-is, one-form, slash-normal}
+use Rattle.iri_normal.proofs.normal_forms.SchemeRules.{without, normal_parts}
 use Rattle.iri_resolve.proofs.ChangeKeeps.{capital-keeps, decoding-keeps}
 use Rattle.iri_resolve.proofs.StepsKept.{Kept, Valid, authority-changed, authority-fits, change-kept, dots-removed, dots-step, path-fits}
 use Rattle.iri_resolve.proofs.StepsKept.{scheme-step}
-use Rattle.iri_normal.proofs.TargetLaws.{slash_in_path}
-use Rattle.iri_normal.proofs.TextLaws.{slash_over}
+use Rattle.iri_normal.proofs.targets.Targets.{slash_in_path}
+use Rattle.iri_normal.proofs.targets.CutTexts.{slash_over}
 
 -- u is valid, has a scheme, and has the normal form of t in the mode
 pub record KeptIn (s : Tests) (m : CanonMode) (t u : Parts) : Type 0 where

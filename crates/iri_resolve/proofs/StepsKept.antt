@@ -8,13 +8,13 @@ use Rattle.iri_resolve.proofs.Common.{Part, Authority, Path, Query, Fragment, in
 use Rattle.iri_resolve.proofs.Common.{is_fragment}
 use Rattle.std.specs.List.{list_all}
 use Rattle.iri_grammar.specs.Components.{is_scheme, is_scheme_char, is_letter}
-use Rattle.iri_normal.proofs.StableLaws.{guarded_stable}
-use Rattle.iri_normal.proofs.TripletPaths.{dots-pct}
+use Rattle.iri_normal.proofs.removal.Stability.{guarded_stable}
+use Rattle.iri_normal.proofs.triplets.PathTriplets.{dots-pct}
 use Rattle.iri_resolve.proofs.ByteLaws.{small_letter}
 use Rattle.iri_resolve.proofs.ChangeKeeps.{TripletChange, rules-same}
 use Rattle.iri_resolve.proofs.AuthoritySteps.{AuthorityChange, authority-kept, triplets-changed, placed-gives, part-gives, lowered-change}
-use Rattle.iri_normal.proofs.FormLaws.{lower-letter, lower-scheme_char}
-use Rattle.iri_normal.proofs.PathLaws.{plain-over, plain-rules}
+use Rattle.iri_normal.proofs.normal_forms.PartsFit.{lower-letter, lower-scheme_char}
+use Rattle.iri_normal.proofs.normal_forms.Paths.{plain-over, plain-rules}
 
 -- u is valid, has a scheme, and has the normal form of t
 pub record Kept (s : Tests) (t u : Parts) : Type 0 where

@@ -1,5 +1,5 @@
 use Rattle.iri_edit.proofs.LawLemmas.{masked-again}
-use Rattle.iri_edit.proofs.SameLemmas.{with_password-same, without_password-same}
+use Rattle.iri_edit.proofs.UnchangedTexts.{with_password-same, without_password-same}
 use Rattle.iri_edit.proofs.laws.masked_again_is_itself.Goals as goal
 
 pub returns : goal.returns

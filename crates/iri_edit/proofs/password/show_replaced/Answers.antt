@@ -1,5 +1,5 @@
 use Rattle.iri_edit.proofs.Common.{◌≡◌, ◌+◌, ◌++◌, ◌∙◌, ap, drop, sym, take, text, with_password}
-use Rattle.iri_edit.proofs.SameLemmas.{with_password-same}
+use Rattle.iri_edit.proofs.UnchangedTexts.{with_password-same}
 use Rattle.iri_edit.proofs.SpliceLemmas.{password-spliced}
 use Rattle.iri_normal.proofs.ShownTexts.{shows_same}
 use Rattle.iri_edit.proofs.password.show_replaced.Goals as goal

@@ -2,7 +2,7 @@ use Rattle.iri_edit.proofs.Common.{◌≡◌, ◌∙◌, ap, subst, false, List,
 use Rattle.iri_normal.specs.Normalized.{Written, written_text}
 use Rattle.iri_normal.specs.declared.mode.Mode.TheVariants.{Normal}
 use Rattle.iri_percent.specs.declared.canon_mode.CanonMode.TheVariants.{Default}
-use Rattle.iri_normal.proofs.SchemeForm.{form-is}
+use Rattle.iri_normal.proofs.normal_forms.SchemeRules.{form-is}
 use Rattle.iri_edit.proofs.recomposed.normal_text.Goals as goal
 
 abbrev in_normal_form : List ℕ → Written

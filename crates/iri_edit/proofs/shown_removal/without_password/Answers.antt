@@ -1,5 +1,5 @@
 use Rattle.iri_edit.proofs.Common.{◌++◌, ◌∙◌, ap, drop, sym, take, append-nil, text}
-use Rattle.iri_edit.proofs.SameLemmas.{without_password-same}
+use Rattle.iri_edit.proofs.UnchangedTexts.{without_password-same}
 use Rattle.iri_edit.proofs.SpliceLemmas.{password-removed}
 use Rattle.iri_edit.proofs.shown_removal.without_password.Goals as goal
 

@@ -1,6 +1,6 @@
 use Rattle.iri_normal.proofs.Common.{◌∙◌, ap, split_of, split_text, canonical_in, base_text, takes_base_path}
 use Rattle.iri_normal.specs.NormalizedText.{written}
-use Rattle.iri_normal.proofs.ModeLemmas.{made-normal_in, written-canonical_in}
+use Rattle.iri_normal.proofs.canonical_texts.WrittenTexts.{made-normal_in, written-canonical_in}
 use Rattle.iri_normal.proofs.canonical.canonicalize_against.Goals as goal
 
 pub returns-in-Ok-try_to_dedicated_string : goal.returns-in-Ok-try_to_dedicated_string

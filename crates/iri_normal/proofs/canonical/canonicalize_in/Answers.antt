@@ -1,5 +1,5 @@
 use Rattle.iri_types.specs.Texts.{text}
-use Rattle.iri_normal.proofs.CanonLemmas.{all_canonical}
+use Rattle.iri_normal.proofs.canonical_texts.CanonicalTexts.{all_canonical}
 use Rattle.iri_normal.proofs.canonical.canonicalize_in.Goals as goal
 
 pub returns-in-Ok-clause-text : goal.returns-in-Ok-clause-text

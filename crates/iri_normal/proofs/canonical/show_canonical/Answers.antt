@@ -1,6 +1,6 @@
 use Rattle.iri_normal.proofs.Common.{◌∙◌, subst, ap, split_of, Shows, split_text, base_text, takes_base_path, Default}
 use Rattle.iri_normal.specs.NormalizedText.{written}
-use Rattle.iri_normal.proofs.ModeLemmas.{made-normal_in, written-canonical_in}
+use Rattle.iri_normal.proofs.canonical_texts.WrittenTexts.{made-normal_in, written-canonical_in}
 use Rattle.iri_normal.proofs.canonical.show_canonical.Goals as goal
 
 pub returns : goal.returns

@@ -1,4 +1,4 @@
-use Rattle.iri_normal.proofs.ComparedLemmas.{stripped}
+use Rattle.iri_normal.proofs.ComparedTexts.{stripped}
 use Rattle.iri_normal.proofs.comparison.after.Goals as goal
 
 pub returns : goal.returns

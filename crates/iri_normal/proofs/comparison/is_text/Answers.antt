@@ -1,5 +1,5 @@
 use Rattle.iri_normal.proofs.Common.{[], sym, ◌∙◌, append-nil}
-use Rattle.iri_normal.proofs.ComparedLemmas.{stopped}
+use Rattle.iri_normal.proofs.ComparedTexts.{stopped}
 use Rattle.iri_normal.proofs.comparison.is_text.Goals as goal
 
 pub returns-in-Err : goal.returns-in-Err

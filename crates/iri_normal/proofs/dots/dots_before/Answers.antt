@@ -1,6 +1,6 @@
 use Rattle.iri_normal.proofs.Common.{◌∙◌, sym, ap, now_of}
-use Rattle.iri_normal.proofs.DotLemmas.{no_dot_first}
-use Rattle.iri_normal.proofs.NextLemmas.{before-one, before-two, none-second, none-end}
+use Rattle.iri_normal.proofs.segments.DotBytes.{no_dot_first}
+use Rattle.iri_normal.proofs.segments.FirstDots.{before-one, before-two, none-second, none-end}
 use Rattle.iri_normal.proofs.dots.dots_before.Goals as goal
 
 pub returns-in_default : goal.returns-in_default

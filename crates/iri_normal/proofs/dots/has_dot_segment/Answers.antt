@@ -1,6 +1,6 @@
 use Rattle.iri_normal.proofs.Common.{◌∙◌, sym, ap, has_dot_segment}
-use Rattle.iri_normal.proofs.DotLemmas.{no_dots}
-use Rattle.iri_normal.proofs.NextLemmas.{next-dotted}
+use Rattle.iri_normal.proofs.segments.DotBytes.{no_dots}
+use Rattle.iri_normal.proofs.segments.FirstDots.{next-dotted}
 use Rattle.iri_normal.proofs.dots.has_dot_segment.Goals as goal
 
 pub returns-then-not-may_have_dots : goal.returns-then-not-may_have_dots

@@ -1,6 +1,6 @@
 use Rattle.iri_normal.proofs.Common.{refl, arith}
-use Rattle.iri_normal.proofs.SegmentLemmas.{nothing-plain}
-use Rattle.iri_normal.proofs.NextLemmas.{found, none-there, pass-plain, pass-slash}
+use Rattle.iri_normal.proofs.segments.CutPaths.{nothing-plain}
+use Rattle.iri_normal.proofs.segments.FirstDots.{found, none-there, pass-plain, pass-slash}
 use Rattle.iri_normal.proofs.dots.next_dots.Goals as goal
 
 pub returns-in-Some : goal.returns-in-Some

@@ -1,5 +1,5 @@
 use Rattle.iri_normal.proofs.Common.{◌∙◌, sym, ap, now_of}
-use Rattle.iri_normal.proofs.FormLemmas.{slash-told}
+use Rattle.iri_normal.proofs.normal_forms.ShownParts.{slash-told}
 use Rattle.iri_normal.proofs.form.becomes_slash.Goals as goal
 
 pub returns : goal.returns

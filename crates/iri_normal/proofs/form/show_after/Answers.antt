@@ -1,5 +1,5 @@
 use Rattle.iri_normal.proofs.Common.{◌++◌, shows_exit, shows_then, delimited, pct, is_normalizing, part_in, path_in, slices}
-use Rattle.iri_normal.proofs.PrefixLemmas.{prefix-form}
+use Rattle.iri_normal.proofs.normal_forms.Prefixes.{prefix-form}
 use Rattle.iri_normal.proofs.ShownTexts.{shows_same}
 use Rattle.iri_normal.proofs.form.show_after.Goals as goal
 

@@ -1,5 +1,5 @@
 use Rattle.iri_normal.proofs.Common.{cond, now_of, shows_exit, shows_then, normal_authority_in}
-use Rattle.iri_normal.proofs.FormLemmas.{authority-in}
+use Rattle.iri_normal.proofs.normal_forms.ShownParts.{authority-in}
 use Rattle.iri_normal.proofs.ShownTexts.{shows_same}
 use Rattle.iri_normal.proofs.form.show_authority.Goals as goal
 

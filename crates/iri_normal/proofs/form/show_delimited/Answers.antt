@@ -1,5 +1,5 @@
 use Rattle.iri_normal.proofs.Common.{shows_exit, shows_then, in_form}
-use Rattle.iri_normal.proofs.FormLemmas.{delimited-in}
+use Rattle.iri_normal.proofs.normal_forms.ShownParts.{delimited-in}
 use Rattle.iri_normal.proofs.ShownTexts.{shows_same}
 use Rattle.iri_normal.proofs.form.show_delimited.Goals as goal
 

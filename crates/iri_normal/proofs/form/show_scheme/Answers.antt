@@ -1,5 +1,5 @@
 use Rattle.iri_normal.proofs.Common.{◌∷◌, [], shows_exit, shows_then, lowered}
-use Rattle.iri_normal.proofs.FormLemmas.{scheme-in}
+use Rattle.iri_normal.proofs.normal_forms.ShownParts.{scheme-in}
 use Rattle.iri_normal.proofs.ShownTexts.{shows_same}
 use Rattle.iri_normal.proofs.form.show_scheme.Goals as goal
 

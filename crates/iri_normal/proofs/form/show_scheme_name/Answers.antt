@@ -1,5 +1,5 @@
 use Rattle.iri_normal.proofs.Common.{◌∙◌, cond, sym, ap, normal_host, lowered}
-use Rattle.iri_normal.proofs.FormLemmas.{scheme-host, scheme-lowered}
+use Rattle.iri_normal.proofs.normal_forms.ShownParts.{scheme-host, scheme-lowered}
 use Rattle.iri_normal.proofs.ShownTexts.{shows_same}
 use Rattle.iri_normal.proofs.form.show_scheme_name.Goals as goal
 

@@ -1,4 +1,4 @@
-use Rattle.iri_normal.proofs.CanonLaws.{canonical_in-own}
+use Rattle.iri_normal.proofs.canonical_texts.CanonicalTexts.{canonical_in-own}
 use Rattle.iri_normal.proofs.laws.canonical_text_is_its_own.Goals as goal
 
 pub returns : goal.returns

@@ -1,4 +1,4 @@
-use Rattle.iri_normal.proofs.LengthLaws.{length-canonical_in}
+use Rattle.iri_normal.proofs.normal_forms.Lengths.{length-canonical_in}
 use Rattle.iri_normal.proofs.laws.canonical_text_is_short.Goals as goal
 
 pub returns : goal.returns

@@ -1,4 +1,4 @@
-use Rattle.iri_normal.proofs.CanonLaws.{canonical_in-iri, canonical_in-splits, canonical_in-split}
+use Rattle.iri_normal.proofs.canonical_texts.CanonicalTexts.{canonical_in-iri, canonical_in-splits, canonical_in-split}
 use Rattle.iri_normal.proofs.laws.canonical_text_splits_into_normal_parts.Goals as goal
 
 pub returns : goal.returns

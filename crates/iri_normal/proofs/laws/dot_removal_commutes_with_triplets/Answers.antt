@@ -1,4 +1,4 @@
-use Rattle.iri_normal.proofs.TripletPaths.{dots-pct}
+use Rattle.iri_normal.proofs.triplets.PathTriplets.{dots-pct}
 use Rattle.iri_normal.proofs.laws.dot_removal_commutes_with_triplets.Goals as goal
 
 pub returns : goal.returns

@@ -1,4 +1,4 @@
-use Rattle.iri_normal.proofs.ModeLaws.{mode-fits}
+use Rattle.iri_normal.proofs.normal_forms.Modes.{mode-fits}
 use Rattle.iri_normal.proofs.laws.every_form_fits.Goals as goal
 
 pub returns : goal.returns

@@ -1,4 +1,4 @@
-use Rattle.iri_normal.proofs.LengthLaws.{length-form}
+use Rattle.iri_normal.proofs.normal_forms.Lengths.{length-form}
 use Rattle.iri_normal.proofs.laws.every_form_is_short.Goals as goal
 
 pub returns : goal.returns

@@ -1,4 +1,4 @@
-use Rattle.iri_normal.proofs.MapForms.{mapped-canonical}
+use Rattle.iri_normal.proofs.mapping.MappedForms.{mapped-canonical}
 use Rattle.iri_normal.proofs.laws.mapping_commutes_with_canonical_texts.Goals as goal
 
 pub returns : goal.returns

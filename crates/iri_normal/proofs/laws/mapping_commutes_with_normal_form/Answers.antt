@@ -1,4 +1,4 @@
-use Rattle.iri_normal.proofs.MapForms.{mapped-normal_in}
+use Rattle.iri_normal.proofs.mapping.MappedForms.{mapped-normal_in}
 use Rattle.iri_normal.proofs.laws.mapping_commutes_with_normal_form.Goals as goal
 
 pub returns : goal.returns

@@ -1,4 +1,4 @@
-use Rattle.iri_normal.proofs.FormLaws.{normal_in-fits}
+use Rattle.iri_normal.proofs.normal_forms.PartsFit.{normal_in-fits}
 use Rattle.iri_normal.proofs.laws.normal_form_fits.Goals as goal
 
 pub returns : goal.returns

@@ -1,4 +1,4 @@
-use Rattle.iri_normal.proofs.FormLaws.{normal_in-stable}
+use Rattle.iri_normal.proofs.normal_forms.PartsFit.{normal_in-stable}
 use Rattle.iri_normal.proofs.laws.normal_form_is_stable.Goals as goal
 
 pub returns : goal.returns

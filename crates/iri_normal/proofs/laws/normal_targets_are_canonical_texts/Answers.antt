@@ -1,4 +1,4 @@
-use Rattle.iri_normal.proofs.CanonLaws.{written-canonical}
+use Rattle.iri_normal.proofs.canonical_texts.CanonicalTexts.{written-canonical}
 use Rattle.iri_normal.proofs.laws.normal_targets_are_canonical_texts.Goals as goal
 
 pub returns : goal.returns

@@ -1,4 +1,4 @@
-use Rattle.iri_normal.proofs.ModeLaws.{preserving-stable}
+use Rattle.iri_normal.proofs.normal_forms.Modes.{preserving-stable}
 use Rattle.iri_normal.proofs.laws.preserving_form_is_stable.Goals as goal
 
 pub returns : goal.returns

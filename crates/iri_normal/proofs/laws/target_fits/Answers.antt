@@ -1,4 +1,4 @@
-use Rattle.iri_normal.proofs.TargetLaws.{target-fits}
+use Rattle.iri_normal.proofs.targets.Targets.{target-fits}
 use Rattle.iri_normal.proofs.laws.target_fits.Goals as goal
 
 pub returns : goal.returns

@@ -1,4 +1,4 @@
-use Rattle.iri_normal.proofs.LengthLaws.{length-target}
+use Rattle.iri_normal.proofs.normal_forms.Lengths.{length-target}
 use Rattle.iri_normal.proofs.laws.target_is_short.Goals as goal
 
 pub returns : goal.returns

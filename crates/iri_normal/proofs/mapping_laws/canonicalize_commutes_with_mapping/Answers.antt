@@ -1,5 +1,5 @@
 use Rattle.iri_normal.proofs.Common.{sym, ◌∙◌, absolute-law, reference-law, Default}
-use Rattle.iri_normal.proofs.MapForms.{mapped-canonical}
+use Rattle.iri_normal.proofs.mapping.MappedForms.{mapped-canonical}
 use Rattle.iri_normal.proofs.mapping_laws.canonicalize_commutes_with_mapping.Goals as goal
 
 pub returns : goal.returns

@@ -1,6 +1,6 @@
 use Rattle.iri_normal.proofs.Common.{◌∙◌, ap, dots, merged}
 use Rattle.iri_normal.specs.inside.Beginning.{is_slashes}
-use Rattle.iri_normal.proofs.BeginningLemmas.{begins-slashes}
+use Rattle.iri_normal.proofs.normal_forms.PathBeginnings.{begins-slashes}
 use Rattle.iri_normal.proofs.path_writer.begins_with_slashes.Goals as goal
 
 pub returns-in-Ok : goal.returns-in-Ok

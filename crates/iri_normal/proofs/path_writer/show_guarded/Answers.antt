@@ -1,6 +1,6 @@
 use Rattle.iri_normal.proofs.Common.{◌∙◌, sym, shows_exit, shows_then, dots, in_form, merged}
-use Rattle.iri_normal.proofs.BeginLemmas.{unguarded-form, guarded-form}
-use Rattle.iri_normal.proofs.NormalLemmas.{dots_whole}
+use Rattle.iri_normal.proofs.normal_forms.PathBeginnings.{unguarded-form, guarded-form}
+use Rattle.iri_normal.proofs.removal.WrittenPaths.{dots_whole}
 use Rattle.iri_normal.proofs.ShownTexts.{shows_same}
 use Rattle.iri_normal.proofs.path_writer.show_guarded.Goals as goal
 

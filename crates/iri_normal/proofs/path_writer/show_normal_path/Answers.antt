@@ -1,5 +1,5 @@
 use Rattle.iri_normal.proofs.Common.{◌≡◌, ◌∙◌, sym, ap, is_some, now_of, pct, dots, guard, merged}
-use Rattle.iri_normal.proofs.NormalLemmas.{is_some-now_of, path_is}
+use Rattle.iri_normal.proofs.removal.WrittenPaths.{is_some-now_of, path_is}
 use Rattle.iri_normal.proofs.ShownTexts.{shows_same}
 use Rattle.iri_normal.proofs.path_writer.show_normal_path.Goals as goal
 

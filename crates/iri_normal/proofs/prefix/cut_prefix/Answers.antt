@@ -1,6 +1,6 @@
 use Rattle.iri_normal.proofs.Common.{◌≡◌, ◌∙◌, false, length, take, sym, subst, ap, arith, common_steps, IsUtf8, IsCharBoundary, Fits}
 use Rattle.iri_normal.proofs.Common.{split_of, parts, now_of, split_text, prefix_in}
-use Rattle.iri_normal.proofs.PrefixLemmas.{cut-inside, cut-directory, cut-boundary, prefix-parts}
+use Rattle.iri_normal.proofs.normal_forms.Prefixes.{cut-inside, cut-directory, cut-boundary, prefix-parts}
 use Rattle.iri_normal.proofs.prefix.cut_prefix.Goals as goal
 
 pub prefix_len-len-requires : goal.prefix_len-len-requires

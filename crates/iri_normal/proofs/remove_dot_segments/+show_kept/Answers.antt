@@ -2,11 +2,11 @@ use Rattle.iri_normal.proofs.Common.{shown_none, shows_all, shows_exit, shows_th
 use Rattle.iri_normal.proofs.Common.{in_form, ◌==◌, ends_at_slash, ◌≡◌, ◌∙◌, ◌+◌, ◌<◌, ◌||◌, Ok, true, length, length-append, sym, subst}
 use Rattle.iri_normal.proofs.Common.{ap, arith}
 use Rattle.std.proofs.Common.{◌^◌, rules}
-use Rattle.iri_normal.proofs.EndedLemmas.{rest-ok}
-use Rattle.iri_normal.proofs.KeptLemmas.{kept-plain, one-segment}
-use Rattle.iri_normal.proofs.LongLemmas.{form-two}
-use Rattle.iri_normal.proofs.WriterLemmas.{form-nil}
-use Rattle.iri_normal.proofs.TargetLaws.{parts_over}
+use Rattle.iri_normal.proofs.segments.Slashes.{rest-ok}
+use Rattle.iri_normal.proofs.removal.KeptSegments.{kept-plain, one-segment}
+use Rattle.iri_normal.proofs.removal.LongPaths.{form-two}
+use Rattle.iri_normal.proofs.removal.WrittenPaths.{form-nil}
+use Rattle.iri_normal.proofs.targets.Targets.{parts_over}
 use Rattle.iri_normal.proofs.ShownTexts.{shows_same}
 use Rattle.iri_normal.proofs.remove_dot_segments.+show_kept.Goals as goal
 

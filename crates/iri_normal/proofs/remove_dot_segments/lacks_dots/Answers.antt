@@ -1,6 +1,6 @@
 use Rattle.iri_normal.proofs.Common.{◌∙◌, ap, refl, sym, not-true, may_have_dots}
-use Rattle.iri_normal.proofs.DotLemmas.{no_dots}
-use Rattle.iri_normal.proofs.SegmentLemmas.{dot_in_parts}
+use Rattle.iri_normal.proofs.segments.DotBytes.{no_dots}
+use Rattle.iri_normal.proofs.segments.CutPaths.{dot_in_parts}
 use Rattle.iri_normal.proofs.remove_dot_segments.lacks_dots.Goals as goal
 
 pub returns : goal.returns

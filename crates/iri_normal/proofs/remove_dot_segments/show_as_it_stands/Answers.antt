@@ -1,6 +1,5 @@
 use Rattle.iri_normal.proofs.Common.{shows_exit, shows_then, in_form}
-use Rattle.iri_normal.proofs.NormalLemmas.{whole_parts}
-use Rattle.iri_normal.proofs.WriterLemmas.{form-parts}
+use Rattle.iri_normal.proofs.removal.WrittenPaths.{whole_parts, form-parts}
 use Rattle.iri_normal.proofs.ShownTexts.{shows_same}
 use Rattle.iri_normal.proofs.remove_dot_segments.show_as_it_stands.Goals as goal
 

@@ -1,6 +1,6 @@
 use Rattle.iri_normal.proofs.Common.{◌≡◌, ◌∷◌, ◌∙◌, drop, true, sym, ap, subst, IsUtf8, pieces, whole_triplets, path-whole, kept, in_form}
-use Rattle.iri_normal.proofs.KeptLemmas.{kept-path}
-use Rattle.iri_normal.proofs.LongLemmas.{path-utf8}
+use Rattle.iri_normal.proofs.removal.KeptSegments.{kept-path}
+use Rattle.iri_normal.proofs.removal.LongPaths.{path-utf8}
 use Rattle.iri_normal.proofs.ShownTexts.{shows_same}
 use Rattle.iri_normal.proofs.remove_dot_segments.show_few.Goals as goal
 

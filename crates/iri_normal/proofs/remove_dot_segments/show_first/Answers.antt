@@ -1,5 +1,5 @@
 use Rattle.iri_normal.proofs.Common.{◌≡◌, ◌∷◌, [], arith, shows_exit, shows_then, path-whole}
-use Rattle.iri_normal.proofs.LongLemmas.{form-first, form-gone}
+use Rattle.iri_normal.proofs.removal.LongPaths.{form-first, form-gone}
 use Rattle.iri_normal.proofs.ShownTexts.{shows_same}
 use Rattle.iri_normal.proofs.remove_dot_segments.show_first.Goals as goal
 

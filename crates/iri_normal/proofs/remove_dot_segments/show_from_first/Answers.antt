@@ -1,6 +1,6 @@
-use Rattle.iri_normal.proofs.Common.{◌++◌, ◌∷◌, ◌∙◌, [], sym, ap, shows_exit, shows_then, is_path, lacks, now_of, pieces}
-use Rattle.iri_normal.proofs.Common.{path-whole, kept, in_form, popped_times}
-use Rattle.iri_normal.proofs.LongLemmas.{count-ends, first-path, form-three, more-ends, one-alone}
+use Rattle.iri_normal.proofs.Common.{◌++◌, ◌∷◌, ◌∙◌, [], sym, ap, shows_exit, shows_then, is_path, lacks, now_of, pieces, path-whole, kept}
+use Rattle.iri_normal.proofs.Common.{in_form, popped_times}
+use Rattle.iri_normal.proofs.removal.LongPaths.{count-ends, first-path, form-three, more-ends, one-alone}
 use Rattle.iri_grammar.proofs.faults.Scans.{before-lacks}
 use Rattle.iri_normal.proofs.ShownTexts.{shows_same}
 use Rattle.iri_normal.proofs.remove_dot_segments.show_from_first.Goals as goal

@@ -1,5 +1,5 @@
 use Rattle.iri_normal.proofs.Common.{◌≡◌, ◌<◌, length, ap, arith, nat_tests, in_form}
-use Rattle.iri_normal.proofs.LongLemmas.{cut-after, dots-base, dots-reference, path-parts}
+use Rattle.iri_normal.proofs.removal.LongPaths.{cut-after, dots-base, dots-reference, path-parts}
 use Rattle.iri_normal.proofs.ShownTexts.{shows_same}
 use Rattle.iri_normal.proofs.remove_dot_segments.show_long.Goals as goal
 

@@ -1,5 +1,5 @@
 use Rattle.iri_normal.proofs.Common.{◌≡◌, Ok, length, sym, subst, arith, nat_tests, shown_none, shows_all, Shows}
-use Rattle.iri_normal.proofs.WriterLemmas.{form-nothing}
+use Rattle.iri_normal.proofs.removal.WrittenPaths.{form-nothing}
 use Rattle.iri_normal.proofs.remove_dot_segments.show_part.Goals as goal
 
 pub returns-then-is_empty : goal.returns-then-is_empty

@@ -1,8 +1,8 @@
 use Rattle.iri_normal.proofs.Common.{◌≡◌, ◌∙◌, true, sym, subst, IsUtf8, whole_triplets, dots, merged}
-use Rattle.iri_normal.proofs.NormalLemmas.{dots_whole}
-use Rattle.iri_normal.proofs.PathLaws.{dots-over}
-use Rattle.iri_normal.proofs.TargetLaws.{slash_in_path}
-use Rattle.iri_normal.proofs.LongLemmas.{path-utf8}
+use Rattle.iri_normal.proofs.removal.WrittenPaths.{dots_whole}
+use Rattle.iri_normal.proofs.normal_forms.Paths.{dots-over}
+use Rattle.iri_normal.proofs.targets.Targets.{slash_in_path}
+use Rattle.iri_normal.proofs.removal.LongPaths.{path-utf8}
 use Rattle.iri_normal.proofs.remove_dot_segments.show_short.Goals as goal
 
 pub text_of-requires-clause-utf8 : goal.text_of-requires-clause-utf8

@@ -1,5 +1,5 @@
 use Rattle.iri_normal.proofs.Common.{sym, ap, path-whole, in_form, merged}
-use Rattle.iri_normal.proofs.StableLaws.{no_dots_same}
+use Rattle.iri_normal.proofs.removal.Stability.{no_dots_same}
 use Rattle.iri_normal.proofs.ShownTexts.{shows_same}
 use Rattle.iri_normal.proofs.remove_dot_segments.show_without_dots.Goals as goal
 

@@ -1,5 +1,5 @@
 use Rattle.iri_normal.proofs.Common.{parts}
-use Rattle.iri_normal.proofs.PlainReferences.{own-put}
+use Rattle.iri_normal.proofs.targets.PlainReferences.{own-put}
 use Rattle.iri_normal.proofs.resolver.own_before.Goals as goal
 
 pub returns-then-keeps_prefix : goal.returns-then-keeps_prefix

@@ -1,6 +1,6 @@
 use Rattle.iri_normal.proofs.Common.{◌≡◌, ◌+◌, ◌∙◌, true, drop, sym, subst, arith, common_steps, lead_after_ascii, to_last_slash}
 use Rattle.iri_normal.proofs.Common.{ends_at_slash}
-use Rattle.iri_normal.proofs.SlashLemmas.{after_slash, ends, last_slash, no_slash, none_after, slash_is}
+use Rattle.iri_normal.proofs.segments.Slashes.{after_slash, ends, last_slash, no_slash, none_after, slash_is}
 use Rattle.iri_normal.proofs.target.cut_last_segment.Goals as goal
 
 pub range-requires-clause-end_boundary : goal.range-requires-clause-end_boundary

@@ -1,5 +1,5 @@
 use Rattle.iri_normal.proofs.Common.{◌∙◌, ap, recompose, slices}
-use Rattle.iri_normal.proofs.ModeLaws.{whole-plain}
+use Rattle.iri_normal.proofs.normal_forms.Modes.{whole-plain}
 use Rattle.iri_normal.proofs.ShownTexts.{shows_same}
 use Rattle.iri_normal.proofs.target_text.show_target.Goals as goal
 

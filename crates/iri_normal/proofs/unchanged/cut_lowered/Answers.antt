@@ -1,8 +1,8 @@
 use Rattle.iri_normal.proofs.Common.{◌∙◌, ap, arith, subst, sym, or_parts, if_there, now_of, Fits, Parts, split_of, split_text}
 use Rattle.iri_normal.proofs.Common.{may_have_dots}
 use Rattle.iri_grammar.specs.Seen.{is_plain_authority}
-use Rattle.iri_normal.proofs.DotLemmas.{no_dots}
-use Rattle.iri_normal.proofs.PlainReferences.{lowered-before}
+use Rattle.iri_normal.proofs.segments.DotBytes.{no_dots}
+use Rattle.iri_normal.proofs.targets.PlainReferences.{lowered-before}
 use Rattle.iri_normal.proofs.unchanged.cut_lowered.Goals as goal
 
 pub returns : goal.returns

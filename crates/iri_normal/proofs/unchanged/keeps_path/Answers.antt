@@ -2,8 +2,8 @@ use Rattle.std.proofs.Common.{rules}
 use Rattle.iri_normal.proofs.Common.{◌≡◌, true, false, refl, subst, is_some, Parts, parts}
 use Rattle.iri_normal.specs.Dots.{has_dot_segment}
 use Rattle.iri_normal.specs.inside.Unchanged.{is_plain_prefix}
-use Rattle.iri_normal.proofs.DotLemmas.{no_dots}
-use Rattle.iri_normal.proofs.PlainReferences.{none-noted}
+use Rattle.iri_normal.proofs.segments.DotBytes.{no_dots}
+use Rattle.iri_normal.proofs.targets.PlainReferences.{none-noted}
 use Rattle.iri_normal.proofs.unchanged.keeps_path.Goals as goal
 
 pub returns-then-is_some : goal.returns-then-is_some

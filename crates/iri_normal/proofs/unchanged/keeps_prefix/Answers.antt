@@ -1,4 +1,4 @@
-use Rattle.iri_normal.proofs.PlainReferences.{none-noted, plain-prefix}
+use Rattle.iri_normal.proofs.targets.PlainReferences.{none-noted, plain-prefix}
 use Rattle.iri_normal.proofs.Common.{parts}
 use Rattle.iri_normal.proofs.unchanged.keeps_prefix.Goals as goal
 

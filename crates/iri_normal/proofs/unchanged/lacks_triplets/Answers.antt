@@ -1,5 +1,5 @@
 use Rattle.iri_normal.proofs.Common.{◌||◌, or_parts}
-use Rattle.iri_normal.proofs.PlainReferences.{none-noted}
+use Rattle.iri_normal.proofs.targets.PlainReferences.{none-noted}
 use Rattle.iri_normal.proofs.unchanged.lacks_triplets.Goals as goal
 
 pub returns : goal.returns

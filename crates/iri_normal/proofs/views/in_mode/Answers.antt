@@ -1,5 +1,5 @@
 use Rattle.iri_normal.proofs.Common.{◌≡◌, ◌∙◌, None, sym, subst, ap, ∥∥₁_elim, props, Fits, split_of}
-use Rattle.iri_normal.proofs.ModeLemmas.{view-sound}
+use Rattle.iri_normal.proofs.canonical_texts.WrittenTexts.{view-sound}
 use Rattle.iri_normal.proofs.views.in_mode.Goals as goal
 
 pub new-requires : goal.new-requires

@@ -3,7 +3,7 @@ use Rattle.iri_resolve.proofs.Common.{component_steps}
 use Rattle.std.proofs.lemmas.List.{nil_from_length, take_rest}
 use Rattle.iri_percent.specs.inside.Pieces.{case_of}
 use Rattle.iri_resolve.proofs.ComponentLemmas.{prefix-is, something, walk-ended, walk-stopped, walked-on}
-use Rattle.iri_resolve.proofs.Going.{Going, done-err, going}
+use Rattle.iri_resolve.proofs.PushedSteps.{Going, done-err, going}
 use Rattle.iri_resolve.proofs.component_steps.push_component.Goals as goal
 
 pub prefixes-init : goal.prefixes-init

@@ -1,6 +1,6 @@
 use Rattle.iri_resolve.proofs.Common.{is_ascii_uppercase, SchemeLetter, step_if, ◌<◌, ◌+◌, ◌++◌, length, ◌∙◌, ap, arith, sym, drop}
 use Rattle.iri_resolve.proofs.Common.{slice_index, scheme_steps}
-use Rattle.iri_resolve.proofs.Going.{all_gone, going, going_on, gone_wrong}
+use Rattle.iri_resolve.proofs.PushedSteps.{all_gone, going, going_on, gone_wrong}
 use Rattle.iri_resolve.proofs.NormalStepLemmas.{next-letter, no-letters}
 use Rattle.iri_resolve.proofs.part_steps.push_scheme_letters.Goals as goal
 

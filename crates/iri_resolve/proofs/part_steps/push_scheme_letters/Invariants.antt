@@ -1,5 +1,5 @@
 use Rattle.iri_resolve.proofs.Common.{drop, scheme_steps}
-use Rattle.iri_resolve.proofs.Going.{Going}
+use Rattle.iri_resolve.proofs.PushedSteps.{Going}
 use Rattle.iri_resolve.proofs.part_steps.push_scheme_letters.Given as goal
 
 abbrev pub invariant-loop-i : goal.invariant-loop-i

@@ -1,5 +1,5 @@
 use Rattle.iri_resolve.proofs.Common.{Some, sym, ◌∙◌, ap, parts_of}
-use Rattle.iri_resolve.proofs.Replayed.{one_more, none_yet}
+use Rattle.iri_resolve.proofs.Replays.{one_more, none_yet}
 use Rattle.iri_resolve.proofs.replay.replay_in.Goals as goal
 
 pub loop-k-init : goal.loop-k-init

@@ -1,6 +1,6 @@
 use Rattle.iri_edit.proofs.Common.{◌≡◌, ◌∙◌, [], None, subst, sym, password_of, IsPasswordAt}
 use Rattle.iri_edit.proofs.KindLemmas.{IsWhole}
-use Rattle.iri_edit.proofs.SameLemmas.{with_password-same}
+use Rattle.iri_edit.proofs.UnchangedTexts.{with_password-same}
 use Rattle.iri_edit.proofs.SpliceLemmas.{password-spliced}
 use Rattle.iri_edit.proofs.UserLemmas.{masked-valid}
 use Rattle.iri_edit.proofs.removal.OwnedRemovePassword.remove_nonempty_password_inline.Goals as goal

@@ -1,6 +1,6 @@
 use Rattle.iri_edit.proofs.Common.{◌≡◌, ◌∙◌, None, subst, sym, password_of, IsPasswordAt}
 use Rattle.iri_edit.proofs.KindLemmas.{IsWhole}
-use Rattle.iri_edit.proofs.SameLemmas.{without_password-same}
+use Rattle.iri_edit.proofs.UnchangedTexts.{without_password-same}
 use Rattle.iri_edit.proofs.SpliceLemmas.{password-removed}
 use Rattle.iri_edit.proofs.UserLemmas.{without-valid}
 use Rattle.iri_edit.proofs.removal.OwnedRemovePassword.remove_password_inline.Goals as goal

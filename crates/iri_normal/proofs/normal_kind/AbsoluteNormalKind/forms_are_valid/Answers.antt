@@ -1,4 +1,4 @@
-use Rattle.iri_normal.proofs.ModeLaws.{absolute-stays}
+use Rattle.iri_normal.proofs.normal_forms.Modes.{absolute-stays}
 use Rattle.iri_normal.proofs.normal_kind.AbsoluteNormalKind.forms_are_valid.Goals as goal
 
 pub returns : goal.returns

@@ -1,4 +1,4 @@
-use Rattle.iri_normal.proofs.ModeLemmas.{sound-fits}
+use Rattle.iri_normal.proofs.canonical_texts.WrittenTexts.{sound-fits}
 use Rattle.iri_normal.proofs.normalized.NormalizedText.ensure_rfc3986_normalizable.Goals as goal
 
 pub is_unresolvable-requires : goal.is_unresolvable-requires

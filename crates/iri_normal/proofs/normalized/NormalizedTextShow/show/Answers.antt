@@ -1,4 +1,4 @@
-use Rattle.iri_normal.proofs.ModeLemmas.{sound-fits}
+use Rattle.iri_normal.proofs.canonical_texts.WrittenTexts.{sound-fits}
 use Rattle.iri_normal.proofs.normalized.NormalizedTextShow.show.Goals as goal
 
 pub show_form-requires : goal.show_form-requires

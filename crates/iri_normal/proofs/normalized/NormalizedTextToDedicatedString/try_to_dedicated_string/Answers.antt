@@ -1,5 +1,5 @@
 use Rattle.iri_normal.proofs.Common.{◌≡◌, None, sym, subst, slices}
-use Rattle.iri_normal.proofs.ModeLemmas.{sound-fits, sound-valid}
+use Rattle.iri_normal.proofs.canonical_texts.WrittenTexts.{sound-fits, sound-valid}
 use Rattle.iri_normal.proofs.normalized.NormalizedTextToDedicatedString.try_to_dedicated_string.Goals as goal
 
 pub from_valid-requires : goal.from_valid-requires

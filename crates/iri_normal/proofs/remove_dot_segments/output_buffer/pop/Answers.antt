@@ -1,5 +1,5 @@
 use Rattle.iri_normal.proofs.Common.{arith}
-use Rattle.iri_normal.proofs.OutputLemmas.{popped-some, popped-none}
+use Rattle.iri_normal.proofs.removal.Buffers.{popped-some, popped-none}
 use Rattle.iri_normal.proofs.remove_dot_segments.output_buffer.pop.Goals as goal
 
 pub returns-in-Some-clause-text : goal.returns-in-Some-clause-text

@@ -1,6 +1,6 @@
 use Rattle.iri_normal.proofs.Common.{◌-◌, ◌||◌, ◌∙◌, take, sym, ap, arith, length-take-le, ◌==◌, ends_at_slash, popped_times}
-use Rattle.iri_normal.proofs.KeptLemmas.{ends-more, times-less, times-small}
-use Rattle.iri_normal.proofs.WrittenLemmas.{popped-ends}
+use Rattle.iri_normal.proofs.removal.KeptSegments.{ends-more, times-less, times-small}
+use Rattle.iri_normal.proofs.removal.Buffers.{popped-ends}
 use Rattle.iri_normal.proofs.remove_dot_segments.output_buffer.pop_times.Goals as goal
 
 pub pop-end-requires-clause-ends : goal.pop-end-requires-clause-ends

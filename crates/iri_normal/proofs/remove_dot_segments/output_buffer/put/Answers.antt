@@ -1,6 +1,6 @@
 use Rattle.iri_normal.proofs.Common.{is_empty, ◌≡◌, ◌++◌, ◌||◌, ◌∙◌, take, sym, ap, subst, arith, true, ends_at_slash, left, written}
-use Rattle.iri_normal.proofs.NextLemmas.{left-next, next-ends, next-shorter, written-next}
-use Rattle.iri_normal.proofs.WrittenLemmas.{written-plain}
+use Rattle.iri_normal.proofs.segments.FirstDots.{left-next, next-ends, next-shorter, written-next}
+use Rattle.iri_normal.proofs.removal.Buffers.{written-plain}
 use Rattle.iri_normal.proofs.remove_dot_segments.output_buffer.put.Goals as goal
 
 pub leave-end-requires-clause-ends : goal.leave-end-requires-clause-ends

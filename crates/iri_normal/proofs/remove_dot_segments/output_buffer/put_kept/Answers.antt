@@ -1,7 +1,7 @@
 use Rattle.iri_normal.proofs.Common.{◌∷◌, ◌||◌, ◌∙◌, [], refl, ap, arith, ◌==◌, or-true, is_empty, pieces, kept, ends_at_slash}
 use Rattle.iri_normal.proofs.Common.{popped_times, written}
-use Rattle.iri_normal.proofs.KeptLemmas.{after-slash, buffer-some, put-ends}
-use Rattle.iri_normal.proofs.OutputLemmas.{first-slash}
+use Rattle.iri_normal.proofs.removal.KeptSegments.{after-slash, buffer-some, put-ends}
+use Rattle.iri_normal.proofs.removal.Buffers.{first-slash}
 use Rattle.iri_normal.proofs.remove_dot_segments.output_buffer.put_kept.Goals as goal
 
 pub put-all-requires-clause-ends : goal.put-all-requires-clause-ends

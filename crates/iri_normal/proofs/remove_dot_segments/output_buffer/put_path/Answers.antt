@@ -1,5 +1,5 @@
 use Rattle.iri_normal.proofs.Common.{◌≡◌, ◌||◌, ◌∙◌, true, ap, sym, subst, is_empty, ends_at_slash, written}
-use Rattle.iri_normal.proofs.WrittenLemmas.{parts-end, written-parts}
+use Rattle.iri_normal.proofs.removal.Buffers.{parts-end, written-parts}
 use Rattle.iri_normal.proofs.remove_dot_segments.output_buffer.put_path.Goals as goal
 
 pub put-requires-clause-ends : goal.put-requires-clause-ends

@@ -1,6 +1,6 @@
 use Rattle.iri_normal.proofs.Common.{◌≡◌, ◌+◌, drop, take, sym, subst, arith, common_steps, lead_after_ascii}
 use Rattle.iri_normal.specs.inside.NextDots.{IsCut}
-use Rattle.iri_normal.proofs.LongLemmas.{cut-there}
+use Rattle.iri_normal.proofs.removal.LongPaths.{cut-there}
 use Rattle.iri_normal.proofs.remove_dot_segments.segments.cut_eighth.Goals as goal
 
 pub range-requires-clause-end_boundary : goal.range-requires-clause-end_boundary

@@ -1,5 +1,5 @@
 use Rattle.iri_normal.proofs.Common.{arith}
-use Rattle.iri_normal.proofs.LongLemmas.{slash-before-end}
+use Rattle.iri_normal.proofs.removal.LongPaths.{slash-before-end}
 use Rattle.iri_normal.proofs.remove_dot_segments.segments.slash_to_cut.Goals as goal
 
 pub returns-in-None : goal.returns-in-None

@@ -1,7 +1,7 @@
 use Rattle.iri_normal.proofs.Common.{◌≡◌, ◌+◌, ◌-◌, cond, ◌∙◌, sym, ap, arith, count_by, is_byte, pieces, taken}
 use Rattle.std.proofs.lemmas.List.Sums.{count_by-le-length}
-use Rattle.iri_normal.proofs.LongLemmas.{all-taken, taken-next}
-use Rattle.iri_normal.proofs.NextLemmas.{next-shorter}
+use Rattle.iri_normal.proofs.removal.LongPaths.{all-taken, taken-next}
+use Rattle.iri_normal.proofs.segments.FirstDots.{next-shorter}
 use Rattle.iri_normal.proofs.remove_dot_segments.segments.taken.Goals as goal
 
 pub dots-smaller : goal.dots-smaller

@@ -1,9 +1,9 @@
 use Rattle.iri_normal.proofs.Common.{◌≡◌, ◌++◌, [], ◌∷◌, ◌∙◌, true, subst, sym, ap, arith, path_char, before, now_of, after_shorter}
 use Rattle.iri_normal.proofs.Common.{is_dot_segment, ends_at_slash, nothing_over}
 use Rattle.iri_grammar.proofs.splits.CharBoundaries.{text_after}
-use Rattle.iri_normal.proofs.EndedLemmas.{first_whole, rest-ends}
-use Rattle.iri_normal.proofs.LongLemmas.{first-path, gone-all, gone-dots}
-use Rattle.iri_normal.proofs.PieceLaws.{nothing-is_no_dot}
+use Rattle.iri_normal.proofs.segments.Slashes.{first_whole, rest-ends}
+use Rattle.iri_normal.proofs.removal.LongPaths.{first-path, gone-all, gone-dots}
+use Rattle.iri_normal.proofs.segments.DotKinds.{nothing-is_no_dot}
 use Rattle.iri_normal.proofs.remove_dot_segments.segments.without_first_dots.Goals as goal
 
 pub dots-smaller : goal.dots-smaller

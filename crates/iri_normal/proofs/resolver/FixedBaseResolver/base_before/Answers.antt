@@ -2,7 +2,7 @@ use Rattle.std.proofs.Common.{rules}
 use Rattle.iri_normal.proofs.Common.{◌≡◌, ◌∙◌, sym, false, is_some, None, Parts, Fits, parts, split_of, prefix_in, base_text}
 use Rattle.iri_normal.specs.declared.unchanged.Before.{Before}
 use Rattle.iri_normal.specs.inside.Unchanged.{EndsParts, PutsPath, StandBefore}
-use Rattle.iri_normal.proofs.PlainReferences.{matched, nothing, parts-unchanged, path-put}
+use Rattle.iri_normal.proofs.targets.PlainReferences.{matched, nothing, parts-unchanged, path-put}
 use Rattle.iri_normal.proofs.resolver.FixedBaseResolver.base_before.Goals as goal
 
 pub returns-then-is_empty : goal.returns-then-is_empty

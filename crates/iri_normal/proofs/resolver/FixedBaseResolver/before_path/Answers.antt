@@ -1,5 +1,5 @@
 use Rattle.iri_normal.proofs.Common.{◌∙◌, ap, sym, subst, is_empty, starts_with_slash, now_of, split_of, IsPrefix, base_text}
-use Rattle.iri_normal.proofs.PlainReferences.{rooted-before, merged-before}
+use Rattle.iri_normal.proofs.targets.PlainReferences.{rooted-before, merged-before}
 use Rattle.iri_normal.proofs.resolver.FixedBaseResolver.before_path.Goals as goal
 
 pub returns-then-starts_with_slash : goal.returns-then-starts_with_slash

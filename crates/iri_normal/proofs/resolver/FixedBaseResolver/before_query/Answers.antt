@@ -1,5 +1,5 @@
 use Rattle.iri_normal.proofs.Common.{◌++◌, ◌∙◌, [], ap, sym, subst, cond, ∥∥₁_elim, props, IsPrefix, delimited, now_of, split_of, base_text}
-use Rattle.iri_normal.proofs.PlainReferences.{base-rest}
+use Rattle.iri_normal.proofs.targets.PlainReferences.{base-rest}
 use Rattle.iri_normal.proofs.resolver.FixedBaseResolver.before_query.Goals as goal
 
 pub returns-then-self : goal.returns-then-self

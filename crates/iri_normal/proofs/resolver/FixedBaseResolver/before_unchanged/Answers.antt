@@ -1,8 +1,8 @@
 use Rattle.iri_normal.proofs.Common.{ℕ, List, sym, parts, split_text, base_text}
 use Rattle.iri_normal.specs.declared.unchanged.Before.{Before}
 use Rattle.iri_normal.specs.inside.Unchanged.{EndsCanonical, EndsParts}
-use Rattle.iri_normal.proofs.DotLemmas.{no_dots}
-use Rattle.iri_normal.proofs.PlainReferences.{matched}
+use Rattle.iri_normal.proofs.segments.DotBytes.{no_dots}
+use Rattle.iri_normal.proofs.targets.PlainReferences.{matched}
 use Rattle.iri_normal.proofs.resolver.FixedBaseResolver.before_unchanged.Goals as goal
 
 pub returns-in-Some-default : goal.returns-in-Some-default

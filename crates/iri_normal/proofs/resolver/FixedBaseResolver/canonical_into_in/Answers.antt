@@ -3,7 +3,7 @@ use Rattle.iri_normal.proofs.Common.{∥∥₁_elim, props, take-append_seam, le
 use Rattle.iri_normal.proofs.Common.{absolute_fault, iri_fault, reference_fault, split_text, CanonMode, canonical_in, base_text}
 use Rattle.std.proofs.lemmas.Str.{IsCharBoundary-from_take, IsUtf8-string_bytes}
 use Rattle.std.specs.String.Boundary.{IsSplitPoint}
-use Rattle.iri_normal.proofs.CanonLaws.{canonical_in-iri}
+use Rattle.iri_normal.proofs.canonical_texts.CanonicalTexts.{canonical_in-iri}
 use Rattle.iri_normal.proofs.resolver.FixedBaseResolver.canonical_into_in.Goals as goal
 
 -- a string may be cut where its old text ended

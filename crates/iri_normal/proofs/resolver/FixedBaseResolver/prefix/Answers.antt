@@ -1,5 +1,5 @@
 use Rattle.iri_normal.proofs.Common.{sym, ◌∙◌, ap, Parts, split_of, now_of, split_text, base_text}
-use Rattle.iri_normal.proofs.PrefixLemmas.{prefix-kept}
+use Rattle.iri_normal.proofs.normal_forms.Prefixes.{prefix-kept}
 use Rattle.iri_normal.proofs.resolver.FixedBaseResolver.prefix.Goals as goal
 
 pub returns-in-None-None : goal.returns-in-None-None

@@ -1,4 +1,4 @@
-use Rattle.iri_normal.proofs.ModeLemmas.{target-sound}
+use Rattle.iri_normal.proofs.canonical_texts.WrittenTexts.{target-sound}
 use Rattle.iri_normal.proofs.resolver.FixedBaseResolver.resolve_split.Goals as goal
 
 pub after-requires-clause-sound : goal.after-requires-clause-sound

@@ -1,6 +1,6 @@
 use Rattle.iri_normal.proofs.Common.{sym, subst, ∥∥₁_elim, props, IsSome, Parts, Fits, parts}
 use Rattle.iri_types.specs.inside.KindLaws.{absolute-scheme}
-use Rattle.iri_normal.proofs.TargetLaws.{target-fits}
+use Rattle.iri_normal.proofs.targets.Targets.{target-fits}
 use Rattle.iri_normal.proofs.resolver.FixedBaseResolver.slices.Goals as goal
 
 pub returns-clause-fits : goal.returns-clause-fits

@@ -1,0 +1,3 @@
+-- Canonical texts.
+pub mod CanonicalTexts
+pub mod WrittenTexts

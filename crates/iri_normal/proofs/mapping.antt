@@ -1,0 +1,3 @@
+-- Normal forms and the mapping to URIs.
+pub mod MappedPaths
+pub mod MappedForms

@@ -1,0 +1,4 @@
+-- Targets of references.
+pub mod CutTexts
+pub mod Targets
+pub mod PlainReferences

@@ -1,0 +1,3 @@
+-- Triplets of a path, and dot removal.
+pub mod DotTriplets
+pub mod PathTriplets
