@@ -7,16 +7,14 @@ use Rattle.std.proofs.Math.Bool.{or-true}
 use Rattle.iri_grammar.proofs.splits.CutLaws.{before-delimited}
 use Rattle.iri_grammar.specs.Characters.{comma}
 use Rattle.iri_grammar.specs.ErrorTexts.{description}
-use Rattle.iri_grammar.specs.declared.error.ErrorKind.TheVariants.{InvalidScheme, InvalidUserInfo, InvalidHost, InvalidRegName, InvalidPort}
-use Rattle.iri_grammar.specs.declared.error.ErrorKind.TheVariants.{InvalidPath, InvalidQuery, InvalidFragment, UnexpectedFragment}
-use Rattle.iri_grammar.specs.declared.error.ErrorKind.TheVariants.{UnexpectedRelative, InvalidUtf8}
+use Rattle.iri_grammar.specs.declared.error.ErrorKind.TheVariants.{InvalidScheme}
 use Rattle.iri_normal.proofs.removal.Output.{lacks_there}
 use Rattle.iri_link.specs.ErrorTexts.{displayed, words}
 use Rattle.iri_link.specs.Refusals.{RefusedBy}
 use Rattle.iri_grammar.specs.Blanks.{is_blank}
 use Rattle.iri_link.specs.declared.error.LinkError.TheVariants.{Fault, Memory}
 use Rattle.iri_link.specs.declared.error.LinkKind.{LinkKind}
-use Rattle.iri_link.specs.declared.error.LinkKind.TheVariants.{NotUtf8, NoTarget, OpenTarget, BadTarget, NoParam, NoValue, OpenString}
+use Rattle.iri_link.specs.declared.error.LinkKind.TheVariants.{BadTarget}
 use Rattle.iri_cli.specs.links.Memory.{has_target, keeps_target, takes_memory}
 use Rattle.iri_link.specs.Fault.{Told, field_fault}
 use Rattle.iri_link.specs.Field.{LinkValue}
@@ -94,25 +92,11 @@ kept_takes s line (utf8, k) =
 -- ---- the length of what is told of a fault
 kind_short : (k : ErrorKind) → length (codes "target " ++ description k) ≤ 54
 kind_short InvalidScheme = omega arith
-kind_short InvalidUserInfo = omega arith
-kind_short InvalidHost = omega arith
-kind_short InvalidRegName = omega arith
-kind_short InvalidPort = omega arith
-kind_short InvalidPath = omega arith
-kind_short InvalidQuery = omega arith
-kind_short InvalidFragment = omega arith
-kind_short UnexpectedFragment = omega arith
-kind_short UnexpectedRelative = omega arith
-kind_short InvalidUtf8 = omega arith
+kind_short k = omega arith
 
 words_short : (k : LinkKind) → length (words k) ≤ 54
-words_short NotUtf8 = omega arith
-words_short NoTarget = omega arith
-words_short OpenTarget = omega arith
 words_short (BadTarget error) = kind_short error.kind
-words_short NoParam = omega arith
-words_short NoValue = omega arith
-words_short OpenString = omega arith
+words_short k = omega arith
 
 pub displayed_short : (k : LinkKind) (place : ℕ) → place < 2 ^ 64 → length (displayed (Fault k place)) ≤ 80
 displayed_short k place small =
