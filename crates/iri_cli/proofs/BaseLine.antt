@@ -1,11 +1,10 @@
 -- The base line.
-use Rattle.iri_cli.proofs.Common.{◌≡◌, ◌≢◌, ◌⊎◌, ℕ, ◌≤◌, List, [], ◌∷◌, ◌++◌, length, true, false, Option, None, Some, Ok}
-use Rattle.iri_cli.proofs.Common.{Err, refl, sym, ◌∙◌, ap, subst, arith, inl, inr, ⊎_elim, append_assoc, append-nil, Rose, Consumes}
-use Rattle.iri_cli.proofs.Common.{IsAtEnd, Appends, KeepsRoom, SinkState, LineState, Advances, Source, FaultLineTooLong}
-use Rattle.iri_cli.proofs.Common.{FaultInputTooLong, Appends-none, room-same, Rules, Ending, Passed, unless_refused}
-use Rattle.iri_cli.proofs.Common.{first_passed, completed, completed_lines, stopped, answered, IsBaseTaken, ending_by, ending, IsOpen}
-use Rattle.iri_cli.proofs.Common.{HasRead, ReadsSome, ReadsPast, IsGoing, outside, Decides, StopsShort, RanTo, Ran, End}
-use Rattle.iri_cli.proofs.Common.{BadBase}
+use Rattle.iri_cli.proofs.Common.{◌≡◌, ◌≢◌, ◌⊎◌, ℕ, ◌≤◌, List, [], ◌∷◌, ◌++◌, length, true, false, Option, None, Some, Ok, Err, refl, sym}
+use Rattle.iri_cli.proofs.Common.{◌∙◌, ap, subst, arith, inl, inr, ⊎_elim, append_assoc, append-nil, Rose, Consumes, IsAtEnd, Appends}
+use Rattle.iri_cli.proofs.Common.{KeepsRoom, SinkState, LineState, Advances, Source, FaultLineTooLong, FaultInputTooLong, Appends-none}
+use Rattle.iri_cli.proofs.Common.{room-same, Rules, Ending, Passed, unless_refused, first_passed, completed, completed_lines, stopped}
+use Rattle.iri_cli.proofs.Common.{answered, IsBaseTaken, ending_by, ending, IsOpen, HasRead, ReadsSome, ReadsPast, IsGoing, outside}
+use Rattle.iri_cli.proofs.Common.{Decides, StopsShort, RanTo, Ran, End, BadBase}
 use Rattle.iri_text.specs.declared.streams.reader.LineFault.{LineFault}
 use Rattle.iri_cli.specs.run.Ending.{base_line}
 use Rattle.iri_cli.specs.run.Buffers.{IsNew}

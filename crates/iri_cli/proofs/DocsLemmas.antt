@@ -1,7 +1,6 @@
 -- The answers of `docs`.
-use Rattle.iri_cli.proofs.Common.{◌≡◌, ◌≤◌, ◌∙◌, ℕ, Bool, false, List, [], ◌∷◌, ◌++◌, length, Result, refl, sym, ap, arith}
-use Rattle.iri_cli.proofs.Common.{Tests, SinkState, docs_answer, read_answer, Answering, AnswersLine}
-use Rattle.iri_cli.proofs.Common.{is_ok, AnswerError}
+use Rattle.iri_cli.proofs.Common.{◌≡◌, ◌≤◌, ◌∙◌, ℕ, Bool, false, List, [], ◌∷◌, ◌++◌, length, Result, refl, sym, ap, arith, Tests}
+use Rattle.iri_cli.proofs.Common.{SinkState, docs_answer, read_answer, Answering, AnswersLine, is_ok, AnswerError}
 use Rattle.iri_docs.specs.Documents.{line_document}
 use Rattle.iri_docs.specs.Held.{Held}
 use Rattle.iri_docs.specs.ErrorTexts.{description}

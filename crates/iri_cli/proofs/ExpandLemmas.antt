@@ -1,10 +1,11 @@
 -- The answers of `expand`.
-use Rattle.iri_cli.proofs.Common.{◌≡◌, ◌≢◌, ◌∙◌, ◌<◌, ◌≤◌, ℕ, Bool, true, false, List, [], ◌∷◌, ◌++◌, length, Option, None, Some, Result}
-use Rattle.iri_cli.proofs.Common.{Ok, Err, refl, sym, ap, subst, arith, append_assoc, codes, decimal, nat_lt, nat_tests, Tests}
-use Rattle.iri_cli.proofs.Common.{bytes_fault, reference_fault, ErrorKind, canonical, KeepsRoom, SinkState, Appends-none, room-same}
-use Rattle.iri_cli.proofs.Common.{expansion_limit, expansion, pieces_of}
-use Rattle.iri_cli.proofs.Common.{answer_by, answer_in, Answering, AnswersLine, PutsAnswer, Rules, expansion_answer}
-use Rattle.iri_cli.proofs.Common.{template_answer, Values, is_ok, AnswerError, SinkFailed}
+use Rattle.iri_cli.proofs.Common.{OnOk, cond, bytes_eq, with_value, undefined, ShownValue, AllocError, ◌≡◌, ◌≢◌, ◌∙◌, ◌<◌, ◌≤◌, ℕ, Bool}
+use Rattle.iri_cli.proofs.Common.{true, false, List, [], ◌∷◌, ◌++◌, length, Option, None, Some, Result, Ok, Err, refl, sym, ap, subst}
+use Rattle.iri_cli.proofs.Common.{arith, append_assoc, codes, decimal, nat_lt, nat_tests, Tests, bytes_fault, reference_fault, ErrorKind}
+use Rattle.iri_cli.proofs.Common.{canonical, KeepsRoom, SinkState, Appends-none, room-same, expansion_limit, expansion, pieces_of}
+use Rattle.iri_cli.proofs.Common.{answer_by, answer_in, Answering, AnswersLine, PutsAnswer, Rules, expansion_answer, template_answer}
+use Rattle.iri_cli.proofs.Common.{Values, is_ok, AnswerError, SinkFailed}
+use Rattle.std.proofs.Math.Path.{fun_ext}
 use Rattle.iri_percent.specs.declared.canon_mode.CanonMode.TheVariants.{Default}
 use Rattle.iri_template.specs.ErrorTexts.{description}
 use Rattle.iri_template.specs.TypeFaults.{expansion_fault}
@@ -14,11 +15,34 @@ use Rattle.iri_docs.specs.declared.expand_error.DocExpandError.{DocExpandError}
 use Rattle.iri_docs.specs.declared.expand_error.DocExpandError.TheVariants.{Template, TooLong, Invalid, Memory as OutOfMemory}
 use Rattle.iri_docs.proofs.ExpandLemmas.{by_length, faulty}
 use Rattle.iri_cli.specs.expand.Answers.{answer_to}
-use Rattle.iri_cli.specs.expand.Lines.{ExpandLine, after_line, line_of, values_after}
+use Rattle.iri_cli.specs.expand.Lines.{ExpandLine, after_line, line_of, values_after, values_from}
 use Rattle.iri_cli.specs.expand.Rules.{is_ok_or_none}
 use Rattle.iri_cli.specs.inside.ExpandAt.{IsExpandAt}
 use Rattle.iri_cli.proofs.CanonLemmas.{on_ok, puts_answer}
-use Rattle.iri_cli.proofs.VariableLemmas.{values-more}
+
+-- ---- the values of variables
+-- a value that takes the place of another
+with_value-again : (values : Values) (name : List ℕ) (old value : ShownValue)
+    → with_value (with_value values name old) name value ≡ with_value values name value
+with_value-again values name old value = fun_ext (λ other. by_test (bytes_eq other name) (values other))
+  where
+    by_test : (same : Bool) (v : ShownValue) → cond same value (cond same old v) ≡ cond same value v
+    by_test true v = refl
+    by_test false v = refl
+
+-- a value was taken away, and another is there
+pub set_again : (before between after : Values) (name : List ℕ) (value wanted : ShownValue) (r : Result (Unit {0}) AllocError)
+    → between ≡ with_value before name undefined → value ≡ wanted → OnOk r (after ≡ with_value between name value)
+    → OnOk r (after ≡ with_value before name wanted)
+set_again before between after name value wanted (Err e) b i a = tt
+set_again before between after name value wanted (Ok x) b i a =
+    a ∙ ap (λ v. with_value v name value) b ∙ with_value-again before name undefined value ∙ ap (with_value before name) i
+
+-- the values after one line more
+values-more : (values : Values) (lines : List (List ℕ)) (line : List ℕ)
+    → values_from values (lines ++ line ∷ []) ≡ after_line (values_from values lines) (line_of line)
+values-more values [] line = refl
+values-more values (first ∷ lines) line = values-more (after_line values (line_of first)) lines line
 
 -- ---- the answer to a template
 -- an expansion that isn't too long is answered as `canon` answers it

@@ -16,7 +16,6 @@ pub mod OpeningLemmas
 pub mod MemoryLemmas
 pub mod StatelessLemmas
 pub mod LinksLemmas
-pub mod VariableLemmas
 pub mod ExpandLemmas
 pub mod DocsLemmas
 pub mod PutLemmas

@@ -1,7 +1,7 @@
 -- How limits and lines go over the bytes of one line.
-use Rattle.iri_cli.proofs.Common.{◌≡◌, ◌≢◌, ℕ, ◌+◌, ◌==◌, if◌then◌else◌, ◌<◌, ◌≤◌, List, [], ◌∷◌, ◌++◌, length, Bool, true, false, Option}
+use Rattle.iri_cli.proofs.Common.{◌≡◌, ◌≢◌, ℕ, ◌+◌, ◌<◌, ◌≤◌, List, [], ◌∷◌, ◌++◌, length}
 use Rattle.iri_cli.proofs.Common.{None, Some, sym, ◌∙◌, ap, arith, append-nil, nat_tests, NoLf, Rules, Passed, passed_from}
-use Rattle.std.proofs.Common.{nat_le, add-zero}
+use Rattle.std.proofs.Common.{add-zero}
 
 module _ (rules : Rules) where
   step : (place len b : ℕ) (y : List ℕ) → b ≢ 10 → place < rules.input_limit → len < rules.line_limit
@@ -56,23 +56,10 @@ module _ (rules : Rules) where
   past_over place b raw y n l i = along place 0 raw (b ∷ y) n (omega arith) (omega arith)
       ∙ at_over (place + length raw) (0 + length raw) b y (omega arith)
 
-  abbrev place_of : Option Passed → ℕ
-  place_of None = 0
-  place_of (Some p) = p.place
-
   -- a limit is passed after the bytes that stand before
   pub place_later : (place len : ℕ) (y : List ℕ) (p : Passed) → passed_from rules place len y ≡ Some p → place ≤ p.place
   place_later place len [] p is = absurd (cc is)
   place_later place len (b ∷ y) p is =
-      by_tests (nat_le rules.input_limit place) (b == 10) (nat_le rules.line_limit len) (place_later (place + 1) 0 y p)
-      (place_later (place + 1) (len + 1) y p) is
-    where
-      by_tests : (over lf long : Bool) → (passed_from rules (place + 1) 0 y ≡ Some p → place + 1 ≤ p.place)
-          → (passed_from rules (place + 1) (len + 1) y ≡ Some p → place + 1 ≤ p.place)
-          → (if over then Some (record { status = 8; place = place }) else (if lf then passed_from rules (place + 1) 0 y
-          else (if long then Some (record { status = 7; place = place }) else passed_from rules (place + 1) (len + 1) y))) ≡ Some p
-          → place ≤ p.place
-      by_tests true lf long at_lf on e = let h : place ≡ p.place = ap place_of e in omega (arith, h)
-      by_tests false true long at_lf on e = let h = at_lf e in omega (arith, h)
-      by_tests false false true at_lf on e = let h : place ≡ p.place = ap place_of e in omega (arith, h)
-      by_tests false false false at_lf on e = let h = on e in omega (arith, h)
+      let lf = place_later (place + 1) 0 y p in
+      let on = place_later (place + 1) (len + 1) y p in
+      grind (arith, nat_tests, lf, on)

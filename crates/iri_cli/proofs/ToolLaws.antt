@@ -73,9 +73,8 @@ answers_are_expansions s base line = by_document s base line (line_document line
 -- ---- `robots`
 part_is : (x y : Option (List ℕ)) → same_part x y ≡ true → x ≡ y
 part_is None None h = refl
-part_is None (Some b) h = cc
-part_is (Some a) None h = cc
 part_is (Some a) (Some b) h = ap Some ((bytes_eq-Decides a b).0 h)
+part_is x y h = cc
 
 is_part : (x : Option (List ℕ)) → same_part x x ≡ true
 is_part None = refl
@@ -100,8 +99,7 @@ module _ (base : Parts) (rules : List FileRule) (target : Parts) where
   verdict_is true true s a = allow (site_is base target s) ((allowed_is rules (subject target)).0 a)
   verdict_is true false s a =
       disallow (site_is base target s) (λ k. let t = (allowed_is rules (subject target)).1 k in cc)
-  verdict_is false true s a = other (λ k. let t = is_site base target k in cc)
-  verdict_is false false s a = other (λ k. let t = is_site base target k in cc)
+  verdict_is false allowed s a = other (λ k. let t = is_site base target k in cc)
 
 pub answers_are_verdicts : (s : Tests) (token : List ℕ) → AnswersAreVerdicts s token
 answers_are_verdicts s token base line reference between asks none =

@@ -1,9 +1,8 @@
 -- What a reader has given of an input, and how reading ends.
 use Rattle.std.specs.Prelude.{◌≡◌, ◌⊎◌, ◌≤◌, ◌+◌, ℕ, true, false, List, [], ◌++◌, length, take, Option, None, Some}
 use Rattle.iri_text.specs.Line.{LineState}
-use Rattle.iri_text.specs.Lines.{lines}
+use Rattle.iri_text.specs.Lines.{lines, ended_lines}
 use Rattle.iri_text.specs.Source.{Consumes, IsAtEnd}
-use Rattle.iri_text.specs.Lines.{ended_lines}
 use Rattle.iri_cli.specs.run.Ending.{Rules, passed_from, first_passed}
 
 module _ (rules : Rules) where

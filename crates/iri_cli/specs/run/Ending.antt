@@ -2,8 +2,7 @@
 -- The first line is the base. What a command writes for each further line may depend on the lines between.
 use Rattle.std.specs.Prelude.{◌≡◌, ℕ, ◌+◌, ◌==◌, nat_le, codes, Bool, List, [], ◌∷◌, ◌++◌, take, Option, None, Some, if◌then◌else◌}
 use Rattle.std.specs.List.{concat, list_all}
-use Rattle.iri_text.specs.Lines.{ended_lines}
-use Rattle.iri_text.specs.Lines.{lines}
+use Rattle.iri_text.specs.Lines.{ended_lines, lines}
 use Rattle.iri_text.specs.LineEnds.{line_feed}
 
 -- What a command says of the lines of its input.

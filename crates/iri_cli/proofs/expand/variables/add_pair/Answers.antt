@@ -1,7 +1,7 @@
 use Rattle.iri_cli.proofs.Common.{◌∙◌, ◌∷◌, ◌++◌, [], ap, string_bytes, shown_value, optional}
 use Rattle.iri_template.specs.ShownValues.{pairs}
 use Rattle.iri_cli.specs.expand.Lines.{entries_of}
-use Rattle.iri_cli.proofs.VariableLemmas.{set_again}
+use Rattle.iri_cli.proofs.ExpandLemmas.{set_again}
 use Rattle.iri_cli.proofs.expand.variables.add_pair.Goals as goal
 
 pub returns-in-Ok : goal.returns-in-Ok
