@@ -1,6 +1,5 @@
 mod Common
 pub mod Borrowed
-pub mod SchemeRules
 pub mod ShownTexts
 pub mod segments
 pub mod removal

@@ -2,3 +2,4 @@
 pub mod CutTexts
 pub mod Targets
 pub mod PlainReferences
+pub mod SchemeRules

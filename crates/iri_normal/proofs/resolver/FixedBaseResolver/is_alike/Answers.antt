@@ -1,6 +1,6 @@
 use Rattle.iri_normal.proofs.Common.{◌∙◌, ap, subst, Parts, split_of, split_text, target, canonical_in, base_text}
 use Rattle.iri_normal.specs.inside.SchemeRules.{StaysByScheme}
-use Rattle.iri_normal.proofs.SchemeRules.{canonical-stays}
+use Rattle.iri_normal.proofs.targets.SchemeRules.{canonical-stays}
 use Rattle.iri_normal.proofs.resolver.FixedBaseResolver.is_alike.Goals as goal
 
 pub returns-in-Scheme : goal.returns-in-Scheme

@@ -1,6 +1,6 @@
 use Rattle.iri_normal.proofs.Common.{◌∙◌, ◌&&◌, ap, sym, is_empty, not-true, now_of, parts, split_of, base_text}
 use Rattle.iri_normal.specs.inside.SchemeRules.{ends_in_port}
-use Rattle.iri_normal.proofs.SchemeRules.{own-stays, path-stays}
+use Rattle.iri_normal.proofs.targets.SchemeRules.{own-stays, path-stays}
 use Rattle.iri_normal.proofs.resolver.FixedBaseResolver.stays_by_scheme.Goals as goal
 
 pub returns-in-Some-default : goal.returns-in-Some-default
