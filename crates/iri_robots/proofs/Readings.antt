@@ -3,9 +3,10 @@ use Rattle.std.proofs.Common.{◌≡◌, ◌≢◌, ◌⊎◌, ℕ, zero, suc, �
 use Rattle.std.proofs.lemmas.List.{length-append, get_or-take, get_or-drop, length-take-le, ext_get_or, length-drop, drop-append-le, drop-drop}
 use Rattle.std.proofs.Math.ListN.{get_or-append}
 use Rattle.std.proofs.Math.Seq.{take-suc}
-use Rattle.iri_robots.specs.inside.Fits.{IsEscape, star_escape, dollar_escape, Fits, IsSuffix, whole, later, EscapeOf, NoEscape}
+use Rattle.std.proofs.lemmas.Bool.{false≢true}
+use Rattle.iri_robots.specs.inside.Fits.{IsEscape, star_escape, dollar_escape, Fits, FitsNot, IsSuffix, whole, later, EscapeOf, NoEscape, ended, star, escaped, same}
 use Rattle.iri_robots.specs.inside.Plain.{Keeps, StandsNot}
-use Rattle.iri_robots.specs.inside.Escaped.{tail_of, head_of, Left, FitsNotBefore, Stands, StandsNotHere, IsNeedle}
+use Rattle.iri_robots.specs.inside.Escaped.{tail_of, head_of, Left, FitsNotBefore, Stands, StandsNotHere, NotWhole, IsNeedle}
 use Rattle.iri_robots.specs.inside.Escaped.{ended as no_needle, same as same_needle, escape as escape_needle}
 use Rattle.iri_robots.specs.inside.Escaped.{escaped_text, left_text, next, after_bytes}
 use Rattle.iri_robots.specs.inside.Periods.{HasPeriod, IsShift}
@@ -111,28 +112,31 @@ triplet_read d l m s star_escape = refl
 triplet_read d l m s dollar_escape = refl
 
 -- where a pattern fits, its needle stands: so much of the text is read as the needle
-pub record IsRead (d : Bool) (q : List ℕ) (n : ℕ) (r : List ℕ) : Type 0 where
+pub record IsRead (d a : Bool) (q : List ℕ) (n : ℕ) (r : List ℕ) : Type 0 where
   pub prefix : List ℕ
   pub rest : List ℕ
   pub split : r ≡ prefix ++ rest
   pub read : escaped_text d prefix ≡ take n q
+  pub fits : Fits a (drop n q) rest
 
-read_same : (d : Bool) (c n : ℕ) (q r t : List ℕ) → c ≢ 42 → (d ≡ true → c ≢ 36) → r ≡ c ∷ t → IsRead d q n t → IsRead d (c ∷ q) (suc n) r
+read_same : (d a : Bool) (c n : ℕ) (q r t : List ℕ) → c ≢ 42 → (d ≡ true → c ≢ 36) → r ≡ c ∷ t → IsRead d a q n t → IsRead d a (c ∷ q) (suc n) r
 unfolding escaped_text
-read_same d c n q r t a b e h =
-    let k = head_same d c a b in
+read_same d a c n q r t m b e h =
+    let k = head_same d c m b in
     record {
+      fits = h.fits;
       prefix = c ∷ h.prefix;
       rest = h.rest;
       split = e ∙ ap (λ x. c ∷ x) h.split;
       read = ap (λ x. x ∷ (tail_of d c ++ escaped_text d h.prefix)) k.0 ∙ (ap (λ x. c ∷ (x ++ escaped_text d h.prefix)) k.1 ∙ ap (λ x. c ∷ x) h.read);
     }
 
-read_escape : (d a : Bool) (l m n : ℕ) (q r : List ℕ) → IsEscape l m → tail_of d m ≢ [] → ((t : List ℕ) → Fits a q t → IsRead d q n t)
-    → FitsEscape a l m q r → IsRead d (37 ∷ 50 ∷ l ∷ q) (suc (suc (suc n))) r
+read_escape : (d a : Bool) (l m n : ℕ) (q r : List ℕ) → IsEscape l m → tail_of d m ≢ [] → ((t : List ℕ) → Fits a q t → IsRead d a q n t)
+    → FitsEscape a l m q r → IsRead d a (37 ∷ 50 ∷ l ∷ q) (suc (suc (suc n))) r
 read_escape d a l m n q r e f h (by_special t s g) =
     let k = h t g in
     record {
+      fits = k.fits;
       prefix = m ∷ k.prefix;
       rest = k.rest;
       split = s ∙ ap (λ x. m ∷ x) k.split;
@@ -141,18 +145,19 @@ read_escape d a l m n q r e f h (by_special t s g) =
 read_escape d a l m n q r e f h (by_triplet t s g) =
     let k = h t g in
     record {
+      fits = k.fits;
       prefix = 37 ∷ 50 ∷ l ∷ k.prefix;
       rest = k.rest;
       split = s ∙ ap (λ x. 37 ∷ 50 ∷ l ∷ x) k.split;
       read = triplet_read d l m k.prefix e ∙ ap (λ x. 37 ∷ 50 ∷ l ∷ x) k.read;
     }
 
-pub needle_read : (d a : Bool) (q : List ℕ) (n : ℕ) (r : List ℕ) → IsNeedle d q n → Fits a q r → IsRead d q n r
+pub needle_read : (d a : Bool) (q : List ℕ) (n : ℕ) (r : List ℕ) → IsNeedle d q n → Fits a q r → IsRead d a q n r
 unfolding escaped_text
-needle_read d a q n r (no_needle q') f = record { prefix = []; rest = r; split = refl; read = refl }
+needle_read d a q n r (no_needle q') f = record { prefix = []; rest = r; split = refl; read = refl; fits = f }
 needle_read d a q n r (same_needle c q' n' e m h k) f =
     let g = same_prefix a c q' r e m f in
-    read_same d c n' q' r g.0 e h g.1 (needle_read d a q' n' g.0 k g.2)
+    read_same d a c n' q' r g.0 e h g.1 (needle_read d a q' n' g.0 k g.2)
 needle_read d a q n r (escape_needle l m q' n' e h k) f =
     read_escape d a l m n' q' r e h (λ t g. needle_read d a q' n' t k g) (fits_escape a l m q' r e f)
 
@@ -215,7 +220,7 @@ later_period y t w after n j e l f = record {
 }
 
 -- what is read at a place where the pattern fits
-fits_read : (d a : Bool) (q : List ℕ) (n : ℕ) (r : List ℕ) → IsNeedle d q n → Fits a q r → (h : IsRead d q n r)
+fits_read : (d a : Bool) (q : List ℕ) (n : ℕ) (r : List ℕ) → IsNeedle d q n → Fits a q r → (h : IsRead d a q n r)
     × (left_text d (left [] r) ≡ take n q ++ escaped_text d h.rest)
 unfolding left_text
 fits_read d a q n r h f =
@@ -227,25 +232,32 @@ next_byte [] w after n l e = absurd (omega arith)
 next_byte (x ∷ y) w after zero l e = e
 next_byte (x ∷ y) w after (suc n) l e = next_byte y w after n (omega arith) (cc)
 
+open_fits : (a : Bool) (q s : List ℕ) → Fits a q s → Fits false q s
+open_fits a q s (ended s' h) = ended s' (λ e. absurd (false≢true e))
+open_fits a q s (star t q' s' f) = star t q' s' (open_fits a q' s' f)
+open_fits a q s (escaped l m q' s' e f) = escaped l m q' s' e (open_fits a q' s' f)
+open_fits a q s (same c q' s' h f) = same c q' s' h (open_fits a q' s' f)
+
 not_here : (d a : Bool) (q : List ℕ) (len n : ℕ) (l after : Left) (r : List ℕ) → IsNeedle d q len → len ≤ length q → Stands d (take len q) l n after
-    → StandsNotHere d (take len q) l n after → l ≡ left [] r → Fits a q r → ⊥
+    → StandsNotHere d (take len q) (drop len q) l n after → l ≡ left [] r → Fits a q r → ⊥
 not_here d a q len n l after r h m s o e f =
     let k = fits_read d a q len r h f in
     let t : left_text d l ≡ take len q ++ escaped_text d k.0.rest = ap (λ x. left_text d x) e ∙ k.1 in
     ⊎_elim
     (λ y. y.1 (drop (suc n) (take len q) ++ escaped_text d k.0.rest) (next_byte (take len q) (escaped_text d k.0.rest) (left_text d after) n y.0 (sym
     s.text ∙ t)))
-    (λ y. ⊎_elim (λ z. z (ap (λ x. x.begun) e)) (λ z.
+    (λ y.
     let p : length (escaped_text d k.0.prefix) ≡ n = ap length k.0.read ∙ sym y.0 in
     let u : after_bytes d n l ≡ left [] k.0.rest =
     ap (λ x. after_bytes d n x) (e ∙ ap (λ x. left [] x) k.0.split) ∙ (ap (λ x. after_bytes d x (left [] (k.0.prefix ++ k.0.rest))) (sym p)
     ∙ past_read d k.0.prefix k.0.rest) in
-    z (ap (λ x. x.begun) (sym s.moved ∙ u))) y.1)
+    let v : after ≡ left [] k.0.rest = sym s.moved ∙ u in
+    ⊎_elim (λ z. z (ap (λ x. x.begun) e)) (λ z. ⊎_elim (λ w. w (ap (λ x. x.begun) v)) (λ w. w.none (subst (λ x. Fits false (drop len q) x) (sym (ap (λ x. x.rest) v)) (open_fits a (drop len q) k.0.rest k.0.fits))) z) y.1)
     o
 
 -- at none of the places that are passed the pattern fits
 pub none_passed : (d : Bool) (q : List ℕ) (len n by kept : ℕ) (l after : Left) → IsNeedle d q len → len ≤ length q → Stands d (take len q) l n after
-    → StandsNotHere d (take len q) l n after → IsShift (take len q) n by kept → FitsNotBefore d q l by
+    → StandsNotHere d (take len q) (drop len q) l n after → IsShift (take len q) n by kept → FitsNotBefore d q l by
 unfolding after_bytes
 none_passed d q len n by kept l after h m s o f zero r i e a = record { none = λ g. not_here d a q len n l after r h m s o e g }
 none_passed d q len n by kept l after h m s o f (suc j) r i e a = record {
@@ -289,10 +301,21 @@ unfolding escaped_text
 shorter_read d r s (whole s') = omega arith
 shorter_read d r s (later x r' s' k) = let h = shorter_read d r s' k in omega (arith, length-append (tail_of d x) (escaped_text d s'))
 
-pub none_left : (d : Bool) (q s : List ℕ) (len n : ℕ) (l after : Left) → IsNeedle d q len → len ≤ length q → Stands d (take len q) l n after → n < len
-    → left_text d after ≡ [] → Keeps q s l.rest → StandsNot q s
+suffix_as_long : (d : Bool) (r s : List ℕ) → IsSuffix r s → length (escaped_text d s) ≤ length (escaped_text d r) → r ≡ s
+unfolding escaped_text
+suffix_as_long d r s (whole s') l = refl
+suffix_as_long d r s (later x r' s' k) l =
+    let h = shorter_read d r s' k in
+    absurd (omega (arith, length-append (tail_of d x) (escaped_text d s')))
+
+no_begun : (b : List ℕ) → length b ≡ 0 → b ≡ []
+no_begun [] e = refl
+no_begun (x ∷ b) e = absurd (omega arith)
+
+pub none_left : (d : Bool) (q s : List ℕ) (len n : ℕ) (l after : Left) → IsNeedle d q len → len ≤ length q → Stands d (take len q) l n after
+    → StandsNotHere d (take len q) (drop len q) l n after → left_text d after ≡ [] → Keeps q s l.rest → StandsNot q s
 unfolding left_text
-none_left d q s len n l after h m st lt e k a = record {
+none_left d q s len n l after h m st o e k a = record {
   none = λ f.
       let g = fits_star a q l.rest ((k a).fits.0 f) in
       let r = fits_read d a q len g.rest h g.fits in
@@ -302,8 +325,12 @@ none_left d q s len n l after h m st lt e k a = record {
       let x = ap length e in
       let y = length-take-le len q m in
       let z = length-take-le n (take len q) st.within in
+      let i = st.within in
       let p = length-append l.begun (escaped_text d l.rest) in
-      absurd (omega arith);
+      let b : l.begun ≡ [] = no_begun l.begun (omega arith) in
+      let c : g.rest ≡ l.rest = suffix_as_long d g.rest l.rest g.is_suffix (omega arith) in
+      let j : l ≡ left [] g.rest = ap (λ t. left t l.rest) b ∙ ap (λ t. left [] t) (sym c) in
+      not_here d a q len n l after g.rest h m st o j g.fits;
 }
 
 -- ---- the parts of a needle
@@ -363,21 +390,27 @@ some_begun y [] [] n e h = absurd (h (e, refl, refl))
 some_begun y [] (x ∷ c) n e h = inr (λ z. cc)
 some_begun y (x ∷ b) c n e h = inl (λ z. cc)
 
-pub stands_not : (d : Bool) (y : List ℕ) (l after : Left) (n : ℕ)
+pub stands_not : (d : Bool) (y q : List ℕ) (len : ℕ) (l after : Left) (n : ℕ) → length y ≡ len
     → n ≡ length y ⊎ (n < length y) × ((t : List ℕ) → left_text d after ≡ slice_index y n ∷ t → ⊥)
-    → ((n ≡ length y) × (l.begun ≡ []) × (after.begun ≡ []) → ⊥) → StandsNotHere d y l n after
-stands_not d y l after n o h = ⊎_elim (λ e. inr (e, some_begun y l.begun after.begun n e h)) (λ x. inl x) o
+    → NotWhole len l n after ⊎ FitsNot false q after.rest → StandsNotHere d y q l n after
+stands_not d y q len l after n w o h = ⊎_elim
+    (λ e. inr (
+      e,
+      ⊎_elim
+          (λ g. ⊎_elim (λ b. inl b) (λ b. inr (inl b)) (some_begun y l.begun after.begun n e (λ k. g (e ∙ w, k.1, k.2))))
+          (λ f. inr (inr f))
+          h,
+    ))
+    (λ x. inl x)
+    o
 
 append_empty : (s t : List ℕ) → [] ≡ s ++ t → t ≡ []
 append_empty [] t e = sym e
 append_empty (x ∷ s) t e = cc
 
-pub not_all_read : (d : Bool) (y : List ℕ) (l after : Left) (n : ℕ) → Stands d y l n after → StandsNotHere d y l n after
-    → ((n < length y) × (after.begun ≡ []) × (after.rest ≡ []) → ⊥) → left_text d l ≢ []
-not_all_read d y l after n s o h e =
-    let k = append_empty (take n y) (left_text d after) (sym e ∙ s.text) in
-    let a = empty_left d after.begun after.rest k in
-    ⊎_elim (λ x. h (x.0, a.0, a.1)) (λ x. ⊎_elim (λ z. z (empty_left d l.begun l.rest e).0) (λ z. z a.0) x.1) o
+pub not_all_read : (d : Bool) (y : List ℕ) (l after : Left) (n : ℕ) → Stands d y l n after
+    → ((after.begun ≡ []) × (after.rest ≡ []) → ⊥) → left_text d l ≢ []
+not_all_read d y l after n s h e = h (empty_left d after.begun after.rest (append_empty (take n y) (left_text d after) (sym e ∙ s.text)))
 
 less_dropped : (t : List ℕ) (n : ℕ) → 0 < n → t ≢ [] → length (drop n t) < length t
 less_dropped [] n m e = absurd (e refl)

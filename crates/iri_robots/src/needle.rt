@@ -1,10 +1,11 @@
 // What of a pattern is searched for in an escaped text, in which it stands as it is.
 ghost use Rattle.std.specs.Prelude.{◌≡◌, ◌≢◌, ◌↔◌, ◌⊎◌, ◌+◌, ◌<◌, ◌≤◌, ◌^◌, ℕ, [], true, false, MatchOption, length, take, drop};
+ghost use Rattle.iri_robots.specs.inside.Fits.{FitsNot};
 ghost use Rattle.iri_robots.specs.inside.Plain.{Keeps, StandsNot};
-ghost use Rattle.iri_robots.specs.inside.Escaped.{IsNeedle, Left, Stands, StandsNotHere, StopsAt, left_of, left_text};
+ghost use Rattle.iri_robots.specs.inside.Escaped.{IsNeedle, IsWhole, Left, NotWhole, Stands, StopsAt, left_of};
 
 use crate::escaped::{Escaped, read, skip};
-use crate::pattern::escaped_special;
+use crate::pattern::{Reached, escaped_special, reach_star};
 use crate::periods::{Shift, periods_of, shift_of};
 
 // Whether a `$` of the text is read as `%24`: in the pattern no `$` stands before its first `%24` or `*`. Either answer
@@ -92,19 +93,39 @@ fn fill_on<'a>(needle: &[u8], filled: Filled<'a>, dollars: bool) -> Filled<'a>
 }
 
 // The needle stands there as a whole, from a byte of the text to one.
-fn is_whole(needle: &[u8], start: Escaped<'_>, filled: Filled<'_>) -> bool
-    ensures { (result ≡ true) ↔ (filled.entry.bytes ≡ length needle.now)
-        × ((left_of start.entry).begun ≡ []) × ((left_of filled.entry.left).begun ≡ []) }
+fn is_whole(len: usize, start: Escaped<'_>, filled: Filled<'_>) -> bool
+    ensures { (result ≡ true) ↔ IsWhole len (left_of start.entry) filled.entry.bytes (left_of filled.entry.left) }
 {
-    filled.bytes == needle.len() && start.begun.is_empty() && filled.left.begun.is_empty()
+    filled.bytes == len && start.begun.is_empty() && filled.left.begun.is_empty()
 }
 
-// The text ends before the needle does.
-fn is_over(needle: &[u8], filled: Filled<'_>) -> bool
-    ensures { (result ≡ true) ↔ (filled.entry.bytes < length needle.now)
-        × ((left_of filled.entry.left).begun ≡ []) × ((left_of filled.entry.left).rest ≡ []) }
+// The pattern may fit there, up to its first `*`.
+fn may_fit(pattern: &[u8], text: &[u8]) -> bool
+    ensures { result ≡ false → FitsNot false pattern.now text.now }
 {
-    filled.bytes < needle.len() && filled.left.begun.is_empty() && filled.left.rest.is_empty()
+    match reach_star(pattern, text, false) {
+        Reached::Nowhere => false,
+        Reached::End | Reached::Star(_, _) => true,
+    }
+}
+
+// The needle stands there as a whole, and what follows it in the pattern may fit after it.
+fn stands(pattern: &[u8], len: usize, start: Escaped<'_>, filled: Filled<'_>) -> bool
+    requires { len ≤ length pattern.now }
+    ensures { result ≡ false → NotWhole len (left_of start.entry) filled.entry.bytes (left_of filled.entry.left)
+        ⊎ FitsNot false (drop len pattern.now) (left_of filled.entry.left).rest }
+{
+    if !is_whole(len, start, filled) {
+        return false;
+    }
+    may_fit(&pattern[len..], filled.left.rest)
+}
+
+// The text ends there.
+fn is_over(left: Escaped<'_>) -> bool
+    ensures { (result ≡ true) ↔ ((left_of left.entry).begun ≡ []) × ((left_of left.entry).rest ≡ []) }
+{
+    left.begun.is_empty() && left.rest.is_empty()
 }
 
 // What of the needle stands at the next place where it can.
@@ -125,7 +146,7 @@ fn shifted<'a>(shift: Shift, start: Escaped<'a>, left: Escaped<'a>) -> Filled<'a
     }
 }
 
-// The text from the leftmost place on where so many bytes of the pattern stand.
+// The text from the leftmost place on where so many bytes of the pattern stand, and the rest up to a `*` after them.
 fn search<'a>(pattern: &[u8], len: usize, text: &'a [u8], dollars: bool) -> Option<&'a [u8]>
     requires { (len ≤ length pattern.now) × IsNeedle dollars pattern.now len }
     ensures { MatchOption result (StandsNot pattern.now text.now) (λ rest. Keeps pattern.now text.now rest.now) }
@@ -142,10 +163,10 @@ fn search<'a>(pattern: &[u8], len: usize, text: &'a [u8], dollars: bool) -> Opti
     };
     loop {
         filled = fill_on(needle, filled, dollars);
-        if is_whole(needle, start, filled) {
+        if stands(pattern, len, start, filled) {
             return Some(start.rest);
         }
-        if is_over(needle, filled) {
+        if is_over(filled.left) {
             return None;
         }
         let shift = shift_of(&known, filled.bytes);

@@ -19,7 +19,7 @@ struct Part {
 }
 
 // How far a pattern fits up to its first `*`.
-enum Reached<'a> {
+pub(crate) enum Reached<'a> {
     // To its end.
     End,
     // Up to a `*`, after which this pattern and this text are left.
@@ -83,7 +83,7 @@ fn take_part(pattern: &[u8], text: &[u8]) -> Option<Part>
 }
 
 // The pattern up to its first `*`.
-fn reach_star<'a>(pattern: &'a [u8], text: &'a [u8], anchored: bool) -> Reached<'a>
+pub(crate) fn reach_star<'a>(pattern: &'a [u8], text: &'a [u8], anchored: bool) -> Reached<'a>
     ensures { HasReached anchored pattern.now text.now result }
 {
     let mut pattern = pattern;
@@ -140,13 +140,7 @@ fn from_prefix<'a>(pattern: &[u8], text: &'a [u8]) -> Option<&'a [u8]>
     // More than the text has can't stand in it: a short link doesn't pay for a long pattern.
     let plain = plain_len(pattern, text.len());
     match escaped_special(&pattern[plain..]) {
-        Some(special) => {
-            // A needle would end before this `%24`, since the `$` before it is read as it is.
-            if special == b'$' && memchr(b'$', &pattern[..plain]).is_some() {
-                return from_plain(pattern, plain, text);
-            }
-            from_needle(pattern, text)
-        }
+        Some(_) => from_needle(pattern, text),
         None => from_plain(pattern, plain, text),
     }
 }

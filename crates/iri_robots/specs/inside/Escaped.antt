@@ -1,5 +1,5 @@
 -- How a text is read as an escaped one, and what of a pattern stands in it as it is.
-use Rattle.std.specs.Prelude.{◌≡◌, ◌≢◌, ◌⊎◌, ℕ, zero, suc, ◌<◌, ◌≤◌, Bool, true, cond, ◌==◌, ◌&&◌, List, [], ◌∷◌, ◌++◌, length, take, slice_index}
+use Rattle.std.specs.Prelude.{◌≡◌, ◌≢◌, ◌⊎◌, ℕ, zero, suc, ◌<◌, ◌≤◌, Bool, true, false, cond, ◌==◌, ◌&&◌, List, [], ◌∷◌, ◌++◌, length, take, slice_index}
 use Rattle.iri_grammar.specs.Characters.{asterisk, percent_sign}
 use Rattle.iri_robots.specs.Patterns.{dollar_sign, digit_two, digit_four, capital_a}
 use Rattle.iri_robots.specs.inside.Fits.{IsEscape, NoEscape, FitsNot}
@@ -55,10 +55,19 @@ pub record Stands (dollars : Bool) (needle : List ℕ) (l : Left) (n : ℕ) (aft
 abbrev pub StopsAt : Bool → List ℕ → ℕ → Left → Type 0
 StopsAt dollars needle n after = (t : List ℕ) → left_text dollars after ≡ slice_index needle n ∷ t → ⊥
 
--- the needle doesn't stand there as a whole, or it begins or ends within what a byte is read as
-abbrev pub StandsNotHere : Bool → List ℕ → Left → ℕ → Left → Type 0
-StandsNotHere dollars needle l n after =
-    (n < length needle) × StopsAt dollars needle n after ⊎ (n ≡ length needle) × ((l.begun ≢ []) ⊎ (after.begun ≢ []))
+-- all n bytes of the needle stand there, which begins and ends at a byte of the text
+abbrev pub IsWhole : ℕ → Left → ℕ → Left → Type 0
+IsWhole len l n after = (n ≡ len) × (l.begun ≡ []) × (after.begun ≡ [])
+
+abbrev pub NotWhole : ℕ → Left → ℕ → Left → Type 0
+NotWhole len l n after = IsWhole len l n after → ⊥
+
+-- the needle doesn't stand there as a whole, or begins or ends within what a byte is read as, or the rest of the pattern
+-- doesn't fit after it
+abbrev pub StandsNotHere : Bool → List ℕ → List ℕ → Left → ℕ → Left → Type 0
+StandsNotHere dollars needle rest l n after =
+    (n < length needle) × StopsAt dollars needle n after
+    ⊎ (n ≡ length needle) × ((l.begun ≢ []) ⊎ ((after.begun ≢ []) ⊎ FitsNot false rest after.rest))
 
 -- so many bytes of the pattern, from its start on, are no `*` and stand in an escaped text as they are
 pub data IsNeedle (dollars : Bool) : List ℕ → ℕ → Type 0 where
