@@ -18,6 +18,7 @@ fn char_from(code: u32, least: u32) -> Option<char>
     char::from_u32(code)
 }
 
+#[tactic(auto, using(crate::proofs::characters::Spellings::of_octets))]
 #[inline(always)]
 fn char_of_two(lead: u8, rest: &[u8]) -> Option<char>
     requires { (192 ≤ lead) × (lead < 224) }
@@ -27,6 +28,7 @@ fn char_of_two(lead: u8, rest: &[u8]) -> Option<char>
     char_from(u32::from(lead - 0xC0) * 64 + a, 0x80)
 }
 
+#[tactic(auto, using(crate::proofs::characters::Spellings::of_octets))]
 #[inline(always)]
 fn char_of_three(lead: u8, rest: &[u8]) -> Option<char>
     requires { (224 ≤ lead) × (lead < 240) }
@@ -37,6 +39,7 @@ fn char_of_three(lead: u8, rest: &[u8]) -> Option<char>
     char_from((u32::from(lead - 0xE0) * 64 + a) * 64 + b, 0x800)
 }
 
+#[tactic(auto, using(crate::proofs::characters::Spellings::of_octets))]
 #[inline(always)]
 fn char_of_four(lead: u8, rest: &[u8]) -> Option<char>
     requires { 240 ≤ lead }
@@ -53,6 +56,7 @@ fn char_of_four(lead: u8, rest: &[u8]) -> Option<char>
 
 // The character with whose UTF-8 this octet and the percent-encoded ones after it begin (RFC 3629 section 3). It has no
 // loop, so that the compiler leaves it out where a grammar takes no character past ASCII.
+#[tactic(auto, using(crate::proofs::characters::Spellings::of_first_octet))]
 #[inline(always)]
 fn prefix_char(lead: u8, rest: &[u8]) -> Option<char>
     ensures { result ≡ first_char (lead ∷ octets rest.now) }
@@ -67,6 +71,7 @@ fn prefix_char(lead: u8, rest: &[u8]) -> Option<char>
 }
 
 /// The percent-encoded character with which the text begins; `None` exactly where it begins with none.
+#[tactic(auto, using(crate::proofs::characters::Spellings::empty_none))]
 pub fn triplets_char(text: &[u8]) -> Option<char>
     ensures { result ≡ first_char (octets text.now) }
 {
@@ -88,6 +93,7 @@ pub(crate) fn char_past_ascii<S: Spec>(lead: u8, rest: &[u8]) -> Option<char>
 }
 
 /// The unreserved percent-encoded character with which the text begins; `None` exactly where it begins with none.
+#[tactic(auto, using(crate::proofs::characters::Spellings::none_decoded))]
 pub fn decoded_char<S: Spec>(text: &[u8]) -> Option<char>
     ensures { result ≡ decoded S.tests (octets text.now) }
 {

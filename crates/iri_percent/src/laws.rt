@@ -60,6 +60,7 @@ pub fn decoding_makes_no_new_character<S: Spec>()
 {}
 
 /// A byte that is no `%` and no hex digit parts the triplet normal forms on both sides of it.
+#[tactic(auto, using(crate::proofs::units::AtDelimiters::pct_delimiter))]
 pub fn delimiters_part_triplet_forms<S: Spec>()
     ensures { (m : ℕ) (a b : List ℕ) → IsOutsideTriplets m → pct S.tests (a ++ m ∷ b) ≡ pct S.tests a ++ m ∷ pct S.tests b }
 {}

@@ -90,6 +90,7 @@ fn find_candidate(text: &[u8], lower: bool) -> Option<usize>
 }
 
 // Where a change may begin, where one may. What comes before it stays.
+#[tactic(auto, using(crate::proofs::forms::Changes::first_candidate))]
 fn next_candidate<S: Spec>(text: &[u8], lower: bool) -> Option<usize>
     requires { whole_triplets text.now ≡ true }
     ensures { MatchOption result (normal S.tests (case_of lower) text.now ≡ text.now) (λ i. FirstCandidate S.tests lower text.now i) }

@@ -267,3 +267,8 @@ high_decoded s lead c os l h =
       unreserved_low c e,
       past_first lead c os l h,
     ))
+
+-- ---- the lemmas that say what octets spell, by how many there are, and by the first of them
+pub ruleset of_octets = (ends_at_one, ends_at_two, ends_at_three, two_octets, three_octets, four_octets)
+
+pub ruleset of_first_octet = (ascii_first, middle_none)
