@@ -1,9 +1,11 @@
 -- What is answered of bytes, from what is answered of a text.
-use Rattle.iri_link.proofs.Common.{◌≡◌, ℕ, List, cond, Some, Result, Ok, Err, sym, ap, ◌∙◌, subst, MatchResult, is_utf8, IsUtf8}
+use Rattle.iri_link.proofs.Common.{◌≡◌, ℕ, List, true, false, refl, cond, Option, None, Some, Result, Ok, Err, sym, ap, ◌∙◌, subst, MatchResult, is_utf8, IsUtf8}
 use Rattle.iri_link.proofs.Common.{false_from_ne_true, is_utf8-from_IsUtf8, IsUtf8-from_is_utf8, Tests, field_fault, place_in, fault_from}
 use Rattle.iri_link.proofs.Common.{LinkValue, HasLinks, before_link, IsRead}
 use Rattle.std.specs.Str.Lossy.{utf8_valid_len}
-use Rattle.iri_link.specs.Fault.{Told}
+use denote.Bor.{Bor}
+use Rattle.iri_link.specs.Fault.{Told, Fault as FaultAt}
+use Rattle.iri_link.specs.declared.error.LinkKind.{LinkKind}
 use Rattle.iri_link.specs.Refusals.{RefusedBy}
 use Rattle.iri_link.specs.inside.Halts.{IsTold}
 use Rattle.iri_link.specs.inside.ReadLinks.{ReadsField}
@@ -31,9 +33,33 @@ pub of_text : (s : Tests) (base x y : List ℕ) → x ≡ y → IsUtf8 y → (r 
 of_text s base x y e u r h =
     answered s base y u r (subst (λ z. MatchResult r (λ l. ReadsField s base z l) (IsTold s z)) e h)
 
+-- bytes that are no text
+pub not_text : (s : Tests) (y : List ℕ) (n : ℕ) → (IsUtf8 y → ⊥) → n ≡ utf8_valid_len y → field_fault s y ≡ Some (record { kind = NotUtf8; place = n })
+not_text s y n u e =
+    ap (λ b. cond b (place_in y (fault_from s before_link y)) (Some (record { kind = NotUtf8; place = utf8_valid_len y }))) (false_from_ne_true (is_utf8 y) (λ h. u (IsUtf8-from_is_utf8 y h)))
+    ∙ ap (λ m. Some (record { kind = NotUtf8; place = m })) (sym e)
+
 pub of_bytes : (s : Tests) (y : List ℕ) (n : ℕ) → (IsUtf8 y → ⊥) → n ≡ utf8_valid_len y → RefusedBy s y (Fault NotUtf8 n)
 of_bytes s y n u e =
-    let f : field_fault s y ≡ Some (record { kind = NotUtf8; place = n }) =
-    ap (λ b. cond b (place_in y (fault_from s before_link y)) (Some (record { kind = NotUtf8; place = utf8_valid_len y }))) (false_from_ne_true (is_utf8 y) (λ h. u (IsUtf8-from_is_utf8 y h)))
-    ∙ ap (λ m. Some (record { kind = NotUtf8; place = m })) (sym e) in
+    let f = not_text s y n u e in
     (f, faulty s y (record { kind = NotUtf8; place = n }) f)
+
+-- what is answered of bytes that are this text
+pub checked_text : (s : Tests) (x y : List ℕ) → x ≡ y → IsUtf8 y → (r : Result (Bor (List ℕ)) (LinkKind × ℕ))
+    → MatchResult r (λ t. (t.now ≡ x) × (fault_from s before_link x ≡ None)) (λ e. place_in x (fault_from s before_link x) ≡ Some (record { kind = e.0; place = e.1 }))
+    → MatchResult r (λ t. (t.now ≡ y) × (field_fault s y ≡ None)) (λ e. field_fault s y ≡ Some (record { kind = e.0; place = e.1 }))
+checked_text s x y e u (Ok t) h =
+    (h.0 ∙ e, text_fault s y u ∙ ap (place_in y) (sym (ap (fault_from s before_link) e) ∙ h.1))
+checked_text s x y e u (Err (k, p)) h = text_fault s y u ∙ (sym (ap (λ z. place_in z (fault_from s before_link z)) e) ∙ h)
+
+-- a text in bytes without a fault has none
+pub faultless_text : (s : Tests) (x : List ℕ) → field_fault s x ≡ None → fault_from s before_link x ≡ None
+faultless_text s x h =
+    elim (is_utf8 x) as (λ b. cond b (place_in x (fault_from s before_link x)) (Some (record { kind = NotUtf8; place = utf8_valid_len x })) ≡ None → fault_from s before_link x ≡ None) [
+      | true ↦ λ k. placed (fault_from s before_link x) k
+      | false ↦ λ k. cc
+    ] h
+  where
+    placed : (f : Option FaultAt) → place_in x f ≡ None → f ≡ None
+    placed None k = refl
+    placed (Some f) k = cc

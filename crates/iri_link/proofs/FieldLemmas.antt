@@ -25,7 +25,7 @@ at_char c d P a b = by_test c d (λ t. (c == d) ≡ t → P c) (λ e _. subst P 
 when : (b : Bool) (P : Type 0) → (b ≡ true → P) → (b ≡ false → P) → P
 when b P on off = elim b as (λ v. b ≡ v → P) [ true ↦ on | false ↦ off ] refl
 
-none_of : (a b : Option Fault) → earlier a b ≡ None → (a ≡ None) × (b ≡ None)
+pub none_of : (a b : Option Fault) → earlier a b ≡ None → (a ≡ None) × (b ≡ None)
 none_of None b h = (refl, h)
 none_of (Some e) b h = cc
 

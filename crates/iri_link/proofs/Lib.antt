@@ -15,3 +15,5 @@ pub mod OneListLemmas
 pub mod FieldLemmas
 pub mod EscapeLemmas
 pub mod WrittenTexts
+pub mod WalkLemmas
+pub mod ShownLemmas

@@ -94,12 +94,12 @@ params_go s p z ps (param a b x t q rs ha hb hx h) k =
     (subst (IsStop s) e j.0, ap (fault_from s after_param) (sym e) ∙ (j.1 ∙ (semicolon-blanks s b (x ++ (t ++ z)) hb ∙ (semicolon-name s (x ++ (t ++ z)) m.0 ∙ (m.1 ∙ i.1)))))
 
 -- what may follow a link-value: blanks, and nothing or a comma
-comma_same : (s : Tests) (y : List ℕ) → (fault_from s after_name (44 ∷ y) ≡ fault_from s before_link y) × (fault_from s after_param (44 ∷ y) ≡ fault_from s before_link y)
+pub comma_same : (s : Tests) (y : List ℕ) → (fault_from s after_name (44 ∷ y) ≡ fault_from s before_link y) × (fault_from s after_param (44 ∷ y) ≡ fault_from s before_link y)
     × (fault_from s after_semicolon (44 ∷ y) ≡ fault_from s before_link y) × (fault_from s before_link (44 ∷ y) ≡ fault_from s before_link y)
 unfolding fault_from
 comma_same s y = (refl, refl, refl, refl)
 
-end_same : (s : Tests) → (fault_from s after_name [] ≡ None) × (fault_from s after_param [] ≡ None) × (fault_from s after_semicolon [] ≡ None) × (fault_from s before_link [] ≡ None)
+pub end_same : (s : Tests) → (fault_from s after_name [] ≡ None) × (fault_from s after_param [] ≡ None) × (fault_from s after_semicolon [] ≡ None) × (fault_from s before_link [] ≡ None)
 unfolding fault_from
 end_same s = (refl, refl, refl, refl)
 

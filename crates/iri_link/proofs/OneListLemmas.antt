@@ -21,7 +21,7 @@ pub record Same (r z : Reading) : Type 0 where
   pub links : r.links ≡ z.links
 
 -- ---- blanks
-param-blanks : (a y : List ℕ) → is_blanks a ≡ true → Same (reading after_param (a ++ y)) (reading after_param y)
+pub param-blanks : (a y : List ℕ) → is_blanks a ≡ true → Same (reading after_param (a ++ y)) (reading after_param y)
 unfolding reading
 param-blanks [] y h = record { params = refl; links = refl }
 param-blanks (c ∷ cs) y h =
@@ -30,7 +30,7 @@ param-blanks (c ∷ cs) y h =
     by_blank c (λ d. Same (reading after_param (d ∷ (cs ++ y))) (reading after_param y)) (record { params = r.params; links = r.links })
     (record { params = r.params; links = r.links }) k.0
 
-semicolon-blanks : (a y : List ℕ) → is_blanks a ≡ true → Same (reading after_semicolon (a ++ y)) (reading after_semicolon y)
+pub semicolon-blanks : (a y : List ℕ) → is_blanks a ≡ true → Same (reading after_semicolon (a ++ y)) (reading after_semicolon y)
 unfolding reading
 semicolon-blanks [] y h = record { params = refl; links = refl }
 semicolon-blanks (c ∷ cs) y h =
@@ -62,7 +62,7 @@ equals-blanks (c ∷ cs) y h =
     let r = equals-blanks cs y k.1 in
     by_blank c (λ d. reading after_equals (d ∷ (cs ++ y)) ≡ reading after_equals y) r r k.0
 
-start-blanks : (a y : List ℕ) → is_blanks a ≡ true → links_in (a ++ y) ≡ links_in y
+pub start-blanks : (a y : List ℕ) → is_blanks a ≡ true → links_in (a ++ y) ≡ links_in y
 unfolding reading
 start-blanks [] y h = refl
 start-blanks (c ∷ cs) y h =
@@ -156,15 +156,15 @@ unfolding reading
 name-equals u v z g = record { value = ap Some g.text; params = g.params; links = g.links }
 
 -- ---- parameters
-record IsStop (z : List ℕ) : Type 0 where
-  token_ends : first_passes is_token_char z ≡ false
-  name_ends : Names (reading after_name z) None (reading after_param z)
-  semicolon_ends : Same (reading after_semicolon z) (reading after_param z)
+pub record IsStop (z : List ℕ) : Type 0 where
+  pub token_ends : first_passes is_token_char z ≡ false
+  pub name_ends : Names (reading after_name z) None (reading after_param z)
+  pub semicolon_ends : Same (reading after_semicolon z) (reading after_param z)
 
 -- a parameter, and what follows it
-record Adds (r : Reading) (q : LinkParam) (z : Reading) : Type 0 where
-  params : r.params ≡ q ∷ z.params
-  links : r.links ≡ z.links
+pub record Adds (r : Reading) (q : LinkParam) (z : Reading) : Type 0 where
+  pub params : r.params ≡ q ∷ z.params
+  pub links : r.links ≡ z.links
 
 param-named : (c : ℕ) (cs y : List ℕ) (v : Option (List ℕ)) (z : Reading) → is_token (c ∷ cs) ≡ true → first_passes is_token_char y ≡ false → Names (reading after_name y) v z
     → Adds (reading after_semicolon ((c ∷ cs) ++ y)) (record { name = str_to_ascii_lowercase (c ∷ cs); value = v }) z
@@ -179,7 +179,7 @@ param-named c cs y v z h e k =
       links = r.links;
     })
 
-param-given : (p z : List ℕ) (q : LinkParam) → IsParam p q → IsStop z → Adds (reading after_semicolon (p ++ z)) q (reading after_param z)
+pub param-given : (p z : List ℕ) (q : LinkParam) → IsParam p q → IsStop z → Adds (reading after_semicolon (p ++ z)) q (reading after_param z)
 param-given p z q (bare [] h) k = cc
 param-given p z q (bare (c ∷ cs) h) k = param-named c cs z None (reading after_param z) h k.token_ends k.name_ends
 param-given p z q (valued [] a b t v h ha hb hv) k = cc
@@ -192,22 +192,22 @@ param-given p z q (valued (c ∷ cs) a b t v h ha hb hv) k =
     subst (λ x. Adds (reading after_semicolon x) (record { name = str_to_ascii_lowercase (c ∷ cs); value = Some v }) (reading after_param z)) (sym e)
     (param-named c cs (a ++ 61 ∷ u) (Some v) (reading after_param z) h (blank_no_token a (61 ∷ u) ha refl) names)
 
-at_semicolon : (y : List ℕ) → Names (reading after_name (59 ∷ y)) None (reading after_semicolon y) × Same (reading after_param (59 ∷ y)) (reading after_semicolon y)
+pub at_semicolon : (y : List ℕ) → Names (reading after_name (59 ∷ y)) None (reading after_semicolon y) × Same (reading after_param (59 ∷ y)) (reading after_semicolon y)
     × Same (reading after_semicolon (59 ∷ y)) (reading after_semicolon y)
 unfolding reading
 at_semicolon y = (record { value = refl; params = refl; links = refl }, record { params = refl; links = refl }, record { params = refl; links = refl })
 
-at_comma : (y : List ℕ) → Names (reading after_name (44 ∷ y)) None (of_links (links_in y)) × Same (reading after_param (44 ∷ y)) (of_links (links_in y))
+pub at_comma : (y : List ℕ) → Names (reading after_name (44 ∷ y)) None (of_links (links_in y)) × Same (reading after_param (44 ∷ y)) (of_links (links_in y))
     × Same (reading after_semicolon (44 ∷ y)) (of_links (links_in y)) × (links_in (44 ∷ y) ≡ links_in y)
 unfolding reading
 at_comma y = (record { value = refl; params = refl; links = refl }, record { params = refl; links = refl }, record { params = refl; links = refl }, refl)
 
-at_end : Names (reading after_name []) None (of_links []) × Same (reading after_param []) (of_links []) × Same (reading after_semicolon []) (of_links []) × (links_in [] ≡ [])
+pub at_end : Names (reading after_name []) None (of_links []) × Same (reading after_param []) (of_links []) × Same (reading after_semicolon []) (of_links []) × (links_in [] ≡ [])
 unfolding reading
 at_end = (record { value = refl; params = refl; links = refl }, record { params = refl; links = refl }, record { params = refl; links = refl }, refl)
 
 -- blanks, and what gives the same after a name, a parameter and a semicolon
-stops : (a y : List ℕ) (z : Reading) → is_blanks a ≡ true → first_passes is_token_char y ≡ false → Names (reading after_name y) None z → Same (reading after_param y) z
+pub stops : (a y : List ℕ) (z : Reading) → is_blanks a ≡ true → first_passes is_token_char y ≡ false → Names (reading after_name y) None z → Same (reading after_param y) z
     → Same (reading after_semicolon y) z → IsStop (a ++ y) × Same (reading after_param (a ++ y)) z
 stops a y z h e n p q =
     let n2 = name-blanks a y None z h n in
@@ -258,7 +258,7 @@ params-given p z ps (param a b x t q rs ha hb hx h) k =
     )
 
 -- ---- link-values
-target-given : (t y : List ℕ) → lacks 62 t ≡ true → Gives (reading in_target (t ++ 62 ∷ y)) t (reading after_param y)
+pub target-given : (t y : List ℕ) → lacks 62 t ≡ true → Gives (reading in_target (t ++ 62 ∷ y)) t (reading after_param y)
 unfolding reading
 target-given [] y h = record { text = refl; params = refl; links = refl }
 target-given (c ∷ cs) y h =
@@ -267,7 +267,7 @@ target-given (c ∷ cs) y h =
     by_test c 62 (λ b. not b ≡ true → Gives (cond b (of_params (reading (cond b after_param in_target) (cs ++ 62 ∷ y)).params (reading (cond b after_param in_target) (cs ++ 62 ∷ y)).links) (more c (reading (cond b after_param in_target) (cs ++ 62 ∷ y)))) (c ∷ cs) (reading after_param y))
     (λ _ n. cc) (λ _ _. record { text = ap (λ l. c ∷ l) r.text; params = r.params; links = r.links }) k.0
 
-link-open : (y : List ℕ) → links_in (60 ∷ y) ≡ record { target = (reading in_target y).text; params = (reading in_target y).params } ∷ (reading in_target y).links
+pub link-open : (y : List ℕ) → links_in (60 ∷ y) ≡ record { target = (reading in_target y).text; params = (reading in_target y).params } ∷ (reading in_target y).links
 unfolding reading
 link-open y = refl
 

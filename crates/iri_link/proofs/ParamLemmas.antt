@@ -4,7 +4,9 @@ use Rattle.iri_link.proofs.Common.{◌==◌, str_to_ascii_lowercase, append-nil,
 use Rattle.iri_link.proofs.Common.{bare, valued, IsParams, none, empty, param, Phase, after_param, after_semicolon, in_name, after_name}
 use Rattle.iri_link.proofs.Common.{after_equals, fault_from, first_passes, IsRun, ends_link, ReadsValue, ReadsSome, ReadsParams}
 use Rattle.iri_link.specs.inside.ReadParams.{ReadsEquals, ReadsParam, AddsParam}
-use Rattle.iri_link.specs.inside.Halts.{HaltsAt}
+use Rattle.iri_link.specs.Fault.{Fault}
+use Rattle.iri_link.specs.inside.Halts.{HaltsAt, IsFault}
+use Rattle.iri_link.specs.declared.halt.Halt.TheVariants.{Fault as Halted, Memory}
 use Rattle.iri_link.specs.declared.error.LinkKind.TheVariants.{NoParam}
 use Rattle.iri_link.specs.declared.halt.Halt.{Halt}
 use Rattle.iri_link.proofs.PhaseLemmas.{ready-blanks, semicolon-blanks, named-blanks, equals-blanks, name-run, name-equals, semicolon-name}
@@ -68,7 +70,7 @@ params-append x y ps qs (param a b p t q rs ha hb hp h) k =
     (ap (λ l. a ++ 59 ∷ (b ++ l)) (sym (append_assoc p t y)) ∙ (ap (λ l. a ++ 59 ∷ l) (sym (append_assoc b (p ++ t) y)) ∙ sym (append_assoc a (59 ∷ (b ++ (p ++ t))) y)))
     (param a b p (t ++ y) q (rs ++ qs) ha hb hp (params-append t y rs qs h k))
 
-semicolon_ready : (s : Tests) (t : List ℕ) → first_passes is_blank t ≡ false → first_passes is_token_char t ≡ false → fault_from s after_semicolon t ≡ fault_from s after_param t
+pub semicolon_ready : (s : Tests) (t : List ℕ) → first_passes is_blank t ≡ false → first_passes is_token_char t ≡ false → fault_from s after_semicolon t ≡ fault_from s after_param t
 unfolding fault_from
 semicolon_ready s [] h k = refl
 semicolon_ready s (c ∷ cs) h k =
@@ -96,7 +98,7 @@ one_added t rest q ps new e h r = record {
 pub none_read : (s : List ℕ) (ps : List LinkParam) → ps ≡ [] → ReadsSome s s ps
 none_read s ps e = record { prefix = []; whole = refl; params = rw e none; goes = λ t. refl }
 
-ready_semicolon : (s : Tests) (t : List ℕ) → fault_from s after_param (59 ∷ t) ≡ fault_from s after_semicolon t
+pub ready_semicolon : (s : Tests) (t : List ℕ) → fault_from s after_param (59 ∷ t) ≡ fault_from s after_semicolon t
 unfolding fault_from
 ready_semicolon s t = refl
 
@@ -141,3 +143,11 @@ param_wanted t s rest a next ps f h k e = f.goes t ∙ (ap (fault_from t after_p
 
 pub halts_on : (e : Halt) (s : Tests) (p q : Phase) (t u : List ℕ) → fault_from s p t ≡ fault_from s q u → HaltsAt e (fault_from s q u) → HaltsAt e (fault_from s p t)
 halts_on e s p q t u same h = subst (λ f. HaltsAt e f) (sym same) h
+
+pub faults_on : (e : Halt) (s : Tests) (p q : Phase) (t u : List ℕ) → fault_from s p t ≡ fault_from s q u → IsFault e (fault_from s q u) → IsFault e (fault_from s p t)
+faults_on e s p q t u same h = subst (IsFault e) (sym same) h
+
+-- a fault is a cause
+pub halts_at : (e : Halt) (f : Option Fault) → IsFault e f → HaltsAt e f
+halts_at (Halted k r) f h = h
+halts_at Memory f h = tt

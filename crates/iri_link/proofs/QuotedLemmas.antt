@@ -2,7 +2,7 @@
 use Rattle.iri_link.proofs.Common.{◌≡◌, ℕ, suc, ◌<◌, ◌≤◌, ◌+◌, Bool, true, false, cond, not, ◌&&◌, List, [], ◌∷◌, ◌++◌, Option, Some, None}
 use Rattle.iri_link.proofs.Common.{length, take, drop, get_or, refl, sym, ◌∙◌, ap, subst, arith, drop-cons, drop_all, ◌==◌, slice_index}
 use Rattle.iri_link.proofs.Common.{Tests, before, after, both, by_test, is_pair_char, is_plain_char, IsQuoted, done, plain, pair, Phase}
-use Rattle.iri_link.proofs.Common.{in_quoted, after_param, closes_from, fault_from, quoted_len, unquoted, unquoted_from, first_passes}
+use Rattle.iri_link.proofs.Common.{list_all, test_apart, is_token_char, in_quoted, after_param, closes_from, fault_from, quoted_len, unquoted, unquoted_from, first_passes}
 use Rattle.iri_link.specs.Phases.{in_pair as escape}
 
 -- ---- where it ends
@@ -127,3 +127,11 @@ after-shorter c [] b h = cc
 after-shorter c (x ∷ xs) b h =
     by_test x c (λ v. Some b ≡ cond v (Some xs) (after c xs) → length b < suc (length xs))
     (λ _ k. let e : b ≡ xs = cc in omega (arith, ap length e)) (λ _ k. omega (arith, after-shorter c xs b k)) h
+
+-- a token is its own value
+pub unquoted-token : (t : List ℕ) → list_all is_token_char t ≡ true → unquoted t ≡ t
+unfolding unquoted_from
+unquoted-token [] h = refl
+unquoted-token (c ∷ cs) h =
+    let k = both (is_token_char c) (list_all is_token_char cs) h in
+    rw (test_apart is_token_char 92 c refl k.0) (ap (λ l. c ∷ l) (unquoted-token cs k.1))

@@ -24,7 +24,7 @@ pub run-low : (k : Run) (c : ℕ) → run_test k c ≡ true → c < 128
 run-low Blank c h = blank-low c h
 run-low Token c h = token-low c h
 
-all-at : (p : ℕ → Bool) → ((c : ℕ) → p c ≡ true → c < 128) → (xs : List ℕ) → list_all p xs ≡ true → (i : ℕ) → slice_index xs i < 128
+pub all-at : (p : ℕ → Bool) → ((c : ℕ) → p c ≡ true → c < 128) → (xs : List ℕ) → list_all p xs ≡ true → (i : ℕ) → slice_index xs i < 128
 all-at p low [] h i = omega arith
 all-at p low (c ∷ cs) h zero = low c (both (p c) (list_all p cs) h).0
 all-at p low (c ∷ cs) h (suc i) = all-at p low cs (both (p c) (list_all p cs) h).1 i

@@ -128,7 +128,7 @@ pub value-utf8 : (t v : List ℕ) → IsUtf8 t → IsQuoted t v → IsUtf8 v
 value-utf8 t v u q = (values_are_texts u.0 u.1.0).all v (subst (λ z. IsQuoted z v) (sym u.1.1) q)
 
 -- ---- the written form of a value
-escaped-append : (a b : List ℕ) → escaped (a ++ b) ≡ escaped a ++ escaped b
+pub escaped-append : (a b : List ℕ) → escaped (a ++ b) ≡ escaped a ++ escaped b
 escaped-append [] b = refl
 escaped-append (c ∷ cs) b =
     elim (c == 34 || c == 92) as (λ t. cond t (92 ∷ c ∷ escaped (cs ++ b)) (c ∷ escaped (cs ++ b)) ≡ cond t (92 ∷ c ∷ escaped cs) (c ∷ escaped cs) ++ escaped b) [

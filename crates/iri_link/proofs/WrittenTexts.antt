@@ -18,7 +18,7 @@ abbrev pub left_text : List ℕ → List LinkValue → List ℕ
 left_text between [] = []
 left_text between (m ∷ ms) = between ++ written (m ∷ ms)
 
-written-cons : (l : LinkValue) (ms : List LinkValue) → written (l ∷ ms) ≡ written_link l ++ left_text (44 ∷ 32 ∷ []) ms
+pub written-cons : (l : LinkValue) (ms : List LinkValue) → written (l ∷ ms) ≡ written_link l ++ left_text (44 ∷ 32 ∷ []) ms
 written-cons l [] = sym (append-nil (written_link l))
 written-cons l (m ∷ ms) = refl
 

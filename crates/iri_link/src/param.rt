@@ -1,20 +1,26 @@
 // Parameters of link-values (RFC 8288 section 3).
-ghost use Rattle.std.specs.Prelude.{◌≡◌, false, true, map, MatchOption, MatchResult};
+ghost use Rattle.std.specs.Prelude.{◌≡◌, ◌++◌, ◌∷◌, [], false, true, map, option_map, IfOk, OnOk, MatchOption, MatchResult};
+ghost use Rattle.std.specs.List.{list_all};
 ghost use Rattle.iri_grammar.specs.Classes.{Tests};
 ghost use Rattle.iri_link.specs.Fault.{fault_from};
 ghost use Rattle.iri_link.specs.Phases.{after_param, after_semicolon, in_name, after_name};
-ghost use Rattle.iri_link.specs.Stored.{param_of};
+ghost use Rattle.iri_grammar.specs.OptionalSlices.{now_of};
+ghost use Rattle.iri_link.specs.Stored.{param_of, value_of};
 ghost use Rattle.iri_grammar.specs.Blanks.{is_blank};
 ghost use Rattle.iri_link.specs.Token.{is_token_char};
-ghost use Rattle.iri_link.specs.inside.Halts.{HaltsAt};
+ghost use Rattle.iri_link.specs.inside.Halts.{HaltsAt, IsFault};
 ghost use Rattle.iri_link.specs.inside.ReadParams.{ends_link, ReadsEquals, ReadsParam, AddsParam, ReadsParams};
+ghost use Rattle.iri_link.specs.inside.ReadQuoted.{unquoted};
+ghost use Rattle.iri_link.specs.inside.Pieces.{param_said};
 ghost use Rattle.iri_grammar.specs.inside.Runs.{first_passes};
 
 use crate::error::LinkKind;
 use crate::halt::Halt;
+use crate::param_text::ParamText;
+use crate::quoted::unquote;
 use crate::runs::{Run, begins_token, cut_run, past};
-use crate::value::read_value;
-use std::alloc::Global;
+use crate::value::cut_value;
+use std::alloc::{AllocError, Global};
 
 // A parameter: its name in lower case, and its value where it has one.
 #[derive(Debug, Drop)]
@@ -38,20 +44,18 @@ fn past_equals(s: &str) -> Option<&str>
     }
 }
 
-// A parameter and what follows it. A token begins there.
-fn read_param<'a>(alloc: Global, s: &'a str) -> Result<(Param, &'a str), Halt<'a>>
+// A parameter as it stands, and what follows it. A token begins there.
+pub(crate) fn cut_param<'a>(s: &'a str) -> Result<(ParamText<'a>, &'a str), Halt<'a>>
     requires { first_passes is_token_char s.now ≡ true }
-    ensures { MatchResult result (λ r. ReadsParam s.now r.1.now (param_of r.0))
-        (λ e. (t : Tests) → HaltsAt e (fault_from t in_name s.now)) }
+    ensures { MatchResult result
+        (λ r. ReadsParam s.now r.1.now (param_said r.0) × (list_all is_token_char r.0.name.now ≡ true))
+        (λ e. (t : Tests) → IsFault e (fault_from t in_name s.now)) }
 {
-    let (written, rest) = cut_run(Run::Token, s);
-    let Ok(name) = written.to_ascii_lowercase(alloc) else {
-        return Err(Halt::Memory);
-    };
+    let (name, rest) = cut_run(Run::Token, s);
     match past_equals(rest) {
-        Some(following) => match read_value(alloc, following) {
+        Some(following) => match cut_value(following) {
             Ok((value, rest)) => Ok((
-                Param {
+                ParamText {
                     name,
                     value: Some(value),
                 },
@@ -59,8 +63,37 @@ fn read_param<'a>(alloc: Global, s: &'a str) -> Result<(Param, &'a str), Halt<'a
             )),
             Err(halt) => Err(halt),
         },
-        None => Ok((Param { name, value: None }, rest)),
+        None => Ok((ParamText { name, value: None }, rest)),
     }
+}
+
+// The value of a parameter, where it has one.
+fn keep_value(alloc: Global, value: Option<&str>) -> Result<Option<String>, AllocError>
+    ensures { IfOk result (λ v. value_of v ≡ option_map unquoted (now_of value.entry)) }
+{
+    match value {
+        Some(value) => Ok(Some(unquote(alloc, value)?)),
+        None => Ok(None),
+    }
+}
+
+// A parameter, owned.
+fn keep_param(alloc: Global, param: ParamText<'_>) -> Result<Param, AllocError>
+    ensures { IfOk result (λ p. param_of p ≡ param_said param.entry) }
+{
+    let name = param.name.to_ascii_lowercase(alloc)?;
+    let value = keep_value(alloc, param.value)?;
+    Ok(Param { name, value })
+}
+
+// Puts a parameter, owned, at the end.
+fn push_kept(alloc: Global, params: &mut Vec<Param>, param: ParamText<'_>) -> Result<(), AllocError>
+    ensures { OnOk result (map param_of params.new.items
+        ≡ map param_of params.old.items ++ param_said param.entry ∷ []) }
+{
+    let kept = keep_param(alloc, param)?;
+    params.push(kept)?;
+    Ok(())
 }
 
 // The parameter that may come after a `;` and blanks, put at the end, and what follows it.
@@ -73,8 +106,8 @@ fn push_param<'a>(alloc: Global, params: &mut Vec<Param>, s: &'a str) -> Result<
     if !begins_token(s) {
         return Ok(s);
     }
-    match read_param(alloc, s) {
-        Ok((param, rest)) => match params.push(param) {
+    match cut_param(s) {
+        Ok((param, rest)) => match push_kept(alloc, params, param) {
             Ok(()) => Ok(rest),
             Err(_) => Err(Halt::Memory),
         },

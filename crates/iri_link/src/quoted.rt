@@ -2,6 +2,8 @@
 ghost use Rattle.std.specs.Prelude.{◌≡◌, ◌&&◌, ◌==◌, not, false, true, MatchOption, IfOk, string_bytes};
 ghost use Rattle.iri_link.specs.Fault.{closes_from};
 ghost use Rattle.iri_link.specs.Token.{is_pair_char};
+ghost use Rattle.iri_grammar.specs.OptionalSlices.{now_of};
+ghost use Rattle.iri_link.specs.inside.CutDelimiters.{IsChunk};
 ghost use Rattle.iri_link.specs.inside.ReadQuoted.{quoted_len, unquoted, IsCutQuoted};
 
 use crate::runs::past;
@@ -69,5 +71,20 @@ pub(crate) fn unquote(alloc: Global, raw: &str) -> Result<String, AllocError>
             }
             None => rest = after,
         }
+    }
+}
+
+// What stands before the first `\`, the `\` that it stands for where another follows, as it is written, and what is left
+// then; `None` at the end.
+pub(crate) fn cut_chunk(raw: &str) -> (&str, &str, Option<&str>)
+    ensures { IsChunk raw.now result.0.now result.1.now (now_of result.2) }
+{
+    let (chunk, rest) = cut(raw, b'\\');
+    match rest {
+        Some(after) => match past(after, b'\\') {
+            Some(next) => (chunk, "\\\\", Some(next)),
+            None => (chunk, "", Some(after)),
+        },
+        None => (chunk, "", None),
     }
 }

@@ -45,8 +45,8 @@ fn show_escaped<W: TextSink>(sink: &mut W, value: &str) -> Result<(), Stop>
 
 // The value of a parameter, as it stands in a quoted string.
 #[derive(Drop)]
-struct Escaped<'a> {
-    value: &'a str,
+pub(crate) struct Escaped<'a> {
+    pub(crate) value: &'a str,
 }
 
 impl Show for Escaped<'_> {

@@ -14,6 +14,11 @@ abbrev pub HaltsAt : Halt → Option Fault → Type 0
 HaltsAt (Halted k r) f = f ≡ Some (record { kind = k; rest = r.now })
 HaltsAt Memory f = ⊤
 
+-- the fault of a halt that isn't for memory
+abbrev pub IsFault : Halt → Option Fault → Type 0
+IsFault (Halted k r) f = f ≡ Some (record { kind = k; rest = r.now })
+IsFault Memory f = ⊥
+
 -- the cause of a halt in elements: their first fault, or memory for a target
 abbrev pub HaltsIn : Tests → List ℕ → Halt → Type 0
 HaltsIn s x (Halted k r) = fault_from s before_link x ≡ Some (record { kind = k; rest = r.now })

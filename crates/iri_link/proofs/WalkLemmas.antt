@@ -1,0 +1,235 @@
+-- What each piece of a walk over a field value leaves.
+use Rattle.iri_link.proofs.Common.{◌≡◌, ℕ, ◌<◌, Bool, true, false, List, [], ◌∷◌, ◌++◌, Option, Some, None, length, refl, sym, ap, ◌∙◌}
+use Rattle.iri_link.proofs.Common.{list_all, subst, arith, ◌==◌, ◌||◌, eqb-true, Tests, before, after, delimited, lacks, reference_fault}
+use Rattle.iri_link.proofs.Common.{is_blank, is_token_char, LinkParam, LinkValue, before_link, in_target, after_param, after_semicolon, in_name}
+use Rattle.iri_link.proofs.Common.{next, fault_from, target_fault, earlier, first_passes, IsRun, by_test, ends_link}
+use Rattle.std.proofs.Common.{length-append}
+use Rattle.std.proofs.lemmas.List.{nil_from_length}
+use denote.Bor.{Bor}
+use Rattle.iri_grammar.proofs.CutLaws.{joined}
+use Rattle.iri_grammar.proofs.Scans.{before-lacks}
+use Rattle.iri_link.specs.Fault.{Fault, unless, told_target}
+use Rattle.iri_link.specs.Phases.{may_follow}
+use Rattle.iri_link.specs.Readings.{Reading, reading, links_in}
+use Rattle.iri_link.specs.declared.error.LinkKind.TheVariants.{NoTarget, OpenTarget, NoParam}
+use Rattle.iri_link.specs.declared.halt.Halt.{Halt}
+use Rattle.iri_link.specs.declared.param_text.ParamText.{ParamText}
+use Rattle.iri_link.specs.declared.piece.Piece.{Piece}
+use Rattle.iri_link.specs.declared.piece.Piece.TheVariants.{Target, Param, NoParam as NoneThere, Comma}
+use Rattle.iri_link.specs.inside.Halts.{IsFault}
+use Rattle.iri_link.specs.inside.Pieces.{Comes, Ends, Left, left_at, param_said, phase_at, piece_fault, stands}
+use Rattle.iri_link.specs.inside.ReadParams.{ReadsParam}
+use Rattle.iri_link.proofs.LinkLemmas.{no_target, target_open}
+use Rattle.iri_link.proofs.NoFaultLemmas.{comma_same, end_same}
+use Rattle.iri_link.proofs.OneListLemmas.{Same, IsStop, param-blanks, semicolon-blanks, start-blanks, at_semicolon, at_comma, at_end, stops}
+use Rattle.iri_link.proofs.OneListLemmas.{param-given, link-open, target-given}
+use Rattle.iri_link.proofs.ParamLemmas.{no_param, ready_semicolon, semicolon_ready}
+use Rattle.iri_link.proofs.PhaseLemmas.{by_blank, start-blanks as blanks_before, ready-blanks, semicolon-blanks as blanks_after, semicolon-name}
+use Rattle.iri_link.proofs.QuotedLemmas.{after-shorter}
+use Rattle.iri_link.proofs.TargetLemmas.{some-lacks, target-goes, open_goes}
+
+-- ---- what may follow a parameter of a text without a fault
+follows : (s : Tests) (c : ℕ) (cs : List ℕ) → fault_from s after_param (c ∷ cs) ≡ None
+    → (may_follow c ≡ true) × (fault_from s (next after_param c) cs ≡ None)
+unfolding fault_from
+follows s c cs h =
+    elim (may_follow c) as (λ b. earlier (unless b NoParam (c ∷ cs)) (fault_from s (next after_param c) cs) ≡ None
+    → (b ≡ true) × (fault_from s (next after_param c) cs ≡ None)) [
+      | true ↦ λ k. (refl, k)
+      | false ↦ λ k. cc
+    ] h
+
+blank_stop : (c : ℕ) (cs : List ℕ) → is_blank c ≡ true → IsStop cs → IsStop (c ∷ cs)
+blank_stop c cs h k =
+    by_blank c (λ d. IsStop (d ∷ cs))
+    (stops (32 ∷ []) cs (reading after_param cs) refl k.token_ends k.name_ends (record { params = refl; links = refl }) k.semicolon_ends).0
+    (stops (9 ∷ []) cs (reading after_param cs) refl k.token_ends k.name_ends (record { params = refl; links = refl }) k.semicolon_ends).0 h
+
+pub valid_stop : (s : Tests) (z : List ℕ) → fault_from s after_param z ≡ None → IsStop z
+valid_stop s [] h = (stops [] [] _ refl refl at_end.0 at_end.1 at_end.2).0
+valid_stop s (c ∷ cs) h =
+    let f = follows s c cs h in
+    by_test c 59 (λ b. (c == 59) ≡ b → IsStop (c ∷ cs))
+    (λ e _. let k = at_semicolon cs in subst (λ d. IsStop (d ∷ cs)) (sym e) (stops [] (59 ∷ cs) _ refl refl k.0 k.1 k.2).0)
+    (λ _ n. by_test c 44 (λ b. (c == 44) ≡ b → IsStop (c ∷ cs))
+    (λ e _. let k = at_comma cs in subst (λ d. IsStop (d ∷ cs)) (sym e) (stops [] (44 ∷ cs) _ refl refl k.0 k.1 k.2).0)
+    (λ _ m. let blank : is_blank c ≡ true = blank_left (is_blank c) (c == 59) (c == 44) n m f.0 in
+    blank_stop c cs blank (valid_stop s cs (subst (λ p. fault_from s p cs ≡ None) (stays n m) f.1))) refl) refl
+  where
+    blank_left : (a b d : Bool) → b ≡ false → d ≡ false → (a || (b || d)) ≡ true → a ≡ true
+    blank_left true b d n m h = refl
+    blank_left false b d n m h = cc
+
+    stays : (c == 59) ≡ false → (c == 44) ≡ false → next after_param c ≡ after_param
+    stays n m = rw (n, m) refl
+
+-- ---- the length of what follows
+shorter : (t a next rest : List ℕ) (c : ℕ) → t ≡ a ++ next → next ≡ c ∷ rest → length rest < length t
+shorter t a next rest c e f = omega (arith, ap length e, ap length f, length-append a next)
+
+abbrev left_of : List LinkParam → List LinkValue → Left
+left_of ps ls = record { params = ps; links = ls }
+
+-- the same parameters and link-values are left
+left_same : {r z : Reading} → Same r z → left_of r.params r.links ≡ left_of z.params z.links
+left_same {r} {z} k = ap (λ p. left_of p r.links) k.params ∙ ap (left_of z.params) k.links
+
+-- ---- before a link-value, over blanks
+module _ (t a next : List ℕ) (h : IsRun is_blank t a next) where
+  goes_before : (s : Tests) → fault_from s before_link t ≡ fault_from s before_link next
+  goes_before s = ap (fault_from s before_link) h.whole ∙ blanks_before s a next h.all
+
+  links_before : links_in t ≡ links_in next
+  links_before = ap links_in h.whole ∙ start-blanks a next h.all
+
+  pub comma_before : (rest : List ℕ) → next ≡ 44 ∷ rest → Comes false t Comma rest
+  comma_before rest e = record {
+    goes = λ s. goes_before s ∙ (ap (fault_from s before_link) e ∙ (comma_same s rest).3);
+    reads = λ s _. ap (left_of []) (links_before ∙ (ap links_in e ∙ (at_comma rest).3));
+    named = tt;
+    shorter = shorter t a next rest 44 h.whole e;
+  }
+
+  pub end_before : (length next == 0) ≡ true → Ends false t
+  end_before e =
+      let n = nil_from_length next (eqb-true (length next) 0 e) in record {
+        faultless = λ s. goes_before s ∙ (ap (fault_from s before_link) n ∙ (end_same s).3);
+        none_left = ap (left_of []) (links_before ∙ (ap links_in n ∙ at_end.3));
+      }
+
+  pub no_target_before : first_passes (λ c. c == 60) next ≡ false → first_passes (λ c. c == 44) next ≡ false → (length next == 0) ≡ false
+      → (s : Tests) → fault_from s before_link t ≡ Some (record { kind = NoTarget; rest = next })
+  no_target_before lt comma some s = goes_before s ∙ no_target s next h.ends lt comma some
+
+  pub open_before : (inner : List ℕ) → next ≡ 60 ∷ inner → None ≡ after 62 inner
+      → (s : Tests) → fault_from s before_link t ≡ Some (record { kind = OpenTarget; rest = next })
+  open_before inner e none s = goes_before s ∙ target_open s next inner (before 62 inner) e refl none
+
+  pub target_before : (inner u : Bor (List ℕ)) (rest : List ℕ) → next ≡ 60 ∷ inner.now → u.now ≡ before 62 inner.now → Some rest ≡ after 62 inner.now
+      → Comes false t (Target inner u) rest
+  target_before inner u rest e is r =
+      let has = some-lacks 62 inner.now rest r in
+      let whole : inner.now ≡ u.now ++ 62 ∷ rest =
+      sym (joined 62 inner.now) ∙ (ap (λ o. before 62 inner.now ++ delimited 62 o) (sym r) ∙ ap (λ l. l ++ 62 ∷ rest) (sym is)) in
+      let closed : lacks 62 u.now ≡ true = ap (lacks 62) is ∙ before-lacks 62 inner.now in
+      record {
+        goes = λ s.
+            let there : target_fault s inner.now ≡ told_target (reference_fault s (before 62 inner.now)) inner.now = rw has refl in
+            let right : target_fault s inner.now ≡ told_target (reference_fault s u.now) inner.now =
+            there ∙ ap (λ z. told_target (reference_fault s z) inner.now) (sym is) in
+            goes_before s ∙ (ap (fault_from s before_link) e ∙ (open_goes s inner.now
+            ∙ (ap (λ o. earlier o (fault_from s in_target inner.now)) right
+            ∙ ap (earlier (told_target (reference_fault s u.now) inner.now)) (target-goes s inner.now rest r))));
+        reads = λ s _. ap (left_of []) (links_before ∙ (ap links_in e ∙ (ap (λ z. links_in (60 ∷ z)) whole ∙ opened u.now rest closed)));
+        named = tt;
+        shorter = omega (arith, shorter t a next inner.now 60 h.whole e, after-shorter 62 inner.now rest r);
+      }
+    where
+      opened : (v y : List ℕ) → lacks 62 v ≡ true
+          → links_in (60 ∷ (v ++ 62 ∷ y)) ≡ record { target = v; params = (reading after_param y).params } ∷ (reading after_param y).links
+      opened v y closed =
+          let R = reading in_target (v ++ 62 ∷ y) in
+          let z = reading after_param y in
+          let g = target-given v y closed in
+          link-open (v ++ 62 ∷ y)
+          ∙ (ap (λ w. record { target = w; params = R.params } ∷ R.links) g.text
+          ∙ (ap (λ w. record { target = v; params = w } ∷ R.links) g.params
+          ∙ ap (λ w. record { target = v; params = z.params } ∷ w) g.links))
+
+-- ---- after a target or a parameter, over blanks
+not_ended : (t : List ℕ) → first_passes (λ c. c == 44) t ≡ false → (length t == 0) ≡ false → ends_link t ≡ false
+not_ended [] h k = cc
+not_ended (c ∷ cs) h k = h
+
+module _ (t a next : List ℕ) (h : IsRun is_blank t a next) where
+  goes_inside : (s : Tests) → fault_from s after_param t ≡ fault_from s after_param next
+  goes_inside s = ap (fault_from s after_param) h.whole ∙ ready-blanks s a next h.all
+
+  left_inside : left_at true t ≡ left_at true next
+  left_inside = ap (left_at true) h.whole ∙ left_same (param-blanks a next h.all)
+
+  pub comma_inside : (rest : List ℕ) → next ≡ 44 ∷ rest → Comes true t Comma rest
+  comma_inside rest e = record {
+    goes = λ s. goes_inside s ∙ (ap (fault_from s after_param) e ∙ (comma_same s rest).1);
+    reads = λ s _. left_inside ∙ (ap (left_at true) e ∙ left_same (at_comma rest).1);
+    named = tt;
+    shorter = shorter t a next rest 44 h.whole e;
+  }
+
+  pub end_inside : (length next == 0) ≡ true → Ends true t
+  end_inside e =
+      let n = nil_from_length next (eqb-true (length next) 0 e) in record {
+        faultless = λ s. goes_inside s ∙ (ap (fault_from s after_param) n ∙ (end_same s).1);
+        none_left = left_inside ∙ (ap (left_at true) n ∙ left_same at_end.1);
+      }
+
+  pub no_param_inside : first_passes (λ c. c == 59) next ≡ false → first_passes (λ c. c == 44) next ≡ false → (length next == 0) ≡ false
+      → (s : Tests) → fault_from s after_param t ≡ Some (record { kind = NoParam; rest = next })
+  no_param_inside semi comma some s = goes_inside s ∙ no_param s next h.ends semi (not_ended next comma some)
+
+  pub fault_inside : (e : Halt) (s : Tests) → IsFault e (fault_from s after_param next) → IsFault e (fault_from s after_param t)
+  fault_inside e s k = subst (IsFault e) (sym (goes_inside s)) k
+
+  pub piece_inside : (x : Piece) (rest : List ℕ) → Comes true next x rest → Comes true t x rest
+  piece_inside x rest k = record {
+    goes = λ s. goes_inside s ∙ k.goes s;
+    reads = λ s v. left_inside ∙ k.reads s v;
+    named = k.named;
+    shorter = omega (arith, k.shorter, ap length h.whole, length-append a next);
+  }
+
+-- ---- after a semicolon, over blanks
+module _ (whole following b next : List ℕ) (e : whole ≡ 59 ∷ following) (h : IsRun is_blank following b next) where
+  goes_after : (s : Tests) → fault_from s after_param whole ≡ fault_from s after_semicolon next
+  goes_after s =
+      ap (fault_from s after_param) e ∙ (ready_semicolon s following
+      ∙ (ap (fault_from s after_semicolon) h.whole ∙ blanks_after s b next h.all))
+
+  left_after : left_at true whole ≡ left_of (reading after_semicolon next).params (reading after_semicolon next).links
+  left_after =
+      ap (left_at true) e ∙ (left_same (at_semicolon following).1
+      ∙ (ap (λ z. left_of (reading after_semicolon z).params (reading after_semicolon z).links) h.whole ∙ left_same (semicolon-blanks b next h.all)))
+
+  pub none_after : first_passes is_token_char next ≡ false → Comes true whole NoneThere next
+  none_after none = record {
+    goes = λ s. goes_after s ∙ semicolon_ready s next h.ends none;
+    reads = λ s v. left_after ∙ left_same (valid_stop s next v).semicolon_ends;
+    named = tt;
+    shorter = omega (arith, ap length e, ap length h.whole, length-append b next);
+  }
+
+  pub param_after : (p : ParamText) (rest : List ℕ) → first_passes is_token_char next ≡ true → ReadsParam next rest (param_said p)
+      → list_all is_token_char p.name.now ≡ true → Comes true whole (Param p) rest
+  param_after p rest begun r named = record {
+    goes = λ s. goes_after s ∙ (semicolon-name s next begun ∙ r.goes s);
+    reads = λ s v.
+        let q = param_said p in
+        let z = reading after_param rest in
+        let R = reading after_semicolon (r.prefix ++ rest) in
+        let d = param-given r.prefix rest q r.param (valid_stop s rest v) in
+        left_after ∙ (ap (λ x. left_of (reading after_semicolon x).params (reading after_semicolon x).links) r.whole
+        ∙ (ap (λ ps. left_of ps R.links) d.params ∙ ap (left_of (q ∷ z.params)) d.links));
+    named = named;
+    shorter = omega (arith, ap length e, ap length h.whole, length-append b next, ap length r.whole, length-append r.prefix rest);
+  }
+
+  pub fault_after : (k : Halt) (s : Tests) → first_passes is_token_char next ≡ true → IsFault k (fault_from s in_name next)
+      → IsFault k (fault_from s after_param whole)
+  fault_after k s begun is = subst (IsFault k) (sym (goes_after s ∙ semicolon-name s next begun)) is
+
+-- ---- a walk goes on
+pub walked : (s : Tests) (p q : Bool) (text t rest : List ℕ) (x : Piece) → fault_from s before_link text ≡ fault_from s (phase_at p) t
+    → Comes p t x rest → piece_fault s x ≡ None → q ≡ stands x → fault_from s before_link text ≡ fault_from s (phase_at q) rest
+walked s p q text t rest x same k none is =
+    same ∙ (k.goes s ∙ (ap (λ o. earlier o (fault_from s (phase_at (stands x)) rest)) none ∙ ap (λ b. fault_from s (phase_at b) rest) (sym is)))
+
+-- a piece that is wrong is the first fault
+pub piece_wrong : (e : Halt) (s : Tests) (p : Bool) (text t rest : List ℕ) (x : Piece)
+    → fault_from s before_link text ≡ fault_from s (phase_at p) t → Comes p t x rest → IsFault e (piece_fault s x)
+    → IsFault e (fault_from s before_link text)
+piece_wrong e s p text t rest x same k wrong = subst (IsFault e) (sym (same ∙ k.goes s)) (earlier_wrong e (piece_fault s x) wrong)
+  where
+    earlier_wrong : (k : Halt) (f : Option Fault) → IsFault k f → IsFault k (earlier f (fault_from s (phase_at (stands x)) rest))
+    earlier_wrong k (Some f) is = is
+    earlier_wrong (Rattle.iri_link.specs.declared.halt.Halt.TheVariants.Fault i r) None is = cc
+    earlier_wrong Rattle.iri_link.specs.declared.halt.Halt.TheVariants.Memory None is = absurd is

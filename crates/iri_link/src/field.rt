@@ -1,0 +1,84 @@
+// Field values that are checked, and shown without being kept.
+ghost use Rattle.std.specs.Prelude.{◌≡◌, None, Some, map, MatchResult};
+ghost use Rattle.iri_text.specs.Shown.{Shows};
+ghost use Rattle.iri_normal.specs.Resolver.{base_text};
+ghost use Rattle.iri_link.specs.Fault.{fault_from, field_fault, place_in};
+ghost use Rattle.iri_link.specs.Phases.{before_link};
+ghost use Rattle.iri_link.specs.Readings.{links_in};
+ghost use Rattle.iri_link.specs.Resolved.{resolved};
+ghost use Rattle.iri_link.specs.Written.{written};
+
+use crate::error::LinkKind;
+use crate::halt::Halt;
+use crate::shown_text::show_text;
+use crate::walk::check_text;
+use iri_grammar::spec::Spec;
+use iri_normal::resolver::FixedBaseResolver;
+use iri_text::{Stop, TextSink};
+
+// A text that is a field value whose targets are URI-references; or its first fault, and the place of that.
+fn check_valid<S: Spec>(text: &str) -> Result<&str, (LinkKind, usize)>
+    ensures { MatchResult result (λ t. (t.now ≡ text.now) × (fault_from S.tests before_link text.now ≡ None))
+        (λ e. place_in text.now (fault_from S.tests before_link text.now) ≡ Some (record { kind = e.0; place = e.1 })) }
+{
+    match check_text::<S>(text) {
+        Ok(()) => Ok(text),
+        Err(Halt::Fault(kind, rest)) => {
+            let place = text.len().saturating_sub(rest.len());
+            Err((kind, place))
+        }
+        Err(Halt::Memory) => unreachable!(),
+    }
+}
+
+/// The text of a field value whose targets are URI-references of `S` (RFC 8288 section 3). It allocates nothing:
+/// [`show_links_against`] shows its links, however many they are and however long the base.
+///
+/// # Errors
+///
+/// Exactly where the bytes aren't UTF-8 or have no link-values whose targets are URI-references: the first fault from the
+/// left, and its place in bytes.
+///
+/// ```
+/// use iri::format::SliceSink;
+/// use iri::link::{LinkKind, check_field, show_links_against};
+/// use iri::resolve::FixedBaseResolver;
+/// use iri::spec::UriSpec;
+/// use iri::types::UriAbsoluteStr;
+/// let page = FixedBaseResolver::new(UriAbsoluteStr::new("http://example.com/TheBook/chapter3")?);
+/// let mut buffer = [0; 64];
+/// let mut sink = SliceSink::new(&mut buffer);
+/// if let Ok(field) = check_field::<UriSpec>(b"<chapter2>;REL=prev") {
+///     assert!(rt; show_links_against(&mut sink, &page, field).is_ok());
+/// }
+/// assert_eq!(rt; sink.as_str(), "<http://example.com/TheBook/chapter2>; rel=\"prev\"");
+/// assert!(rt; matches!(check_field::<UriSpec>(b"<a"), Err((LinkKind::OpenTarget, 0))));
+/// ```
+pub fn check_field<S: Spec>(field: &[u8]) -> Result<&str, (LinkKind, usize)>
+    ensures { MatchResult result (λ t. (t.now ≡ field.now) × (field_fault S.tests field.now ≡ None))
+        (λ e. field_fault S.tests field.now ≡ Some (record { kind = e.0; place = e.1 })) }
+{
+    match str::from_utf8(field) {
+        Ok(text) => check_valid::<S>(text),
+        Err(error) => Err((LinkKind::NotUtf8, error.valid_up_to())),
+    }
+}
+
+/// Shows the link-values of a field value in their written form, each with its target's canonical text against a
+/// resolver's base (RFC 3986 sections 5.2 and 6.2.2). It allocates nothing. It has a condition: the field has no fault,
+/// which [`check_field`] tests.
+///
+/// # Errors
+///
+/// Only where the sink's count of stops rises; the sink has stopped within the written form then.
+pub fn show_links_against<S: Spec, W: TextSink>(
+    sink: &mut W,
+    resolver: &FixedBaseResolver<'_, S>,
+    field: &str,
+) -> Result<(), Stop>
+    requires { field_fault S.tests field.now ≡ None }
+    ensures { Shows W.puts W.halts W.stops sink.old
+        (written (map (resolved S.tests (base_text resolver.now)) (links_in field.now))) sink.new result }
+{
+    show_text(sink, resolver, field)
+}

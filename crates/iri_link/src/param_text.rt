@@ -1,0 +1,8 @@
+// A parameter as it stands in a field value.
+
+// Its name, and its value where it has one, without the `"` round it.
+#[derive(Clone, Copy)]
+pub(crate) struct ParamText<'a> {
+    pub(crate) name: &'a str,
+    pub(crate) value: Option<&'a str>,
+}
