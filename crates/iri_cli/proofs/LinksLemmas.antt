@@ -1,21 +1,13 @@
 -- The answers of `links`.
-use Rattle.iri_cli.proofs.Common.{◌≡◌, ◌≤◌, ◌<◌, ◌^◌, ◌==◌, ◌&&◌, ◌∙◌, ℕ, true, not, List, [], ◌∷◌, ◌++◌, length, map, Option, None, Some}
-use Rattle.iri_cli.proofs.Common.{refl, sym, ap, arith, length-append, ◌||◌, codes, decimal, list_all, is_utf8, length-decimal-le}
-use Rattle.iri_cli.proofs.Common.{is_utf8-from_IsUtf8, both, before, lacks, reference_fault, ErrorKind, IsSpec, Tests, refusal, good_answer}
-use Rattle.std.specs.Option.{is_none}
-use Rattle.std.proofs.Math.Bool.{or-true}
-use Rattle.iri_grammar.proofs.splits.CutLaws.{before-delimited}
-use Rattle.iri_grammar.specs.Characters.{comma}
+use Rattle.iri_cli.proofs.Common.{◌≡◌, ◌≤◌, ◌<◌, ◌^◌, ◌∙◌, ℕ, List, ◌++◌, length, map, Option, None, Some}
+use Rattle.iri_cli.proofs.Common.{refl, sym, ap, arith, length-append, codes, decimal, length-decimal-le}
+use Rattle.iri_cli.proofs.Common.{ErrorKind, IsSpec, Tests, refusal, good_answer}
 use Rattle.iri_grammar.specs.ErrorTexts.{description}
 use Rattle.iri_grammar.specs.declared.error.ErrorKind.TheVariants.{InvalidScheme}
-use Rattle.iri_normal.proofs.removal.Output.{lacks_there}
 use Rattle.iri_link.specs.ErrorTexts.{displayed, words}
-use Rattle.iri_link.specs.Refusals.{RefusedBy}
-use Rattle.iri_grammar.specs.Blanks.{is_blank}
-use Rattle.iri_link.specs.declared.error.LinkError.TheVariants.{Fault, Memory}
+use Rattle.iri_link.specs.declared.error.LinkError.TheVariants.{Fault}
 use Rattle.iri_link.specs.declared.error.LinkKind.{LinkKind}
 use Rattle.iri_link.specs.declared.error.LinkKind.TheVariants.{BadTarget}
-use Rattle.iri_cli.specs.links.Memory.{has_target, keeps_target, takes_memory}
 use Rattle.iri_link.specs.Fault.{Told, field_fault}
 use Rattle.iri_link.specs.Field.{LinkValue}
 use Rattle.iri_link.specs.Links.{HasLinks}
@@ -42,6 +34,13 @@ pub read_answered : (s : Tests) (base line : List ℕ) (kept : List LinkValue) �
 read_answered s base line kept read =
     ap (λ ls. good_answer (written ls)) read.resolves ∙ links_answered s base line read.links read.has
 
+-- the answer to a field value without a fault, which was found to be this text
+pub field_answered : (s : Tests) (base line field : List ℕ) → (field ≡ line) × (field_fault s line ≡ None)
+    → links_line s base (links_in field) ≡ links_answer s base line
+unfolding links_answer
+field_answered s base line field (same, none) =
+    ap (λ x. links_line s base (links_in x)) same ∙ ap (λ f. unless_told f (links_line s base (links_in line))) (sym none)
+
 -- the answer to one that is refused
 pub refusal_answered : (s : Tests) (base line : List ℕ) (t : Told) → field_fault s line ≡ Some t → field_refusal t ≡ links_answer s base line
 unfolding links_answer
@@ -58,36 +57,6 @@ others_refused s base line none = by_fault (field_fault s line) refl
         × (unless_told (field_fault s line) (links_line s base (links_in line)) ≡ field_refusal t)
     by_fault None is = absurd (none (links_in line) (links_of_faultless s line is))
     by_fault (Some t) is = (t, is, ap (λ f. unless_told f (links_line s base (links_in line))) is)
-
--- ---- memory
-
--- a field value takes memory
-pub field_takes : (s : Tests) (line : List ℕ) (links : List LinkValue) → HasLinks s line links → takes_memory s line ≡ true
-field_takes s line links has =
-    ap (λ f. is_none f || (is_utf8 line && keeps_target s line)) (links_without_fault s line links has)
-
-target_there : (s : Tests) (target rest : List ℕ) → lacks 62 target ≡ true → reference_fault s target ≡ None
-    → has_target s (target ++ 62 ∷ rest) ≡ true
-target_there s target rest closed valid =
-    ap (λ b. not b && is_none (reference_fault s (before 62 (target ++ 62 ∷ rest)))) (lacks_there 62 target rest)
-    ∙ ap (λ t. is_none (reference_fault s t)) (before-delimited 62 target (Some rest) closed) ∙ ap is_none valid
-
-kept_from : (s : Tests) (prefix target rest : List ℕ) → list_all (λ c. is_blank c || c == comma) prefix ≡ true → lacks 62 target ≡ true
-    → reference_fault s target ≡ None → keeps_target s (prefix ++ 60 ∷ (target ++ 62 ∷ rest)) ≡ true
-unfolding keeps_target
-kept_from s [] target rest skipped closed valid = target_there s target rest closed valid
-kept_from s (c ∷ prefix) target rest skipped closed valid =
-    let b = both (is_blank c || c == comma) (list_all (λ x. is_blank x || x == comma) prefix) skipped in
-    let e : (is_blank c || c == comma) ≡ true = b.0 in
-    rw e (kept_from s prefix target rest b.1 closed valid)
-
--- a line for which memory was wanted takes it
-pub kept_takes : (s : Tests) (line : List ℕ) → RefusedBy s line Memory → takes_memory s line ≡ true
-kept_takes s line (utf8, k) =
-    ap (λ b. is_none (field_fault s line) || (b && keeps_target s line)) (is_utf8-from_IsUtf8 line utf8)
-    ∙ ap (λ b. is_none (field_fault s line) || b)
-    (ap (keeps_target s) k.whole ∙ kept_from s k.prefix k.target k.rest k.skipped k.closed k.valid)
-    ∙ or-true (is_none (field_fault s line))
 
 -- ---- the length of what is told of a fault
 kind_short : (k : ErrorKind) → length (codes "target " ++ description k) ≤ 54

@@ -1,6 +1,5 @@
 -- The command `links`.
 pub mod Answers
-pub mod Memory
 pub mod Rules
 pub mod FieldValues
 pub mod Examples

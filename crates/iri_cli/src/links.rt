@@ -1,13 +1,17 @@
 // The answers of `links`.
+ghost use Rattle.std.specs.Prelude.{◌≡◌, None};
 ghost use Rattle.iri_text.specs.Sink.{PutsAll, sink_state};
-ghost use Rattle.iri_cli.specs.links.Answers.{field_refusal};
+ghost use Rattle.iri_link.specs.Fault.{field_fault};
+ghost use Rattle.iri_link.specs.Readings.{links_in};
+ghost use Rattle.iri_normal.specs.Resolver.{base_text};
+ghost use Rattle.iri_cli.specs.links.Answers.{field_refusal, links_line, links_text};
 
 use crate::canon::base_of;
 use crate::run::answers::{AnswerError, Answers, BaseError};
 use crate::run::puts::{put_bad, say_good};
-use crate::run::shown::put_good;
+use crate::run::sink_text::SinkText;
 use iri_grammar::spec::Spec;
-use iri_link::{LinkError, LinkKind, read_links_against};
+use iri_link::{LinkError, LinkKind, check_field, show_links_against};
 use iri_normal::resolver::FixedBaseResolver;
 use iri_text::{Failed, Sink, write_to_slice};
 use std::alloc::Global;
@@ -25,12 +29,44 @@ fn put_fault<O: Sink>(sink: &mut O, kind: LinkKind, place: usize) -> Result<(), 
     }
 }
 
+// Puts the written form of the links of a field value without a fault.
+fn put_written<S: Spec, O: Sink>(
+    sink: &mut O,
+    resolver: &FixedBaseResolver<'_, S>,
+    field: &str,
+) -> Result<(), Failed>
+    requires { field_fault S.tests field.now ≡ None }
+    ensures { let state = sink_state O.written O.faults O.room_left in
+        PutsAll (state sink.old) (state sink.new) result
+        (links_text S.tests (base_text resolver.now) (links_in field.now)) }
+{
+    let mut text = SinkText::new(sink);
+    match show_links_against(&mut text, resolver, field) {
+        Ok(()) => Ok(()),
+        Err(_) => Err(Failed),
+    }
+}
+
+// Puts the answer to a field value without a fault.
+fn put_links<S: Spec, O: Sink>(
+    sink: &mut O,
+    resolver: &FixedBaseResolver<'_, S>,
+    field: &str,
+) -> Result<(), Failed>
+    requires { field_fault S.tests field.now ≡ None }
+    ensures { let state = sink_state O.written O.faults O.room_left in
+        PutsAll (state sink.old) (state sink.new) result
+        (links_line S.tests (base_text resolver.now) (links_in field.now)) }
+{
+    sink.put_all(b"ok ")?;
+    put_written(sink, resolver, field)?;
+    sink.put_all(b"\n")
+}
+
 /// Answers the value of a `Link` field by its links, with their canonical targets, in one written
 /// form.
 #[derive(Drop)]
-pub struct Links {
-    alloc: Global,
-}
+pub struct Links;
 
 impl<S: Spec> Answers<S> for Links {
     type Start = Global;
@@ -38,8 +74,7 @@ impl<S: Spec> Answers<S> for Links {
     ghost use Rattle.std.specs.Prelude.{refl};
     ghost use Rattle.iri_cli.specs.inside.StatelessAt.{IsStatelessAt};
     ghost use Rattle.iri_cli.specs.links.Answers.{links_answer};
-    ghost use Rattle.iri_cli.specs.links.Memory.{takes_memory};
-    ghost use Rattle.iri_cli.specs.links.Rules.{links_rules};
+    ghost use Rattle.iri_cli.specs.links.Rules.{links_rules, takes_memory};
 
     ghost rules = { λ alloc. links_rules S.tests };
 
@@ -47,9 +82,9 @@ impl<S: Spec> Answers<S> for Links {
 
     ghost stands_at = { λ l base at. IsStatelessAt links_answer takes_memory S.tests base at };
 
-    fn open(alloc: Global, base: &mut Vec<u8>, _output: Vec<u8>) -> Result<Self, BaseError> {
+    fn open(_alloc: Global, base: &mut Vec<u8>, _output: Vec<u8>) -> Result<Self, BaseError> {
         match base_of::<S>(base) {
-            Ok(_) => Ok(Links { alloc }),
+            Ok(_) => Ok(Links),
             Err(words) => Err(BaseError::Refused(words)),
         }
     }
@@ -60,10 +95,9 @@ impl<S: Spec> Answers<S> for Links {
         line: &[u8],
         sink: &mut O,
     ) -> Result<bool, AnswerError> {
-        match read_links_against(self.alloc, resolver, line) {
-            Ok(links) => say_good(true, put_good(sink, &links)),
-            Err(LinkError::Fault(kind, place)) => say_good(false, put_fault(sink, kind, place)),
-            Err(LinkError::Memory) => Err(AnswerError::Memory),
+        match check_field::<S>(line) {
+            Ok(field) => say_good(true, put_links(sink, resolver, field)),
+            Err((kind, place)) => say_good(false, put_fault(sink, kind, place)),
         }
     }
 

@@ -15,8 +15,12 @@ abbrev pub field_refusal : Told → List ℕ
 field_refusal t = codes "bad " ++ ((words t.kind ++ (codes " at " ++ decimal t.place)) ++ line_feed ∷ [])
 
 -- link-values in their written form, each with its target's canonical text against a base
+abbrev pub links_text : Tests → List ℕ → List LinkValue → List ℕ
+links_text s base links = written (map (resolved s base) links)
+
+-- the answer to them
 abbrev pub links_line : Tests → List ℕ → List LinkValue → List ℕ
-links_line s base links = good_answer (written (map (resolved s base) links))
+links_line s base links = good_answer (links_text s base links)
 
 abbrev pub unless_told : Option Told → List ℕ → List ℕ
 unless_told None answer = answer

@@ -1,12 +1,11 @@
 -- The command `links`, worked on the lines of small inputs.
-use Rattle.std.specs.Prelude.{◌≡◌, true, false, [], ◌∷◌, codes, map, refl}
+use Rattle.std.specs.Prelude.{◌≡◌, [], ◌∷◌, codes, refl}
 use Rattle.iri_grammar.specs.Classes.{uri_tests}
 use Rattle.iri_link.specs.Fault.{fault_from, closes_from}
 use Rattle.iri_link.specs.Readings.{reading}
 use Rattle.iri_docs.specs.OnLiterals.{on_literals}
 use Rattle.iri_cli.specs.run.Ending.{answers}
 use Rattle.iri_cli.specs.links.Answers.{links_answer}
-use Rattle.iri_cli.specs.links.Memory.{keeps_target}
 use Rattle.iri_cli.specs.links.Rules.{links_rules}
 
 -- links of an API with pages, a name in capitals, an escaped delimiter, no link; and a fault of each kind but that of UTF-8
@@ -19,10 +18,3 @@ pub answers_to_some_lines : answers (links_rules uri_tests) (codes "https://api.
     ∷ codes "bad parameter value at 6\n" ∷ codes "bad unclosed string at 6\n" ∷ []
 unfolding on_literals links_answer fault_from closes_from reading
 answers_to_some_lines = refl
-
--- which lines take memory: field values, and lines with a fault after a target that is kept
-pub memory_at_some_lines : map ((links_rules uri_tests).wants_memory (codes "http://a/") [])
-    (codes "<b>" ∷ [] ∷ codes ", <b>;r=" ∷ codes "b" ∷ codes "<b" ∷ codes "<%4>" ∷ codes "b <b>" ∷ (60 ∷ 98 ∷ 62 ∷ 255 ∷ []) ∷ [])
-    ≡ true ∷ true ∷ true ∷ false ∷ false ∷ false ∷ false ∷ false ∷ []
-unfolding on_literals keeps_target fault_from closes_from
-memory_at_some_lines = refl
