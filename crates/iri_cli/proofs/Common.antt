@@ -7,10 +7,8 @@ pub use Rattle.std.proofs.lemmas.Bool.{and_parts as both}
 pub use Rattle.std.proofs.lemmas.Bool.Decides.{nat_tests}
 pub use Rattle.std.proofs.lemmas.Fmt.{length-decimal-le}
 pub use Rattle.std.proofs.lemmas.List.{append-nil}
-pub use Rattle.std.proofs.lemmas.Str.{-from_IsUtf8}
 pub use Rattle.std.specs.List.{concat, list_all}
 pub use Rattle.std.specs.Prelude.{OnOk, nat_lt, get_or, codes, is_some, IsSome}
-unfoldable pub use Rattle.std.specs.Str.{is_utf8}
 pub use Rattle.std.specs.Vec.{with_items}
 pub use Rattle.std.specs.declared.alloc.AllocError.{AllocError}
 pub use Rattle.iri_docs.specs.Expanded.{expansion_limit}

@@ -6,8 +6,8 @@ use Rattle.iri_link.proofs.Common.{next, fault_from, target_fault, earlier, firs
 use Rattle.std.proofs.Common.{length-append}
 use Rattle.std.proofs.lemmas.List.{nil_from_length}
 use denote.Bor.{Bor}
-use Rattle.iri_grammar.proofs.CutLaws.{joined}
-use Rattle.iri_grammar.proofs.Scans.{before-lacks}
+use Rattle.iri_grammar.proofs.splits.CutLaws.{joined}
+use Rattle.iri_grammar.proofs.faults.Scans.{before-lacks}
 use Rattle.iri_link.specs.Fault.{Fault, unless, told_target}
 use Rattle.iri_link.specs.Phases.{may_follow}
 use Rattle.iri_link.specs.Readings.{Reading, reading, links_in}
