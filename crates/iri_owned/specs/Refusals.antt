@@ -4,7 +4,7 @@ use Rattle.iri_grammar.specs.declared.error.ErrorKind.{ErrorKind}
 use Rattle.iri_owned.specs.declared.error.CreateError.{CreateError}
 use Rattle.iri_owned.specs.declared.error.CreateError.TheVariants.{Invalid, Memory}
 
--- a fault is told, and allocation failure comes only without one
+-- a fault is answered, and allocation failure comes only without one
 abbrev pub RefusedFor : CreateError → Option ErrorKind → Type 0
 RefusedFor (Invalid e) fault = fault ≡ Some e.kind
 RefusedFor (Memory e) fault = fault ≡ None

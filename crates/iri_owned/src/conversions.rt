@@ -19,11 +19,11 @@ use iri_types::view::RiFragmentStr;
 use std::alloc::{AllocError, Global};
 
 impl<S: Spec> Owned<S, Reference> {
-    /// The text as an IRI of its grammar, which has a scheme. It takes no memory.
+    /// The text as an IRI of its grammar, which has a scheme. It allocates nothing.
     ///
     /// # Errors
     ///
-    /// The same text as a relative reference, exactly where it has no scheme.
+    /// Gives the text as a relative reference, exactly where it has no scheme.
     ///
     /// ```
     /// use iri::types::UriReferenceString;
@@ -41,11 +41,11 @@ impl<S: Spec> Owned<S, Reference> {
         }
     }
 
-    /// The text as a relative reference, which has no scheme. It takes no memory.
+    /// The text as a relative reference, which has no scheme. It allocates nothing.
     ///
     /// # Errors
     ///
-    /// The same text as an IRI of its grammar, exactly where it has a scheme.
+    /// Gives the text as an IRI of its grammar, exactly where it has a scheme.
     pub fn into_relative_iri(self) -> Result<RiRelativeString<S>, RiString<S>>
         ensures text { MatchResult result (λ relative. relative ≡ self) (λ iri. iri ≡ self) }
         ensures scheme { MatchResult result (λ _. IsNone (split_of self.text).scheme)
@@ -58,7 +58,7 @@ impl<S: Spec> Owned<S, Reference> {
     }
 }
 
-// The text before the number sign, or all. It takes no memory.
+// The text before the number sign, or all. It allocates nothing.
 fn cut_at_fragment(text: String) -> String
     ensures text { string_bytes result ≡ before number_sign (string_bytes text) }
     ensures capacity { string_capacity result ≡ string_capacity text }
@@ -88,7 +88,7 @@ fn copy_of<S: Spec>(
 }
 
 impl<S: Spec> Owned<S, Iri> {
-    /// The text before the `#`, or all of it where there is none. It takes no memory.
+    /// The text before the `#`, or all of it where there is none. It allocates nothing.
     ///
     /// ```
     /// use iri::types::UriString;
@@ -126,14 +126,14 @@ impl<S: Spec> Owned<S, Iri> {
 }
 
 impl<S: Spec> Owned<S, Absolute> {
-    /// The text as an IRI of its grammar, which may have a fragment. It takes no memory.
+    /// The text as an IRI of its grammar, which may have a fragment. It allocates nothing.
     pub fn into_iri(self) -> RiString<S>
         ensures { result ≡ self }
     {
         Owned::from_valid(self.into_string())
     }
 
-    /// The text of an IRI that has no fragment. It takes no memory.
+    /// The text of an IRI that has no fragment. It allocates nothing.
     ///
     /// # Errors
     ///
@@ -166,14 +166,14 @@ fn downcast<S: Spec, J: Kind, K: Kind>(
 }
 
 impl<S: Spec, K: WholeKind> Owned<S, K> {
-    /// The text as a reference. It takes no memory.
+    /// The text as a reference. It allocates nothing.
     pub fn into_reference(self) -> RiReferenceString<S>
         ensures { result ≡ self }
     {
         Owned::from_valid(self.into_string())
     }
 
-    /// The text of a reference that is of the kind. It takes no memory.
+    /// The text of a reference that is of the kind. It allocates nothing.
     ///
     /// # Errors
     ///
@@ -188,7 +188,7 @@ impl<S: Spec, K: WholeKind> Owned<S, K> {
 }
 
 impl<K: Kind> Owned<UriSpec, K> {
-    /// The text of URIs as one of IRIs: each URI is an IRI (RFC 3987 section 3). It takes no memory.
+    /// The text of URIs as one of IRIs: each URI is an IRI (RFC 3987 section 3). It allocates nothing.
     pub fn into_iri_spec(self) -> Owned<IriSpec, K>
         ensures { result ≡ self }
     {

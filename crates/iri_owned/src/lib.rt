@@ -16,7 +16,7 @@
 //! what is shown and displayed.
 //!
 //! Not proved: the words of `CreateError`'s `Display`, how much `shrink_to_fit` gives back of a text that isn't
-//! empty, and that `splice` takes no memory for a longer text that fits, which tests show (`made_and_refused`,
+//! empty, and that `splice` allocates nothing for a longer text that fits, which tests show (`made_and_refused`,
 //! `within_and_past_the_capacity`); how far the capacity of a copy, or of a text that `splice` made longer, is
 //! above its length; the text of `Debug`; that what else takes memory gets it, which tests show with ample
 //! memory.

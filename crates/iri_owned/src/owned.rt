@@ -89,7 +89,7 @@ impl<S: Spec, K: Kind> Owned<S, K> {
         }
     }
 
-    /// A string whose text is in its production. It takes no memory.
+    /// A string whose text is in its production. It allocates nothing.
     ///
     /// # Errors
     ///
@@ -138,7 +138,7 @@ impl<S: Spec, K: Kind> Owned<S, K> {
     }
 
     /// A string whose text is in its production, without a test. It has a condition: `try_from_string` tests it. It
-    /// takes no memory.
+    /// allocates nothing.
     pub fn from_valid(s: String) -> Self
         requires { K.fault S.tests (string_bytes s) ≡ None }
         ensures { result ≡ owned_text s }
@@ -171,6 +171,7 @@ impl<S: Spec, K: Kind> Owned<S, K> {
         self.text.as_str()
     }
 
+<<<<<<< HEAD
     /// The text as a string. It takes no memory.
     ///
     /// ```
@@ -178,6 +179,9 @@ impl<S: Spec, K: Kind> Owned<S, K> {
     /// let link = UriString::try_from_str(rt.alloc(), "http://a/")?;
     /// assert_eq!(rt; link.into_string().as_str(), "http://a/");
     /// ```
+=======
+    /// The text as a string. It allocates nothing.
+>>>>>>> fe12e877 (iri_owned: first lines of docs say what a call does by itself, and what allocates nothing says so)
     pub fn into_string(self) -> String
         ensures text { owned_text result ≡ self }
         ensures valid { K.fault S.tests (string_bytes result) ≡ None }
@@ -256,7 +260,7 @@ impl<S: Spec, K: Kind> Owned<S, K> {
     }
 
     /// Puts a text that is in its production in the old one's place, and gives the old one back. It has a condition:
-    /// `K::validate` tests it. It takes no memory.
+    /// `K::validate` tests it. It allocates nothing.
     pub fn replace_text(&mut self, text: String) -> String
         requires { K.fault S.tests (string_bytes text) ≡ None }
         ensures new { self.new ≡ owned_text text }

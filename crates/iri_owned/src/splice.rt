@@ -22,7 +22,7 @@ fn write_at(bytes: &mut [u8], start: usize, new: &[u8])
     bytes[start..start + new.len()].copy_from_slice(new);
 }
 
-// The same in a vector.
+// Puts bytes at a place of a vector.
 fn write_into(bytes: &mut Vec<u8>, start: usize, new: &[u8])
     requires { start + length new.now ≤ length bytes.old.items }
     ensures items { bytes.new.items ≡ paste bytes.old.items start new.now (length new.now) }
@@ -31,7 +31,7 @@ fn write_into(bytes: &mut Vec<u8>, start: usize, new: &[u8])
     write_at(bytes.as_mut_slice(), start, new);
 }
 
-// Puts bytes in the place of the range, which has no fewer. It takes no memory.
+// Puts bytes in the place of the range, which has no fewer. It allocates nothing.
 fn overwrite(bytes: &mut Vec<u8>, start: usize, end: usize, new: &[u8])
     requires fits { start + length new.now ≤ end }
     requires inside { end ≤ length bytes.old.items }
@@ -45,7 +45,7 @@ fn overwrite(bytes: &mut Vec<u8>, start: usize, end: usize, new: &[u8])
     bytes.truncate(at + tail);
 }
 
-// Puts a text in the place of the range, which is no shorter. It takes no memory.
+// Puts a text in the place of the range, which is no shorter. It allocates nothing.
 fn replace_within(text: &mut String, start: usize, end: usize, new: &str)
     requires fits { start + length new.now ≤ end }
     requires low { IsCharBoundary (string_bytes text.old) start }
