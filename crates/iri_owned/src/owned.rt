@@ -171,17 +171,13 @@ impl<S: Spec, K: Kind> Owned<S, K> {
         self.text.as_str()
     }
 
-<<<<<<< HEAD
-    /// The text as a string. It takes no memory.
+    /// The text as a string. It allocates nothing.
     ///
     /// ```
     /// use iri::types::UriString;
     /// let link = UriString::try_from_str(rt.alloc(), "http://a/")?;
     /// assert_eq!(rt; link.into_string().as_str(), "http://a/");
     /// ```
-=======
-    /// The text as a string. It allocates nothing.
->>>>>>> fe12e877 (iri_owned: first lines of docs say what a call does by itself, and what allocates nothing says so)
     pub fn into_string(self) -> String
         ensures text { owned_text result ≡ self }
         ensures valid { K.fault S.tests (string_bytes result) ≡ None }
