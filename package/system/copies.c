@@ -1,5 +1,5 @@
 /* memcpy and memmove of a static program for x86-64 over musl. musl's own begin "rep movsq" whatever the length, and with them a run
- * takes 1.6 times as long (2026-11-30: web 0.302 s against 0.188). Nothing proves it; tests/system compares it with glibc's. */
+ * takes 1.6 times as long (2026-11-30: web 0.302 s against 0.188). Nothing proves it; tests/packages/system compares it with glibc's. */
 #include <emmintrin.h>
 #include <stddef.h>
 #include <stdint.h>

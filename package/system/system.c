@@ -1,5 +1,5 @@
 /* What compiled code asks of C where the kit has no archive for it: the heap, errno and the words of the command line. It does what the
- * kit's liblibc_c.a and libos_c.a do for x86-64 with glibc. Nothing proves it; tests/system compares it with those. */
+ * kit's liblibc_c.a and libos_c.a do for x86-64 with glibc. Nothing proves it; tests/packages/system compares it with those. */
 #include <errno.h>
 #include <stdbool.h>
 #include <stddef.h>
