@@ -1,5 +1,5 @@
 -- The answers of `canon`.
-use Rattle.iri_cli.proofs.Common.{◌≡◌, ◌≢◌, ℕ, ◌+◌, ◌≤◌, Bool, false, List, [], length, None, Result, Ok, Err, refl, sym, ap, subst, arith}
+use Rattle.iri_cli.proofs.Common.{◌≡◌, ◌≢◌, ℕ, ◌+◌, ◌≤◌, Bool, true, false, List, [], length, None, Result, Ok, Err, refl, sym, ap, subst, arith}
 use Rattle.iri_cli.proofs.Common.{◌∙◌, Tests, IsSpec, bytes_fault, reference_fault, PutsAll, KeepsRoom, SinkState, room-so, Failed}
 use Rattle.iri_cli.proofs.Common.{CanonMode, canonical_in, longest_line, answer_room, refusal, answer_in, Answering, AnswersLine}
 use Rattle.iri_cli.proofs.Common.{PutsAnswer, canon_rules_in, is_ok, AnswerError, SinkFailed, Rules, begun, OnOk}

@@ -1,6 +1,6 @@
 -- No reference of `gen` has a fault: each segment of the table is over the characters of a registered name, which are of a path too.
 use Rattle.iri_cli.proofs.Common.{◌≡◌, ℕ, suc, ◌<◌, ◌^◌, Bool, true, false, not, ◌&&◌, ◌||◌, List, [], ◌∷◌, ◌++◌, Some, None, refl, ◌∙◌, ap}
-use Rattle.iri_cli.proofs.Common.{subst, arith, append-nil, ◌==◌, get_or, nat_lt, list_all, is_utf8-from_IsUtf8, nat_tests, Tests, IsSpec}
+use Rattle.iri_cli.proofs.Common.{subst, arith, append-nil, ◌==◌, get_or, nat_lt, list_all, nat_tests, Tests, IsSpec}
 use Rattle.iri_cli.proofs.Common.{path_char, before, lacks, both, IsAbsolute, recompose, is_empty, starts_with_slash, starts_with_slashes}
 use Rattle.iri_cli.proofs.Common.{absolute_fault, reference_fault, absolute-law, of_bytes, reference-utf8, refusal, more_segments}
 use Rattle.iri_cli.proofs.Common.{gen_reference, gen_base}
@@ -8,6 +8,7 @@ use Rattle.std.proofs.Common.{zero, ◌/◌, ◌%◌}
 use Rattle.std.specs.Str.{IsAscii}
 use Rattle.std.proofs.lemmas.Str.{IsAscii-append, IsUtf8-from_ascii, chars-IsAscii}
 use Rattle.std.specs.Prelude.{option_map}
+use Rattle.std.proofs.lemmas.Str.{is_utf8-from_IsUtf8}
 use Rattle.iri_grammar.specs.ErrorTexts.{description}
 use Rattle.iri_grammar.specs.Classes.{uri_tests, is_ascii_reg_name, is_ascii_pchar, is_ascii_path, reg_name_char}
 use Rattle.iri_grammar.proofs.units.ClassLaws.{class_has_no_percent}
