@@ -130,7 +130,7 @@ static SINKS: [(&[&str], &[u8], u64, &[u8]); 11] = [
     (
         &["links", "uri"],
         b"http://a/\n<b>\n<c>\n",
-        2,
+        9,
         b"ok <http://a/b>\n",
     ),
     (
