@@ -38,8 +38,8 @@
 //! specs/generator/References.antt, and those of `--help` and `--version` are constants of `help`.
 //!
 //! Not proved: that `CanonBuffers::new` and the other commands have their memory where there is
-//! some, which tests show; that answers are flushed before more bytes are taken, which tests/edges
-//! shows on the built program.
+//! some, which tests show; that answers are flushed before more bytes are taken, which
+//! tests/devices/edges shows on the built program.
 #![tactic(auto)]
 
 mod canon;

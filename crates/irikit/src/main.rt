@@ -1,8 +1,8 @@
 //! `irikit`: works on the lines of its standard input as the words after its name say, and ends with a status.
 //!
 //! All of its work is `run_to_writer` of `iri_cli`, whose contract says what each status means, and that nothing is held back at
-//! the end of a run whose sink didn't fail. Not proved, and shown by tests/edges on the built program: that `main` makes a source of
-//! standard input and a sink of standard output, and passes on the words.
+//! the end of a run whose sink didn't fail. Not proved, and shown by tests/devices/edges on the built program: that `main` makes
+//! a source of standard input and a sink of standard output, and passes on the words.
 #![tactic(auto)]
 
 use iri_cli::run::to_writer::run_to_writer;
