@@ -12,6 +12,15 @@ use std::fmt;
 
 /// Why a document has no canonical text, in the order in which the faults are looked for. It is displayed in the words
 /// that answer the document's line.
+///
+/// ```
+/// use iri::docs::{DocExpandError, expand_document, read_document};
+/// use iri::types::UriAbsoluteStr;
+/// let page = UriAbsoluteStr::new("http://a/")?;
+/// let document = read_document(rt.alloc(), b"{\"template\":\"//[::1\"}")?;
+/// let expanded = expand_document(rt.alloc(), page, &document);
+/// assert!(rt; matches!(expanded, Err(DocExpandError::Invalid(_))));
+/// ```
 #[derive(Clone, Copy, Debug, PartialEq, Eq)]
 pub enum DocExpandError {
     /// The template's first fault (RFC 6570 section 2), or the first varspec with a length whose value is a list or an

@@ -12,6 +12,13 @@ use iri_grammar::validate;
 use iri_types::kind::{Absolute, Iri, Kind, Reference, Relative, WholeKind};
 
 /// A kind of whole text that a builder can make.
+///
+/// ```
+/// use iri::build::BuildKind;
+/// use iri::types::kind::{Absolute, Reference};
+/// assert!(rt; Reference::refuse(false, true).is_none());
+/// assert!(rt; Absolute::refuse(true, true).is_some());
+/// ```
 pub trait BuildKind: WholeKind {
     /// What the kind refuses, by whether a scheme and a fragment are given.
     ghost refusal: { Bool → Bool → Option ErrorKind };

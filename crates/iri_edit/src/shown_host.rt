@@ -10,6 +10,15 @@ use iri_text::{Show, Stop, TextSink, show_three};
 use iri_types::view::RiReferenceStr;
 
 /// A text that is shown with another host, without memory.
+///
+/// ```
+/// use iri::edit::{WithHost, with_host};
+/// use iri::format::write_to_slice;
+/// use iri::types::UriReferenceStr;
+/// let shown: WithHost<'_> = with_host(UriReferenceStr::new("//g?y")?, "[::1]").ok_or("a host")?;
+/// let mut buffer = [0; 16];
+/// assert_eq!(rt; write_to_slice(&mut buffer, &shown)?, "//[::1]?y");
+/// ```
 #[derive(Clone, Copy)]
 pub struct WithHost<'a> {
     prefix: &'a str,

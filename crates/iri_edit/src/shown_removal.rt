@@ -10,6 +10,15 @@ use iri_text::{Show, Stop, TextSink, show_two};
 use iri_types::view::RiReferenceStr;
 
 /// A text that is shown without its password and the colon before it, without memory.
+///
+/// ```
+/// use iri::edit::{WithoutPassword, without_password};
+/// use iri::format::write_to_slice;
+/// use iri::types::UriReferenceStr;
+/// let shown: WithoutPassword<'_> = without_password(UriReferenceStr::new("//u:p:q@g/")?);
+/// let mut buffer = [0; 16];
+/// assert_eq!(rt; write_to_slice(&mut buffer, &shown)?, "//u@g/");
+/// ```
 #[derive(Clone, Copy)]
 pub struct WithoutPassword<'a> {
     prefix: &'a str,

@@ -7,6 +7,13 @@ ghost use Rattle.iri_grammar.specs.ClassTests.{class_test, ascii_test, past_asci
 use crate::spec::Spec;
 
 /// A class of characters (RFC 3986 sections 2 and 3).
+///
+/// ```
+/// use iri::class::Class;
+/// assert!(rt; Class::Unreserved.has_byte(b'~'));
+/// assert!(rt; !Class::Pchar.has_byte(b'/'));
+/// assert!(rt; Class::Query.has_byte(b'/'));
+/// ```
 #[derive(Clone, Copy, Debug, PartialEq, Eq)]
 pub enum Class {
     /// `unreserved`.

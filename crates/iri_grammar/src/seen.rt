@@ -2,6 +2,14 @@
 ghost use Rattle.std.specs.Prelude.{◌≡◌, true};
 
 /// The notes of a scan. A note that is false promises what it says of the parts; one that is true promises nothing.
+///
+/// ```
+/// use iri::components::Splitter;
+/// use iri::spec::UriSpec;
+/// let seen = Splitter::new::<UriSpec>("../g?%7e")?.seen();
+/// assert!(rt; seen.dots);
+/// assert!(rt; seen.query_triplets);
+/// ```
 #[derive(Clone, Copy, Debug)]
 pub struct Seen {
     /// The path may have percent-encoded octets.

@@ -4,6 +4,13 @@ ghost use Rattle.iri_grammar.specs.Classes.{Tests, IsSpec, HasFirstUcschars, uri
 ghost use Rattle.iri_grammar.specs.inside.Laws.{uri_is_spec, iri_is_spec};
 
 /// A grammar's choice of characters past ASCII (RFC 3987 section 2.2).
+///
+/// ```
+/// use iri::spec::{IriSpec, Spec, UriSpec};
+/// assert!(rt; IriSpec::is_nonascii_char_unreserved('é'));
+/// assert!(rt; !UriSpec::is_nonascii_char_unreserved('é'));
+/// assert!(rt; IriSpec::is_nonascii_char_private('\u{e000}'));
+/// ```
 pub trait Spec: Copy {
     /// Which characters pass the two tests.
     ghost tests: { Tests };

@@ -6,6 +6,12 @@ use iri_text::{FormatSink, Show, Stop, TextSink, show_three, show_two};
 use std::fmt;
 
 /// What is wrong with the value of a `Link` field.
+///
+/// ```
+/// use iri::link::{LinkKind, check_field};
+/// use iri::spec::UriSpec;
+/// assert!(rt; matches!(check_field::<UriSpec>(b"<a>, <b"), Err((LinkKind::OpenTarget, 5))));
+/// ```
 #[derive(Clone, Copy, Debug, PartialEq, Eq)]
 pub enum LinkKind {
     /// Bytes that are no UTF-8. Their place is the length of the longest prefix that is.

@@ -22,6 +22,17 @@ use std::marker::{Model, PhantomData};
 
 /// The link-values of a field value, in their order (RFC 8288 section 3). Each has a target, in canonical form, and
 /// parameters, each of which has a name in lower case and may have a value. It is seen as their list.
+///
+/// ```
+/// use iri::link::read_links;
+/// use iri::types::UriAbsoluteStr;
+/// let page = UriAbsoluteStr::new("http://example.com/")?;
+/// let field = b"</TheBook/chapter2>; rel=\"previous\", </TheBook/chapter4>; rel=\"next\"";
+/// let links = read_links(rt.alloc(), page, field)?;
+/// assert_eq!(rt; links.len(), 2);
+/// assert_eq!(rt; links.target(1), Some("http://example.com/TheBook/chapter4"));
+/// assert_eq!(rt; links.param_value(1, 0), Some("next"));
+/// ```
 #[derive(Drop)]
 #[derive_where(Debug)]
 pub struct LinkSet<S: Spec> {

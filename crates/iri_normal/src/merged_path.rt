@@ -4,6 +4,13 @@ ghost use Rattle.iri_grammar.specs.Parts.{is_empty};
 ghost use Rattle.iri_normal.specs.Target.{ends_at_slash};
 
 /// What the base gives of a path, and the reference's path after it. The first piece ends where a segment ends, or nothing follows it.
+///
+/// ```
+/// use iri::steps::MergedPath;
+/// let path = MergedPath::of("/b/c/../g");
+/// assert_eq!(rt; path.base, "");
+/// assert_eq!(rt; path.reference, "/b/c/../g");
+/// ```
 #[derive(Clone, Copy, Debug)]
 pub struct MergedPath<'a> {
     pub base: &'a str,

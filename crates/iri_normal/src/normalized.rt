@@ -24,6 +24,16 @@ use std::marker::PhantomData;
 
 /// Parts, borrowed, that show themselves as one text of the kind `K` in a mode: without dot segments alone, or in a
 /// normal form. Allocates nothing until it is made a string.
+///
+/// ```
+/// use iri::normalize::NormalizedText;
+/// use iri::prelude::{Normalize, ToDedicatedString};
+/// use iri::spec::UriSpec;
+/// use iri::types::UriStr;
+/// use iri::types::kind::Iri;
+/// let text: NormalizedText<'_, UriSpec, Iri> = UriStr::new("eXAMPLE://a/./b/../b/%63/%7bfoo%7d")?.normalize();
+/// assert_eq!(rt; text.try_to_dedicated_string(rt.alloc())?.as_str(), "example://a/b/c/%7Bfoo%7D");
+/// ```
 #[derive_where(Debug)]
 pub struct NormalizedText<'a, S: Spec, K: NormalKind> {
     prefix: Option<&'a str>,

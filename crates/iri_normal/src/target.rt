@@ -14,6 +14,17 @@ use iri_grammar::splitter::Splitter;
 use memchr::memrchr;
 
 /// A target as slices of the base and the reference.
+///
+/// ```
+/// use iri::resolve::FixedBaseResolver;
+/// use iri::types::{UriAbsoluteStr, UriReferenceStr};
+/// let page = FixedBaseResolver::new(UriAbsoluteStr::new("http://a/b/c/d;p?q")?);
+/// let target = page.target(rt.alloc(), UriReferenceStr::new("//g?y")?)?;
+/// let slices = target.slices();
+/// assert_eq!(rt; slices.scheme, Some("http"));
+/// assert_eq!(rt; slices.authority, Some("g"));
+/// assert_eq!(rt; slices.query, Some("y"));
+/// ```
 #[derive(Clone, Copy, Debug)]
 pub struct TargetSlices<'a> {
     pub scheme: Option<&'a str>,

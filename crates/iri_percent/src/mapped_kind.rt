@@ -6,6 +6,18 @@ ghost use Rattle.iri_percent.specs.Mapping.{mapped};
 use iri_types::kind::{Absolute, Fragment, Iri, Kind, Query, Reference, Relative};
 
 /// A kind whose texts of every grammar, mapped, are texts of the same kind of URIs.
+///
+/// ```
+/// use iri::convert::MappedKind;
+/// use iri::prelude::{ToStringFallible, ToUri};
+/// use iri::spec::IriSpec;
+/// use iri::types::{IriReferenceStr, View};
+/// use std::alloc::{AllocError, Global};
+/// fn uri_of<K: MappedKind>(alloc: Global, iri: View<'_, IriSpec, K>) -> Result<String, AllocError> {
+///     iri.encode_to_uri().try_to_string(alloc)
+/// }
+/// assert_eq!(rt; uri_of(rt.alloc(), IriReferenceStr::new("red%09rosé#red")?)?.as_str(), "red%09ros%C3%A9#red");
+/// ```
 pub trait MappedKind: Kind {
     /// A law, which does nothing when it is called: what is in the production is, mapped, in that of URIs.
     fn mapped_is_valid()

@@ -89,6 +89,19 @@ pub fn steps_to_normal_in<S: Spec>(
 /// # Errors
 ///
 /// Only where the sink's count of stops rises; the sink has stopped within the steps then.
+///
+/// ```
+/// use iri::normalize::CanonMode;
+/// use iri::resolve::FixedBaseResolver;
+/// use iri::spec::UriSpec;
+/// use iri::steps::{Step, StepList, put_steps_in};
+/// use iri::types::{UriAbsoluteStr, UriReferenceStr};
+/// let page = FixedBaseResolver::new(UriAbsoluteStr::new("http://a/b/c/d;p?q")?);
+/// let target = page.target(rt.alloc(), UriReferenceStr::new("../g")?)?;
+/// let mut steps = StepList::new(rt.alloc());
+/// assert!(rt; put_steps_in::<UriSpec, StepList>(&mut steps, CanonMode::Default, &target).is_ok());
+/// assert_eq!(rt; steps.get(0), Some(Step::Dots));
+/// ```
 pub fn put_steps_in<S: Spec, T: StepSink>(
     sink: &mut T,
     mode: CanonMode,

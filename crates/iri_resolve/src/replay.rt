@@ -132,6 +132,19 @@ pub fn replay<S: Spec>(
 /// # Errors
 ///
 /// `Illegal` and `Memory` exactly as [`replay`].
+///
+/// ```
+/// use iri::normalize::CanonMode;
+/// use iri::resolve::FixedBaseResolver;
+/// use iri::steps::{Step, StepList, replay_in};
+/// use iri::types::{UriAbsoluteStr, UriReferenceStr};
+/// let page = FixedBaseResolver::new(UriAbsoluteStr::new("http://a/b")?);
+/// let target = page.target(rt.alloc(), UriReferenceStr::new("http://example.com:80/")?)?;
+/// let mut steps = StepList::new(rt.alloc());
+/// steps.push(Step::DefaultPort)?;
+/// let reached = replay_in(rt.alloc(), CanonMode::Scheme, &target, &steps)?;
+/// assert_eq!(rt; reached.authority(), Some("example.com"));
+/// ```
 pub fn replay_in<S: Spec>(
     alloc: Global,
     mode: CanonMode,

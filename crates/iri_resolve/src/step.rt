@@ -1,6 +1,11 @@
 //! Steps that change parts towards their normal form.
 
 /// A part that may hold percent-encoded octets.
+///
+/// ```
+/// use iri::steps::{Part, Step};
+/// assert_eq!(rt; format!(in rt.alloc(); "{}", Step::Decode(Part::Query, 3))?.as_str(), "decode query 3");
+/// ```
 #[derive(Clone, Copy, Debug, PartialEq, Eq)]
 pub enum Part {
     /// The userinfo, host and port.

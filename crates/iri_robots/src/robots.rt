@@ -31,6 +31,12 @@ pub enum RobotsError {
 }
 
 /// Why a line isn't stored.
+///
+/// ```
+/// use iri::robots::{LineError, Robots};
+/// let mut rules = Robots::new(rt.alloc(), "ExampleBot")?;
+/// assert!(rt; matches!(rules.feed_line_within(b"Disallow: /%2A", 0), Err(LineError::Escapes)));
+/// ```
 #[derive(Debug, Drop, Error)]
 pub enum LineError {
     /// The pattern of its rule has more escapes than the caller takes.
@@ -42,6 +48,16 @@ pub enum LineError {
 }
 
 /// What the rules say of a text.
+///
+/// ```
+/// use iri::robots::{Robots, Verdict};
+/// let mut rules = Robots::new(rt.alloc(), "foobot")?;
+/// rules.feed_line(b"User-Agent: foobot")?;
+/// rules.feed_line(b"Allow: /example/page/")?;
+/// rules.feed_line(b"Disallow: /example/page/disallowed.gif")?;
+/// assert_eq!(rt; rules.verdict("/example/page/"), Verdict::Allow);
+/// assert_eq!(rt; rules.verdict("/example/page/disallowed.gif"), Verdict::Disallow);
+/// ```
 #[derive(Clone, Copy, Debug, PartialEq, Eq)]
 pub enum Verdict {
     /// The crawler may fetch it.

@@ -10,6 +10,21 @@ use crate::visitor::Visitor;
 use iri_text::Stop;
 
 /// What has the values of variables.
+///
+/// ```
+/// use iri::prelude::ToStringFallible;
+/// use iri::spec::UriSpec;
+/// use iri::template::UriTemplateStr;
+/// use iri::template::context::Context;
+/// use iri::template::simple_context::SimpleContext;
+/// use std::alloc::Global;
+/// fn expanded<C: Context>(alloc: Global, template: UriTemplateStr<'_>, values: &C) -> Option<String> {
+///     template.expand::<UriSpec, C>(values).ok()?.try_to_string(alloc).ok()
+/// }
+/// let values = SimpleContext::new(rt.alloc());
+/// let text = expanded(rt.alloc(), UriTemplateStr::new("/search{?q}")?, &values).ok_or("memory")?;
+/// assert_eq!(rt; text.as_str(), "/search");
+/// ```
 pub trait Context {
     /// The value of the variable of this name.
     ghost value_of: { Self → List ℕ → ShownValue };

@@ -11,6 +11,35 @@ use iri_text::Stop;
 /// What has the values of variables, which may change with each call. An expansion calls `on_expansion_start` once, then
 /// for each varspec `visit_dynamic` to look at the value's type and `visit_dynamic` again to write the value, and at last
 /// `on_expansion_end` once.
+///
+/// ```
+/// use iri::format::Stop;
+/// use iri::spec::UriSpec;
+/// use iri::template::UriTemplateStr;
+/// use iri::template::context::{DynamicContext, Visitor};
+/// #[derive(Drop)]
+/// struct Counter {
+///     count: u8,
+/// }
+/// impl DynamicContext for Counter {
+///     ghost tells = { λ _. None };
+///     ghost starts = { λ _. None };
+///     ghost ends = { λ _. None };
+///     fn visit_dynamic<V: Visitor>(&mut self, visitor: &mut V) -> Result<(), Stop> {
+///         visitor.visit_string(&self.count)
+///     }
+///     fn on_expansion_start(&mut self) {
+///         self.count = self.count.saturating_add(1);
+///     }
+///     fn on_expansion_end(&mut self) {}
+/// }
+/// let mut counter = Counter { count: 0 };
+/// let template = UriTemplateStr::new("/page{/n}")?;
+/// for text in ["/page/1", "/page/2"] {
+///     let page = template.expand_dynamic_to_string::<UriSpec, Counter>(rt.alloc(), &mut counter)?;
+///     assert_eq!(rt; page.as_str(), text);
+/// }
+/// ```
 pub trait DynamicContext {
     /// The values that visits tell, where the context says so: after so many more calls of these three, for a name and a
     /// purpose.
@@ -47,6 +76,18 @@ pub trait DynamicContext {
 }
 
 /// A dynamic context whose values stay as they are: those of a `Context`.
+///
+/// ```
+/// use iri::spec::UriSpec;
+/// use iri::template::UriTemplateStr;
+/// use iri::template::context::Fixed;
+/// use iri::template::simple_context::SimpleContext;
+/// let values = SimpleContext::new(rt.alloc());
+/// let mut fixed = Fixed::new(&values);
+/// let template = UriTemplateStr::new("/search{?q}")?;
+/// let text = template.expand_dynamic_to_string::<UriSpec, Fixed<'_, SimpleContext>>(rt.alloc(), &mut fixed)?;
+/// assert_eq!(rt; text.as_str(), "/search");
+/// ```
 #[derive(Debug, Drop)]
 pub struct Fixed<'a, C> {
     context: &'a C,

@@ -11,6 +11,28 @@ use iri_text::{Show, Stop};
 use std::collections::{BTreeMap, BTreeSet};
 
 /// What has a value and tells it.
+///
+/// ```
+/// use iri::format::Stop;
+/// use iri::spec::UriSpec;
+/// use iri::template::UriTemplateStr;
+/// use iri::template::context::{DynamicContext, VisitValueNaive, Visitor};
+/// #[derive(Drop)]
+/// struct Port;
+/// impl DynamicContext for Port {
+///     ghost tells = { λ _. None };
+///     ghost starts = { λ _. None };
+///     ghost ends = { λ _. None };
+///     fn visit_dynamic<V: Visitor>(&mut self, visitor: &mut V) -> Result<(), Stop> {
+///         8042u16.visit_value(visitor)
+///     }
+///     fn on_expansion_start(&mut self) {}
+///     fn on_expansion_end(&mut self) {}
+/// }
+/// let template = UriTemplateStr::new("{port}")?;
+/// let text = template.expand_dynamic_to_string::<UriSpec, Port>(rt.alloc(), &mut Port)?;
+/// assert_eq!(rt; text.as_str(), "8042");
+/// ```
 pub trait VisitValueNaive {
     /// The value, with the texts of what is shown.
     ghost naive_value: { Self → ShownValue };

@@ -30,6 +30,15 @@ pub struct SimpleContext {
 }
 
 /// Memory for a new name was refused. It hands back what was to be inserted.
+///
+/// ```
+/// use iri::template::simple_context::{InsertError, SimpleContext, Value};
+/// let mut values = SimpleContext::new(rt.alloc());
+/// match values.insert(String::from_str(rt.alloc(), "q")?, Value::Undefined) {
+///     Ok(old) => assert!(rt; old.is_none()),
+///     Err(InsertError { key, value: _ }) => assert_eq!(rt; key.as_str(), "q"),
+/// }
+/// ```
 #[derive(Debug, Drop)]
 pub struct InsertError {
     /// The name.

@@ -80,6 +80,17 @@ impl TextList {
 
 /// A list of pairs of texts, a key and a value each, which is seen as the list of their UTF-8 bytes. A key may stand
 /// in it more than once.
+///
+/// ```
+/// use iri::template::simple_context::PairList;
+/// let mut keys = PairList::new(rt.alloc());
+/// for (key, value) in [("semi", ";"), ("dot", ".")] {
+///     let (key, value) = (String::from_str(rt.alloc(), key)?, String::from_str(rt.alloc(), value)?);
+///     assert!(rt; keys.push(key, value).is_ok());
+/// }
+/// assert_eq!(rt; keys.len(), 2);
+/// assert_eq!(rt; keys.get(1), Some(("dot", ".")));
+/// ```
 #[derive(Debug, Drop)]
 pub struct PairList {
     pairs: Vec<(String, String)>,

@@ -10,6 +10,12 @@ use std::alloc::AllocError;
 
 /// The name of a variable (RFC 6570 section 2.3): letters, digits, `_`, percent-encoded octets and dots, of which no
 /// dot is the first. Names are equal and hashed as their texts.
+///
+/// ```
+/// use iri::template::context::VarName;
+/// assert_eq!(rt; VarName::new("caf%C3%A9.x_1")?.as_str(), "caf%C3%A9.x_1");
+/// assert!(rt; VarName::new("a-b").is_err());
+/// ```
 #[derive(Debug, PartialEq, Eq, Hash)]
 pub struct VarName<'a> {
     text: &'a str,

@@ -13,6 +13,31 @@ use crate::var_name::VarName;
 use iri_text::{Show, Stop};
 
 /// What a visit is for.
+///
+/// ```
+/// use iri::format::Stop;
+/// use iri::spec::UriSpec;
+/// use iri::template::UriTemplateStr;
+/// use iri::template::context::{DynamicContext, VisitPurpose, Visitor};
+/// #[derive(Drop)]
+/// struct Value;
+/// impl DynamicContext for Value {
+///     ghost tells = { λ _. None };
+///     ghost starts = { λ _. None };
+///     ghost ends = { λ _. None };
+///     fn visit_dynamic<V: Visitor>(&mut self, visitor: &mut V) -> Result<(), Stop> {
+///         match visitor.purpose() {
+///             VisitPurpose::Typecheck => visitor.visit_undefined(),
+///             VisitPurpose::Expand => visitor.visit_string(&"value"),
+///         }
+///     }
+///     fn on_expansion_start(&mut self) {}
+///     fn on_expansion_end(&mut self) {}
+/// }
+/// let template = UriTemplateStr::new("{var}")?;
+/// let text = template.expand_dynamic_to_string::<UriSpec, Value>(rt.alloc(), &mut Value)?;
+/// assert_eq!(rt; text.as_str(), "value");
+/// ```
 #[derive(Clone, Copy, Debug, PartialEq, Eq)]
 pub enum VisitPurpose {
     /// To learn whether the value is a list or an associative array that isn't empty.
@@ -39,6 +64,32 @@ pub enum Phase {
 /// What is told the value of a variable, by calls in order: `visit_undefined`, `visit_string`, or a list or an
 /// associative array with its members and its end. It needn't keep what it is told. Each call answers `Stop` only where
 /// the count of stops rose in it; then no other call may follow.
+///
+/// ```
+/// use iri::format::Stop;
+/// use iri::spec::UriSpec;
+/// use iri::template::UriTemplateStr;
+/// use iri::template::context::{DynamicContext, Visitor};
+/// #[derive(Drop)]
+/// struct Point;
+/// impl DynamicContext for Point {
+///     ghost tells = { λ _. None };
+///     ghost starts = { λ _. None };
+///     ghost ends = { λ _. None };
+///     fn visit_dynamic<V: Visitor>(&mut self, visitor: &mut V) -> Result<(), Stop> {
+///         match visitor.var_name().as_str() {
+///             "x" => visitor.visit_string(&"1024"),
+///             "y" => visitor.visit_string(&"768"),
+///             _ => visitor.visit_undefined(),
+///         }
+///     }
+///     fn on_expansion_start(&mut self) {}
+///     fn on_expansion_end(&mut self) {}
+/// }
+/// let template = UriTemplateStr::new("map?{x,y}")?;
+/// let text = template.expand_dynamic_to_string::<UriSpec, Point>(rt.alloc(), &mut Point)?;
+/// assert_eq!(rt; text.as_str(), "map?1024,768");
+/// ```
 pub trait Visitor {
     /// The name of the variable, as its UTF-8 bytes.
     ghost name: { Self → List ℕ };

@@ -62,6 +62,14 @@ pub use streams::reader::{LARGEST_LINE_LIMIT, LineFault, LineReader};
 pub use streams::write_sink::WriteSink;
 
 /// A source or a sink failed.
+///
+/// ```
+/// use iri::streams::{Failed, MemorySource, Source};
+/// let mut source = MemorySource::new(b"abc", &[3], &[1]);
+/// let mut buffer = [0; 4];
+/// assert!(rt; matches!(source.take(&mut buffer), Err(Failed)));
+/// assert!(rt; matches!(source.take(&mut buffer), Ok(3)));
+/// ```
 #[derive(Clone, Copy, Debug)]
 pub struct Failed;
 

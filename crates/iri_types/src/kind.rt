@@ -20,6 +20,17 @@ use iri_grammar::spec::Spec;
 use iri_grammar::validate;
 
 /// A kind of text: a production in each grammar.
+///
+/// ```
+/// use iri::spec::{IriSpec, Spec, UriSpec};
+/// use iri::types::View;
+/// use iri::types::kind::{Fragment, Kind};
+/// fn is_of<S: Spec, K: Kind>(text: &str) -> bool {
+///     View::<S, K>::new(text).is_ok()
+/// }
+/// assert!(rt; is_of::<IriSpec, Fragment>("é"));
+/// assert!(rt; !is_of::<UriSpec, Fragment>("é"));
+/// ```
 pub trait Kind {
     /// The first fault of a text; none where the text is in the production.
     ghost fault: { Tests → List ℕ → Option ErrorKind };
@@ -37,6 +48,17 @@ pub trait Kind {
 }
 
 /// A kind whose texts are references, and so have five parts.
+///
+/// ```
+/// use iri::spec::UriSpec;
+/// use iri::types::kind::WholeKind;
+/// use iri::types::{UriReferenceStr, UriStr, View};
+/// fn path_of<'a, K: WholeKind>(link: View<'a, UriSpec, K>) -> &'a str {
+///     link.path_str()
+/// }
+/// assert_eq!(rt; path_of(UriStr::new("urn:example:animal:ferret:nose")?), "example:animal:ferret:nose");
+/// assert_eq!(rt; path_of(UriReferenceStr::new("../g?y")?), "../g");
+/// ```
 pub trait WholeKind: Kind {
     /// Each text of the kind is a reference.
     ghost whole: { (s : Tests) → IsSpec s → (t : List ℕ) → Self.fault s t ≡ None → reference_fault s t ≡ None };
@@ -54,38 +76,108 @@ pub trait WholeKind: Kind {
 }
 
 /// A whole kind whose texts have a scheme.
+///
+/// ```
+/// use iri::spec::UriSpec;
+/// use iri::types::kind::SchemeKind;
+/// use iri::types::{UriAbsoluteStr, UriStr, View};
+/// fn scheme_of<'a, K: SchemeKind>(link: View<'a, UriSpec, K>) -> &'a str {
+///     link.scheme_str()
+/// }
+/// assert_eq!(rt; scheme_of(UriStr::new("urn:example:animal:ferret:nose")?), "urn");
+/// assert_eq!(rt; scheme_of(UriAbsoluteStr::new("http://a/b/c/d;p?q")?), "http");
+/// ```
 pub trait SchemeKind: WholeKind {
     /// Each text of the kind has a scheme.
     ghost has_scheme: { (s : Tests) → IsSpec s → (t : List ℕ) → Self.fault s t ≡ None → IsSome (split_of t).scheme };
 }
 
 /// A whole kind whose texts may have a fragment.
+///
+/// ```
+/// use iri::spec::UriSpec;
+/// use iri::types::kind::FragmentKind;
+/// use iri::types::{UriReferenceStr, UriStr, View};
+/// fn fragment_of<'a, K: FragmentKind>(link: View<'a, UriSpec, K>) -> Option<&'a str> {
+///     link.fragment_str()
+/// }
+/// assert_eq!(rt; fragment_of(UriStr::new("foo://example.com:8042/over/there?name=ferret#nose")?), Some("nose"));
+/// assert_eq!(rt; fragment_of(UriReferenceStr::new("g?y")?), None);
+/// ```
 pub trait FragmentKind: WholeKind {
     /// The kind allows a fragment wherever it allows none, and none wherever it allows one.
     ghost free_fragment: { (scheme fragment other : Bool) → Self.allows scheme fragment ≡ Self.allows scheme other };
 }
 
 /// `URI-reference` (RFC 3986 section 4.1).
+///
+/// ```
+/// use iri::spec::UriSpec;
+/// use iri::types::View;
+/// use iri::types::kind::Reference;
+/// assert!(rt; View::<UriSpec, Reference>::new("../g?y#s").is_ok());
+/// assert!(rt; View::<UriSpec, Reference>::new("../g?y##").is_err());
+/// ```
 #[derive(Clone, Copy)]
 pub enum Reference {}
 
 /// `URI` (section 3).
+///
+/// ```
+/// use iri::spec::UriSpec;
+/// use iri::types::View;
+/// use iri::types::kind::Iri;
+/// assert!(rt; View::<UriSpec, Iri>::new("urn:example:animal:ferret:nose").is_ok());
+/// assert!(rt; View::<UriSpec, Iri>::new("../g").is_err());
+/// ```
 #[derive(Clone, Copy)]
 pub enum Iri {}
 
 /// `absolute-URI` (section 4.3).
+///
+/// ```
+/// use iri::spec::UriSpec;
+/// use iri::types::View;
+/// use iri::types::kind::Absolute;
+/// assert!(rt; View::<UriSpec, Absolute>::new("http://a/b/c/d;p?q").is_ok());
+/// assert!(rt; View::<UriSpec, Absolute>::new("http://a/b#s").is_err());
+/// ```
 #[derive(Clone, Copy)]
 pub enum Absolute {}
 
 /// `relative-ref` (section 4.2).
+///
+/// ```
+/// use iri::spec::UriSpec;
+/// use iri::types::View;
+/// use iri::types::kind::Relative;
+/// assert!(rt; View::<UriSpec, Relative>::new("//g?y").is_ok());
+/// assert!(rt; View::<UriSpec, Relative>::new("g:h").is_err());
+/// ```
 #[derive(Clone, Copy)]
 pub enum Relative {}
 
 /// `query` (section 3.4).
+///
+/// ```
+/// use iri::spec::UriSpec;
+/// use iri::types::View;
+/// use iri::types::kind::Query;
+/// assert!(rt; View::<UriSpec, Query>::new("name=a/b?c").is_ok());
+/// assert!(rt; View::<UriSpec, Query>::new("#").is_err());
+/// ```
 #[derive(Clone, Copy)]
 pub enum Query {}
 
 /// `fragment` (section 3.5).
+///
+/// ```
+/// use iri::spec::UriSpec;
+/// use iri::types::View;
+/// use iri::types::kind::Fragment;
+/// assert!(rt; View::<UriSpec, Fragment>::new("s/../x?y").is_ok());
+/// assert!(rt; View::<UriSpec, Fragment>::new("#").is_err());
+/// ```
 #[derive(Clone, Copy)]
 pub enum Fragment {}
 

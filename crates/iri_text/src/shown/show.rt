@@ -3,10 +3,25 @@ ghost use Rattle.std.specs.Prelude.{ℕ, List, string_bytes};
 ghost use Rattle.iri_text.specs.Shown.{AreSinkLaws, Shows};
 
 /// A sink took no more.
+///
+/// ```
+/// use iri::format::{SliceSink, Stop, TextSink};
+/// let mut buffer = [0; 2];
+/// assert!(rt; matches!(SliceSink::new(&mut buffer).put("abc"), Err(Stop)));
+/// ```
 #[derive(Clone, Copy, Debug)]
 pub struct Stop;
 
 /// What takes text in pieces. It needn't keep what it took.
+///
+/// ```
+/// use iri::format::{SliceSink, TextSink};
+/// let mut buffer = [0; 16];
+/// let mut sink = SliceSink::new(&mut buffer);
+/// assert!(rt; sink.put("http:").is_ok());
+/// assert!(rt; sink.put("//a/b").is_ok());
+/// assert_eq!(rt; sink.as_str(), "http://a/b");
+/// ```
 pub trait TextSink {
     /// The text went in: the sink before, the text, the sink after.
     ghost puts: { Self → List ℕ → Self → Type 0 };

@@ -52,6 +52,14 @@ impl<'b> TextSink for SliceSink<'b> {
 }
 
 /// A text has more bytes than the slice that it was to be written to.
+///
+/// ```
+/// use iri::format::{CapacityOverflowError, write_to_slice};
+/// use iri::types::UriStr;
+/// let mut short = [0; 4];
+/// let written = write_to_slice(&mut short, &UriStr::new("urn:a")?);
+/// assert!(rt; matches!(written, Err(CapacityOverflowError)));
+/// ```
 #[derive(Clone, Copy, Debug)]
 pub struct CapacityOverflowError;
 

@@ -6,6 +6,14 @@ use std::io::{ErrorKind, Read};
 use std::marker::Model;
 
 /// A source that takes bytes from a reader of std.
+///
+/// ```
+/// use iri::streams::{ReadSource, Source};
+/// let mut source = ReadSource::new(b"abc".as_slice());
+/// let mut buffer = [0; 4];
+/// assert!(rt; matches!(source.take(&mut buffer), Ok(3)));
+/// assert_eq!(rt; &buffer[..3], b"abc".as_slice());
+/// ```
 #[derive(Debug, Drop)]
 pub struct ReadSource<R> {
     reader: R,

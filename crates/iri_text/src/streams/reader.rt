@@ -26,6 +26,14 @@ const BLOCK: usize = 65536;
 pub const LARGEST_LINE_LIMIT: usize = 1_048_576;
 
 /// Why there is no next line.
+///
+/// ```
+/// use iri::streams::{LineFault, LineReader, PlainSource};
+/// let mut lines = LineReader::new(rt.alloc(), 2, 1000)?;
+/// assert!(rt; matches!(lines.advance(&mut PlainSource::new(b"abc\n")), Err(LineFault::LineTooLong)));
+/// let mut lines = LineReader::new(rt.alloc(), 1000, 2)?;
+/// assert!(rt; matches!(lines.advance(&mut PlainSource::new(b"abc\n")), Err(LineFault::InputTooLong)));
+/// ```
 #[derive(Clone, Copy, Debug, PartialEq, Eq)]
 pub enum LineFault {
     /// The source failed. What it gave before is within both limits, and there is no LF in what is held.

@@ -6,6 +6,13 @@ use std::io::Write;
 use std::marker::Model;
 
 /// A sink that puts bytes into a writer of std, which may buffer them.
+///
+/// ```
+/// use iri::streams::{Sink, WriteSink};
+/// let mut sink = WriteSink::new(Vec::<u8>::new(rt.alloc()));
+/// assert!(rt; sink.put_all(b"ok http://a/b\n").is_ok());
+/// assert!(rt; sink.flush().is_ok());
+/// ```
 #[derive(Debug, Drop)]
 pub struct WriteSink<W> {
     writer: W,
