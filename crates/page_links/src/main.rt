@@ -5,13 +5,16 @@
 //! link is told with its first fault. The program stands on the library as any other program may.
 #![tactic(auto)]
 
+mod page;
+
+use crate::page::page_of;
 use iri::format::Text;
 use iri::prelude::*;
 use iri::resolve::FixedBaseResolver;
 use iri::spec::UriSpec;
 use iri::template::simple_context::{SimpleContext, Value};
 use iri::template::{Error as TemplateFault, UriTemplateStr};
-use iri::types::{UriAbsoluteStr, UriReferenceStr, UriString};
+use iri::types::{UriReferenceStr, UriString};
 use iri::validate::Error as LinkFault;
 use std::alloc::{AllocError, Global};
 use std::collections::BTreeSet;
@@ -75,7 +78,7 @@ fn main(rt: HostRuntime) -> Result<(), Stopped> {
         Some(line) => line?,
         None => Vec::new(rt.alloc()),
     };
-    let page = match UriAbsoluteStr::try_from_bytes(&address) {
+    let page = match page_of(&address) {
         Ok(page) => FixedBaseResolver::new(page),
         Err(fault) => return Err(Stopped::Address(fault)),
     };
