@@ -2,6 +2,7 @@ pub mod CharBoundaries
 pub mod CutLaws
 pub mod DotPlaces
 pub mod FirstBytes
+pub mod FirstColons
 pub mod PartEnds
 pub mod SplitLaws
 pub mod SplitUnique

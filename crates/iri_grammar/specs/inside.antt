@@ -1,5 +1,5 @@
 -- What private contracts cite, and laws that an `impl` cites.
-pub mod AuthorityCuts
+pub mod CutNotes
 pub mod Halves
 pub mod Ipv6Counts
 pub mod LastColon

@@ -1,5 +1,4 @@
 //! What the scan of a reference notes on its way.
-ghost use Rattle.std.specs.Prelude.{◌≡◌, true};
 
 /// The notes of a scan. A note that is false promises what it says of the parts; one that is true promises nothing.
 ///
@@ -25,27 +24,4 @@ pub struct Seen {
     /// The authority may be other than a registered name in ASCII without percent-encoded octets, with a port that isn't
     /// empty or without one.
     pub other_authority: bool,
-}
-
-impl Seen {
-    // The notes that promise nothing.
-    pub(crate) fn nothing_promised() -> Seen
-        ensures { result ≡ record {
-          path_triplets = true;
-          query_triplets = true;
-          fragment_triplets = true;
-          dots = true;
-          capitals = true;
-          other_authority = true;
-        } }
-    {
-        Seen {
-            path_triplets: true,
-            query_triplets: true,
-            fragment_triplets: true,
-            dots: true,
-            capitals: true,
-            other_authority: true,
-        }
-    }
 }

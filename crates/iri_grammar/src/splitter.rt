@@ -1,20 +1,20 @@
 //! The split of a reference into its five parts (RFC 3986 section 3).
-ghost use Rattle.std.specs.Prelude.{◌≡◌, ◌∷◌, None, Some, IfOk, MatchOption, false, length, true};
+ghost use Rattle.std.specs.Prelude.{◌≡◌, ◌≤◌, ◌∷◌, None, Some, IfOk, MatchOption, false, length, not, take};
 ghost use Rattle.std.specs.List.{list_all};
 ghost use Rattle.std.specs.Str.{is_utf8};
-ghost use Rattle.iri_grammar.specs.Characters.{slash};
-ghost use Rattle.iri_grammar.specs.Components.{if_there, is_scheme, is_scheme_char};
+ghost use Rattle.iri_grammar.specs.Characters.{colon, slash};
+ghost use Rattle.iri_grammar.specs.Components.{is_scheme, is_scheme_char};
 ghost use Rattle.iri_grammar.specs.Fault.{Answers, bytes_fault};
-ghost use Rattle.iri_grammar.specs.Cut.{before_any, from_any};
-ghost use Rattle.iri_grammar.specs.inside.Delimiters.{ends_scheme, SchemeAt, NoScheme, ends_authority, EndsAuthority};
-ghost use Rattle.iri_grammar.specs.inside.Delimiters.{IsPastAuthority, ends_at_start};
-ghost use Rattle.iri_grammar.specs.inside.Scans.{fault_after, stop_fault};
-ghost use Rattle.iri_grammar.specs.inside.AuthorityCuts.{KeepsAuthorityNotes};
+ghost use Rattle.iri_grammar.specs.Cut.{before_any, from_any, lacks};
+ghost use Rattle.iri_grammar.specs.inside.Delimiters.{scheme_kind, ends_scheme, SchemeAt, NoScheme, ends_authority};
+ghost use Rattle.iri_grammar.specs.inside.Delimiters.{EndsAuthority, IsPastAuthority, ends_at_start};
+ghost use Rattle.iri_grammar.specs.inside.Scans.{fault_after};
+ghost use Rattle.iri_grammar.specs.inside.CutNotes.{KeepsAuthorityNotes, KeepsSchemeNotes};
 ghost use Rattle.iri_grammar.specs.Parts.{Splits, starts_with_slashes};
 ghost use Rattle.iri_grammar.specs.Runs.{run_of};
 ghost use Rattle.iri_grammar.specs.Split.{split_of, relative_split_of, parts_of, scheme_of, after_scheme, authority_of};
 ghost use Rattle.iri_grammar.specs.Split.{hier_of};
-ghost use Rattle.iri_grammar.specs.Seen.{Promises, is_plain_authority, is_small};
+ghost use Rattle.iri_grammar.specs.Seen.{Promises, is_small};
 ghost use Rattle.std.proofs.Props.{props};
 ghost use Rattle.iri_grammar.specs.OptionalSlices.{now_of};
 ghost use Rattle.iri_grammar.specs.WholeFault.{absolute_fault, reference_fault, relative_fault};
@@ -25,7 +25,7 @@ use crate::error::{Error, ErrorKind};
 use crate::seen::Seen;
 use crate::spec::Spec;
 use crate::tail::Tail;
-use crate::validate::{fault_at, judge_scanned, scheme_in_place, without_fragment};
+use crate::validate::{authority_and_colon, scheme_in_place, stopped, without_fragment};
 use memchr::memchr3;
 use std::alloc::AllocError;
 use std::str;
@@ -70,40 +70,54 @@ impl Clone for Splitter<'_> {
 
 impl Copy for Splitter<'_> {}
 
-// For each byte an `s` where it may be in a scheme: letters, digits, `+`, `-` and `.`.
+// For each byte `1` where it is a capital letter, `0` where it is another that may be in a scheme, and otherwise `.`.
 static SCHEME_BYTES: [u8; 256] = *b"\
     ................................\
-    ...........s.ss.ssssssssss......\
-    .ssssssssssssssssssssssssss.....\
-    .ssssssssssssssssssssssssss.....\
+    ...........0.00.0000000000......\
+    .11111111111111111111111111.....\
+    .00000000000000000000000000.....\
     ................................\
     ................................\
     ................................\
     ................................";
 
-fn is_scheme_byte(b: u8) -> bool
-    ensures { result ≡ is_scheme_char b }
+// What the table says of a byte.
+#[inline(always)]
+fn scheme_kind(b: u8) -> u8
+    ensures { result ≡ scheme_kind b }
 {
-    SCHEME_BYTES[usize::from(b)] == b's'
+    SCHEME_BYTES[usize::from(b)]
 }
 
-// How many bytes at the start may be in a scheme.
-fn scheme_run(bytes: &[u8]) -> usize
-    ensures { result ≡ run_of is_scheme_char bytes.now }
+// How many bytes at the start may be in a scheme, and whether a capital letter is among them.
+#[derive(Clone, Copy)]
+struct SchemeRun {
+    len: usize,
+    capitals: bool,
+}
+
+// The bytes at the start that may be in a scheme.
+#[inline(always)]
+fn scheme_run(bytes: &[u8]) -> SchemeRun
+    ensures len { result.len ≡ run_of is_scheme_char bytes.now }
+    ensures within { result.len ≤ length bytes.now }
+    ensures capitals { result.capitals ≡ not (list_all is_small (take result.len bytes.now)) }
 {
+    let mut seen = b'0';
     for (i, b) in bytes.iter().enumerate() {
-        if !is_scheme_byte(*b) {
-            return i;
+        let kind = scheme_kind(*b);
+        if kind == b'.' {
+            return SchemeRun {
+                len: i,
+                capitals: seen == b'1',
+            };
         }
+        seen |= kind;
     }
-    bytes.len()
-}
-
-// Whether no byte is a capital letter.
-fn are_small(bytes: &[u8]) -> bool
-    ensures { result ≡ list_all is_small bytes.now }
-{
-    bytes.iter().all(|b| !b.is_ascii_uppercase())
+    SchemeRun {
+        len: bytes.len(),
+        capitals: seen == b'1',
+    }
 }
 
 // Whether each byte may be in a scheme.
@@ -111,7 +125,7 @@ fn are_small(bytes: &[u8]) -> bool
 fn all_scheme_bytes(bytes: &[u8]) -> bool
     ensures { result ≡ list_all is_scheme_char bytes.now }
 {
-    scheme_run(bytes) == bytes.len()
+    scheme_run(bytes).len == bytes.len()
 }
 
 // Whether the text is a scheme.
@@ -133,31 +147,81 @@ fn ends_scheme(bytes: &[u8], end: usize) -> bool
     end < bytes.len() && bytes[end] == b':' && bytes[0].is_ascii_alphabetic()
 }
 
-// Where the colon after the scheme is.
+// Where the colon after the scheme is; the run of bytes that may be in one ends there.
 #[tactic(auto, using(crate::proofs::splits::PartEnds::scheme_at, crate::proofs::splits::PartEnds::no_scheme))]
-fn scheme_end(bytes: &[u8]) -> Option<usize>
+fn scheme_end(bytes: &[u8], run: usize) -> Option<usize>
+    requires { run ≡ run_of is_scheme_char bytes.now }
     ensures { MatchOption result (NoScheme bytes.now) (λ k. SchemeAt bytes.now k) }
 {
-    let end = scheme_run(bytes);
-    if ends_scheme(bytes, end) {
-        Some(end)
+    if ends_scheme(bytes, run) {
+        Some(run)
     } else {
         None
     }
 }
 
-// The scheme, and what follows it and its colon, or all.
-fn cut_scheme(s: &[u8]) -> (Option<&str>, &[u8])
-    ensures scheme { now_of result.0 ≡ scheme_of s.now }
-    ensures rest { result.1.now ≡ after_scheme s.now }
-    ensures text { is_utf8 s.now ≡ is_utf8 result.1.now }
+// Whether the byte ends an authority.
+#[inline(always)]
+fn ends_authority(b: u8) -> bool
+    ensures { result ≡ ends_authority b }
 {
-    match scheme_end(s) {
+    b == b'/' || b == b'?' || b == b'#'
+}
+
+// Whether no colon comes before the first `/`, `?` or `#`.
+#[inline(always)]
+fn lacks_first_colon(s: &[u8]) -> bool
+    ensures { result ≡ lacks colon (before_any ends_authority s.now) }
+{
+    let mut rest = s;
+    'prefix: while let [b, next @ ..] = rest {
+        if ends_authority(*b) {
+            return true;
+        }
+        if *b == b':' {
+            return false;
+        }
+        rest = next;
+    }
+    true
+}
+
+// The scheme, where there is one, and what follows it and its colon, or all.
+#[derive(Clone, Copy)]
+struct SchemeCut<'a> {
+    scheme: Option<&'a str>,
+    rest: &'a [u8],
+    // The scheme may have a capital letter.
+    capitals: bool,
+    // No colon stands in a first segment that may have none.
+    colon_allowed: bool,
+}
+
+// Bytes cut after the scheme and its colon.
+#[inline(always)]
+fn cut_scheme(s: &[u8]) -> SchemeCut<'_>
+    ensures scheme { now_of result.scheme ≡ scheme_of s.now }
+    ensures rest { result.rest.now ≡ after_scheme s.now }
+    ensures text { is_utf8 s.now ≡ is_utf8 result.rest.now }
+    ensures notes { KeepsSchemeNotes result }
+{
+    let run = scheme_run(s);
+    match scheme_end(s, run.len) {
         Some(i) => {
             let scheme = unsafe { str::from_utf8_unchecked(&s[..i]) };
-            (Some(scheme), &s[i + 1..])
+            SchemeCut {
+                scheme: Some(scheme),
+                rest: &s[i + 1..],
+                capitals: run.capitals,
+                colon_allowed: true,
+            }
         }
-        None => (None, s),
+        None => SchemeCut {
+            scheme: None,
+            rest: s,
+            capitals: false,
+            colon_allowed: lacks_first_colon(&s[run.len..]),
+        },
     }
 }
 
@@ -175,7 +239,7 @@ fn ends_at_start(bytes: &[u8]) -> bool
     ensures { result ≡ ends_at_start bytes.now }
 {
     match bytes {
-        [b, ..] => *b == b'/' || *b == b'?' || *b == b'#',
+        [b, ..] => ends_authority(*b),
         [] => true,
     }
 }
@@ -266,16 +330,6 @@ fn cut_authority(s: &[u8]) -> Option<AuthorityCut<'_>>
     }
 }
 
-// Whether no letter of the scheme, where there is one, is a capital.
-fn lacks_capitals(scheme: Option<&str>) -> bool
-    ensures { result ≡ if_there (list_all is_small) (now_of scheme.entry) }
-{
-    match scheme {
-        Some(scheme) => are_small(scheme.as_bytes()),
-        None => true,
-    }
-}
-
 impl<'a> Splitter<'a> {
     ghost use Rattle.iri_grammar.specs.Splitters.{parts};
 
@@ -305,8 +359,7 @@ impl<'a> Splitter<'a> {
         ensures fault { Answers result (bytes_fault (reference_fault S.tests) bytes.now) }
         ensures value { IfOk result (λ p. parts p ≡ split_of bytes.now) }
     {
-        let (scheme, rest) = cut_scheme(bytes);
-        Splitter::after::<S>(scheme, rest)
+        Splitter::after::<S>(cut_scheme(bytes))
     }
 
     /// The split of a text that is an absolute URI of `S`: the same as `validate::absolute_iri` and `of`, in one scan of
@@ -331,7 +384,13 @@ impl<'a> Splitter<'a> {
         ensures fault { Answers result (relative_fault S.tests text.now) }
         ensures value { IfOk result (λ p. parts p ≡ relative_split_of text.now) }
     {
-        Splitter::after::<S>(None, text.as_bytes())
+        let bytes = text.as_bytes();
+        Splitter::after::<S>(SchemeCut {
+            scheme: None,
+            rest: bytes,
+            capitals: false,
+            colon_allowed: lacks_first_colon(bytes),
+        })
     }
 
     /// The split of a reference of `S`. It has a condition: the text is one, which `validate::iri_reference` tests.
@@ -348,74 +407,39 @@ impl<'a> Splitter<'a> {
 
     // A scheme, and the parts of what follows it.
     #[inline(always)]
-    fn after<S: Spec>(scheme: Option<&'a str>, bytes: &'a [u8]) -> Result<Splitter<'a>, Error>
-        ensures fault { Answers result (bytes_fault (fault_after S.tests (now_of scheme.entry)) bytes.now) }
-        ensures value { IfOk result (λ p. parts p ≡ parts_of (now_of scheme.entry) bytes.now) }
+    fn after<S: Spec>(start: SchemeCut<'a>) -> Result<Splitter<'a>, Error>
+        requires { KeepsSchemeNotes start }
+        ensures fault { Answers result
+            (bytes_fault (fault_after S.tests (now_of start.entry.scheme)) start.entry.rest.now) }
+        ensures value { IfOk result (λ p. parts p ≡ parts_of (now_of start.entry.scheme) start.entry.rest.now) }
     {
-        let cut = match cut_authority(bytes) {
+        let cut = match cut_authority(start.rest) {
             Some(cut) => cut,
             None => return Err(Error::new(ErrorKind::InvalidUtf8)),
         };
         let tail = Tail::scan::<S>(cut.rest);
+        let judged = authority_and_colon::<S>(cut.authority, cut.other, start.colon_allowed);
         if !tail.rest.is_empty() {
-            // The call gets the parts one by one: so they can stay in registers.
-            return Err(Splitter::stopped::<S>(
-                scheme,
-                cut.authority,
-                tail.path,
-                tail.query,
-                tail.fragment,
-                tail.rest,
-            ));
+            return Err(stopped(tail.rest, judged, tail.part_left()));
         }
-        let parts = Splitter {
-            scheme,
-            authority: cut.authority,
-            path: tail.path,
-            query: tail.query,
-            fragment: tail.fragment,
-            seen: Seen {
-                path_triplets: tail.path_triplets,
-                query_triplets: tail.query_triplets,
-                fragment_triplets: tail.fragment_triplets,
-                dots: may_have_dots(tail.path.as_bytes()),
-                capitals: !lacks_capitals(scheme) || cut.capitals,
-                other_authority: cut.other,
-            },
-        };
-        match judge_scanned::<S>(&parts) {
-            Ok(()) => Ok(parts),
+        match judged {
+            Ok(()) => Ok(Splitter {
+                scheme: start.scheme,
+                authority: cut.authority,
+                path: tail.path,
+                query: tail.query,
+                fragment: tail.fragment,
+                seen: Seen {
+                    path_triplets: tail.path_triplets,
+                    query_triplets: tail.query_triplets,
+                    fragment_triplets: tail.fragment_triplets,
+                    dots: may_have_dots(tail.path.as_bytes()),
+                    capitals: start.capitals | cut.capitals,
+                    other_authority: cut.other,
+                },
+            }),
             Err(error) => Err(error),
         }
-    }
-
-    // The first fault where a scan left something over.
-    #[inline(never)]
-    fn stopped<S: Spec>(
-        scheme: Option<&'a str>,
-        authority: Option<&'a str>,
-        path: &'a str,
-        query: Option<&'a str>,
-        fragment: Option<&'a str>,
-        rest: &[u8],
-    ) -> Error
-        ensures { Some result.kind ≡ bytes_fault (λ _. stop_fault S.tests (record {
-          scheme = now_of scheme.entry;
-          authority = now_of authority.entry;
-          path = path.now;
-          query = now_of query.entry;
-          fragment = now_of fragment.entry;
-        })) rest.now }
-    {
-        let parts = Splitter {
-            scheme,
-            authority,
-            path,
-            query,
-            fragment,
-            seen: Seen::nothing_promised(),
-        };
-        fault_at::<S>(&parts, rest)
     }
 
     /// What the scan noted.

@@ -7,9 +7,11 @@ ghost use Rattle.iri_grammar.specs.Components.{if_there};
 ghost use Rattle.iri_grammar.specs.Cut.{begins, lacks, delimited};
 ghost use Rattle.iri_grammar.specs.OptionalSlices.{now_of};
 ghost use Rattle.iri_grammar.specs.Over.{text_over};
+ghost use Rattle.iri_grammar.specs.inside.Scans.{part_left};
 ghost use Rattle.iri_grammar.specs.inside.Tails.{PartStops, ScansTail, KeepsNotes};
 
 use crate::class::Class;
+use crate::error::ErrorKind;
 use crate::spec::Spec;
 use crate::unit::cut_units;
 
@@ -88,6 +90,19 @@ impl<'a> Tail<'a> {
             path_triplets: !path.bare,
             query_triplets: !query.bare,
             fragment_triplets: !fragment.bare,
+        }
+    }
+
+    // The part that a scan was in when it stopped.
+    pub(crate) fn part_left(&self) -> ErrorKind
+        ensures { result ≡ part_left (now_of self.now.query) (now_of self.now.fragment) }
+    {
+        if self.fragment.is_some() {
+            ErrorKind::InvalidFragment
+        } else if self.query.is_some() {
+            ErrorKind::InvalidQuery
+        } else {
+            ErrorKind::InvalidPath
         }
     }
 }

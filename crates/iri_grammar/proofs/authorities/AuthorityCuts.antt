@@ -2,7 +2,7 @@
 use Rattle.iri_grammar.proofs.Common.{◌≡◌, ℕ, [], ◌∷◌, ◌∙◌, List, Option, Some, None, MatchOption, false, ap, arith, subst, sym, is_utf8}
 use Rattle.iri_grammar.proofs.Common.{before_any, from_any, now_of, authority_of, hier_of, ends_authority, IsPastAuthority}
 use Rattle.iri_grammar.specs.declared.splitter.AuthorityCut.{AuthorityCut}
-use Rattle.iri_grammar.specs.inside.AuthorityCuts.{KeepsAuthorityNotes}
+use Rattle.iri_grammar.specs.inside.CutNotes.{KeepsAuthorityNotes}
 use Rattle.iri_grammar.proofs.splits.PartEnds.{past_authority}
 use Rattle.iri_grammar.proofs.authorities.AuthorityTexts.{delimited-utf8, one_byte-utf8}
 use Rattle.iri_grammar.proofs.splits.TextParts.{text-after}

@@ -60,11 +60,6 @@ pub plain_name : (s : Tests) → IsSpec s → (a : List ℕ) → list_all (ascii
 plain_name s l a h = authority-no_fault s a (passes s l a (record { userinfo = None; host = a; port = None })
     (record { userinfo = refl; host = rw (plain-over s l RegName a h) (or-true (is_ip_literal a)); port = refl }, name-text a))
 
--- beside an authority without a fault, only a colon out of its place is left to be one
-pub colon-fault : (s : Tests) (p : Parts) → part_fault (authority_fault s) p.authority ≡ None → AreOver s p.path p.query p.fragment
-    → unless (colon_allowed p) InvalidPath ≡ parts_fault s (fragment_fault s) p
-colon-fault s p n h = ap (λ o. first o (unless (colon_allowed p) InvalidPath)) (sym n) ∙ over-fault s p h
-
 -- what ends a name and a port: none of their characters
 name-goes_on : (x : ℕ) → ascii_test Userinfo x ≡ true → ends_authority x ≡ false
 unfolding is_ascii_userinfo is_ascii_reg_name is_ascii_unreserved is_sub_delim

@@ -7,11 +7,12 @@ use Rattle.iri_grammar.proofs.Common.{query_fault, unless, now_of, text_over, Pa
 use Rattle.iri_grammar.proofs.Common.{parts_of, scheme_of, split_of, colon_allowed, fault_before_fragment, parts_fault, reference_fault}
 use Rattle.iri_grammar.proofs.Common.{ErrorKind, InvalidFragment, InvalidPath, InvalidQuery, InvalidUtf8, IsPastAuthority, HasNoUnit}
 use Rattle.iri_grammar.specs.declared.tail.Tail.{Tail}
-use Rattle.iri_grammar.specs.inside.Scans.{fault_after, stop_fault, Scans}
+use Rattle.iri_grammar.specs.inside.Scans.{fault_after, judged_fault, part_left, Scans}
 use Rattle.iri_grammar.specs.inside.Tails.{AreOver, ScansTail, TailStops}
 use Rattle.iri_grammar.proofs.authorities.AuthorityTexts.{nothing-utf8, over_text-lacks}
 use Rattle.iri_grammar.proofs.splits.CutLaws.{after-delimited, before-delimited, by_test, joined, lacks-append}
 use Rattle.iri_grammar.proofs.faults.FaultLaws.{part-no_fault}
+use Rattle.iri_grammar.proofs.faults.PlainTails.{over-fault}
 use Rattle.iri_grammar.proofs.splits.SplitLaws.{delimited-lacks}
 use Rattle.iri_grammar.proofs.splits.SplitUnique.{path_apart, queries-lack}
 use Rattle.iri_grammar.proofs.splits.TextParts.{tail-text}
@@ -88,7 +89,8 @@ path-lacks s k x h =
 
 tail-fault : (s : Tests) → IsSpec s → (sch a : Option (List ℕ)) (t x : List ℕ) (q f : Option (List ℕ)) (r : List ℕ)
     → t ≡ x ++ (delimited 63 q ++ (delimited 35 f ++ r)) → AreOver s x q f → TailStops s q f r → is_empty r ≡ false
-    → parts_fault s (fragment_fault s) (tail (hier_of t) sch a (after 63 (before 35 t)) (after 35 t)) ≡ stop_fault s (tail x sch a q f)
+    → parts_fault s (fragment_fault s) (tail (hier_of t) sch a (after 63 (before 35 t)) (after 35 t))
+    ≡ first (judged_fault s (tail (hier_of t) sch a (after 63 (before 35 t)) (after 35 t))) (Some (part_left q f))
 unfolding parts_fault fault_before_fragment
 tail-fault s k sch a t x q (Some f) r e h stops some =
     let lacking = path-lacks s k x h.0 in
@@ -115,7 +117,7 @@ tail-fault s k sch a t x None None r e h stops some =
     (subst (HasNoUnit (path_char s)) (sym (hier-joined r)) stops.path) in
     rw (path, fails)
     (at_path (part_fault (authority_fault s) a) (part_fault (query_fault s) (after 63 (before 35 t))) (part_fault (fragment_fault s) (after 35 t))
-    (colon_allowed (tail x sch a None None)))
+    (colon_allowed (tail (x ++ hier_of r) sch a None None)))
 
 -- ---- the whole
 past : (sch : Option (List ℕ)) (t r : List ℕ) (a : Option (List ℕ)) → a ≡ authority_of (hier_of t) → IsPastAuthority t r
@@ -142,20 +144,28 @@ scanned s k sch t a r p authority rest same scan =
           sym (whole ∙ rw (is.path, is.query, is.fragment) refl);
       fault = λ u some.
           ap (parts_fault s (fragment_fault s)) whole ∙ tail-fault s k sch a r x q f p.rest.now scan.whole h
-          (scan.stops (IsUtf8-from_is_utf8 r (sym same ∙ u))) some;
+          (scan.stops (IsUtf8-from_is_utf8 r (sym same ∙ u))) some
+          ∙ ap (λ l. first (judged_fault s l) (Some (part_left q f))) (sym whole);
     }
 
 -- ---- the fault of bytes
+pub judged : (s : Tests) (sch : Option (List ℕ)) (t : List ℕ) (a : Option (List ℕ)) (allowed : Bool) → a ≡ authority_of (hier_of t)
+    → allowed ≡ colon_allowed (parts_of sch t) → first (part_fault (authority_fault s) a) (unless allowed InvalidPath) ≡ judged_fault s (parts_of sch t)
+judged s sch t a allowed e h = ap (λ o. first (part_fault (authority_fault s) o) (unless allowed InvalidPath)) e
+    ∙ ap (λ b. first (part_fault (authority_fault s) (authority_of (hier_of t))) (unless b InvalidPath)) h
+
 pub whole-fault : (s : Tests) (sch : Option (List ℕ)) (t : List ℕ) (p : Parts) (r : List ℕ) → Scans s sch t p r → (length r == 0) ≡ true
-    → bytes_fault (fault_after s sch) t ≡ parts_fault s (fragment_fault s) p
-whole-fault s sch t p [] h none = rw (h.text, is_utf8-from_IsUtf8 [] nothing-utf8) (ap (parts_fault s (fragment_fault s)) (sym (h.whole refl)))
+    → bytes_fault (fault_after s sch) t ≡ judged_fault s (parts_of sch t)
+whole-fault s sch t p [] h none =
+    rw (h.text, is_utf8-from_IsUtf8 [] nothing-utf8) (subst (λ q. parts_fault s (fragment_fault s) q ≡ judged_fault s q) (h.whole refl) (sym (over-fault s p h.over)))
 whole-fault s sch t p (x ∷ r) h none = absurd (omega (arith, eqb-true (length (x ∷ r)) 0 none))
 
 pub left-fault : (s : Tests) (sch : Option (List ℕ)) (t : List ℕ) (p : Parts) (r : List ℕ) → Scans s sch t p r → (length r == 0) ≡ false
-    → bytes_fault (fault_after s sch) t ≡ bytes_fault (λ _. stop_fault s p) r
+    → bytes_fault (fault_after s sch) t ≡ bytes_fault (λ _. first (judged_fault s (parts_of sch t)) (Some (part_left p.query p.fragment))) r
 left-fault s sch t p [] h some = cc
 left-fault s sch t p (x ∷ r) h some =
-    elim (is_utf8 t) as (λ b. is_utf8 t ≡ b → cond b (fault_after s sch t) (Some InvalidUtf8) ≡ cond (is_utf8 (x ∷ r)) (stop_fault s p) (Some InvalidUtf8)) [
+    elim (is_utf8 t) as (λ b. is_utf8 t ≡ b → cond b (fault_after s sch t) (Some InvalidUtf8)
+    ≡ cond (is_utf8 (x ∷ r)) (first (judged_fault s (parts_of sch t)) (Some (part_left p.query p.fragment))) (Some InvalidUtf8)) [
       | true ↦ λ u. rw (sym h.text ∙ u) (h.fault u refl)
       | false ↦ λ u. rw (sym h.text ∙ u) refl
     ] refl

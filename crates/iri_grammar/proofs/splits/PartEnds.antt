@@ -91,6 +91,7 @@ scheme_at bs h =
     let r = ran is_scheme_char 58 bs colon_ends inside byte in
     let sch = starts_scheme bs t.2 r.all in
     record {
+      end = refl;
       inside = inside;
       byte = byte;
       scheme = rw (sch, ← r.tail, r.prefix) refl;
@@ -175,7 +176,7 @@ record AtDelimiters (xs : List ℕ) : Type 0 where
   fragment : after 35 (from_any ends_authority xs) ≡ after 35 xs
 
 -- a character is one of the three, or none
-by_delimiter : (P : ℕ → Type 0) (x : ℕ) → P 47 → P 63 → P 35 → ((x == 47) ≡ false → (x == 63) ≡ false → (x == 35) ≡ false → P x) → P x
+pub by_delimiter : (P : ℕ → Type 0) (x : ℕ) → P 47 → P 63 → P 35 → ((x == 47) ≡ false → (x == 63) ≡ false → (x == 35) ≡ false → P x) → P x
 by_delimiter P x slash question number none =
     elim (cases_eq x 47) [
       | inl e ↦ subst P (sym e) slash
@@ -214,7 +215,7 @@ slashes_or_delimiter x xs =
     by_delimiter (λ n. starts_with_slashes (hier_of (n ∷ xs)) ≡ (n == 47 && starts_with_slash (hier_of xs))) x refl refl refl
     (λ _ b c. rw (c, b) refl)
 
-slashes-hier : (bs : List ℕ) → starts_with_slashes (hier_of bs) ≡ starts_with_slashes bs
+pub slashes-hier : (bs : List ℕ) → starts_with_slashes (hier_of bs) ≡ starts_with_slashes bs
 slashes-hier [] = refl
 slashes-hier (x ∷ []) = slashes_or_delimiter x []
 slashes-hier (x ∷ y ∷ xs) = slashes_or_delimiter x (y ∷ xs) ∙ ap (λ b. x == 47 && b) (slash_or_delimiter y xs)

@@ -60,7 +60,7 @@ pub colon_ends : is_scheme_char 58 ≡ false
 unfolding is_scheme_char
 colon_ends = refl
 
-slash_ends : is_scheme_char 47 ≡ false
+pub slash_ends : is_scheme_char 47 ≡ false
 unfolding is_scheme_char
 slash_ends = refl
 

@@ -1,18 +1,26 @@
 -- Where the parts of a reference end, as the splitter finds them.
-use Rattle.std.specs.Prelude.{◌≡◌, ℕ, ◌+◌, ◌<◌, ◌≤◌, Bool, true, ◌&&◌, ◌||◌, ◌==◌, nat_lt, List, [], ◌∷◌, Some, None, length, take, drop}
-use Rattle.std.specs.Prelude.{slice_index}
+use Rattle.std.specs.Prelude.{◌≡◌, ℕ, ◌+◌, ◌<◌, ◌≤◌, Bool, true, cond, ◌&&◌, ◌||◌, ◌==◌, nat_lt, List, [], ◌∷◌, Some, None, length}
+use Rattle.std.specs.Prelude.{take, drop, slice_index}
 use Rattle.std.specs.Char.{is_ascii_alphabetic}
 use Rattle.std.specs.Str.{IsUtf8}
+use Rattle.iri_grammar.specs.Components.{is_scheme_char}
 use Rattle.iri_grammar.specs.Cut.{before, after, before_any, from_any}
+use Rattle.iri_grammar.specs.Runs.{run_of}
+use Rattle.iri_grammar.specs.Seen.{is_small}
 use Rattle.iri_grammar.specs.Split.{scheme_of, after_scheme, path_of, hier_of}
 
 -- ---- the scheme
+-- what is told of a byte: `.` where it may not be in a scheme, `1` of a capital letter, `0` of another
+abbrev pub scheme_kind : ℕ → ℕ
+scheme_kind b = cond (is_scheme_char b) (cond (is_small b) 48 49) 46
+
 -- at k stands a colon, and the text begins with a letter
 unfoldable pub ends_scheme : List ℕ → ℕ → Bool
 ends_scheme bs k = nat_lt k (length bs) && slice_index bs k == 58 && is_ascii_alphabetic (slice_index bs 0)
 
--- the colon after the scheme stands at k
+-- the colon after the scheme stands at k, where the bytes that may be in one end
 pub record SchemeAt (bs : List ℕ) (k : ℕ) : Type 0 where
+  pub end : k ≡ run_of is_scheme_char bs
   pub inside : k < length bs
   pub byte : slice_index bs k ≡ 58
   pub scheme : Some (take k bs) ≡ scheme_of bs

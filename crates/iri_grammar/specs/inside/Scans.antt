@@ -18,17 +18,17 @@ fault_after s sch t = parts_fault s (fragment_fault s) (parts_of sch t)
 abbrev pub part_left : Option (List ℕ) → Option (List ℕ) → ErrorKind
 part_left query fragment = cond (is_some fragment) InvalidFragment (cond (is_some query) InvalidQuery InvalidPath)
 
--- the first fault where that part is one
-abbrev pub stop_fault : Tests → Parts → Option ErrorKind
-stop_fault s p =
-    first (first (part_fault (authority_fault s) p.authority) (unless (colon_allowed p) InvalidPath)) (Some (part_left p.query p.fragment))
+-- the first fault of authority, and of a colon in the first segment
+abbrev pub judged_fault : Tests → Parts → Option ErrorKind
+judged_fault s p = first (part_fault (authority_fault s) p.authority) (unless (colon_allowed p) InvalidPath)
 
 -- the parts p are the start of a text t after a scheme, r is left over
 pub record Scans (s : Tests) (sch : Option (List ℕ)) (t : List ℕ) (p : Parts) (r : List ℕ) : Type 0 where
   pub text : is_utf8 t ≡ is_utf8 r
   pub over : AreOver s p.path p.query p.fragment
   pub whole : r ≡ [] → p ≡ parts_of sch t
-  pub fault : is_utf8 t ≡ true → is_empty r ≡ false → fault_after s sch t ≡ stop_fault s p
+  pub fault : is_utf8 t ≡ true → is_empty r ≡ false
+      → fault_after s sch t ≡ first (judged_fault s (parts_of sch t)) (Some (part_left p.query p.fragment))
 
 -- the fault where no fragment may stand
 abbrev pub absolute_kind : ErrorKind → ErrorKind

@@ -1,17 +1,17 @@
 // The validators of whole texts (RFC 3986 section 4).
-ghost use Rattle.std.specs.Prelude.{◌≡◌, IfOk, Ok, Some};
-ghost use Rattle.iri_grammar.specs.Characters.{colon, slash};
+ghost use Rattle.std.specs.Prelude.{◌≡◌, IfOk, Ok, Option, Some, false, true};
 ghost use Rattle.iri_grammar.specs.Classes.{Tests};
-ghost use Rattle.iri_grammar.specs.Cut.{before, lacks};
+ghost use Rattle.iri_grammar.specs.Components.{if_there};
 ghost use Rattle.iri_grammar.specs.Fault.{Answers, unless, authority_fault, bytes_fault, first, fragment_fault, part_fault};
+ghost use Rattle.iri_grammar.specs.OptionalSlices.{now_of};
 ghost use Rattle.iri_grammar.specs.Parts.{Parts};
+ghost use Rattle.iri_grammar.specs.Seen.{is_plain_authority};
 ghost use Rattle.iri_grammar.specs.Split.{split_of};
-ghost use Rattle.iri_grammar.specs.WholeFault.{colon_allowed, parts_fault, missing_scheme_fault};
+ghost use Rattle.iri_grammar.specs.WholeFault.{parts_fault, missing_scheme_fault};
 ghost use Rattle.iri_grammar.specs.WholeFault.{reference_fault, iri_fault, absolute_fault, relative_fault};
 ghost use Rattle.iri_grammar.specs.Splitters.{parts};
 ghost use Rattle.iri_grammar.specs.declared.error.ErrorKind.TheVariants.{UnexpectedFragment};
-ghost use Rattle.iri_grammar.specs.inside.Scans.{absolute_kind, part_left, stop_fault};
-ghost use Rattle.iri_grammar.specs.inside.Tails.{AreOver};
+ghost use Rattle.iri_grammar.specs.inside.Scans.{absolute_kind};
 
 use crate::cutting::{cut_before, lacks};
 use crate::error::{Error, ErrorKind};
@@ -20,96 +20,55 @@ use crate::splitter::Splitter;
 use crate::validate::component::{authority, scheme};
 use std::str;
 
-// Whether no colon comes before the first slash.
-#[inline(always)]
-fn lacks_first_colon(path: &[u8]) -> bool
-    ensures { result ≡ lacks colon (before slash path.now) }
+// The authority, where there is one.
+fn authority_in_place<S: Spec>(name: Option<&str>) -> Result<(), Error>
+    ensures { Answers result (part_fault (authority_fault S.tests) (now_of name.entry)) }
 {
-    let mut rest = path;
-    'prefix: while let [b, next @ ..] = rest {
-        if *b == b'/' {
-            return true;
-        }
-        if *b == b':' {
-            return false;
-        }
-        rest = next;
+    match name {
+        Some(name) => authority::<S>(name),
+        None => Ok(()),
     }
-    true
-}
-
-#[inline(always)]
-fn colon_allowed(p: &Splitter<'_>) -> bool
-    ensures { result ≡ colon_allowed (parts p.now) }
-{
-    p.scheme().is_some() || p.authority().is_some() || lacks_first_colon(p.path().as_bytes())
 }
 
 // The first segment without a colon where it has to be.
 #[inline(always)]
-fn colon_in_place(p: &Splitter<'_>) -> Result<(), Error>
-    ensures { Answers result (unless (colon_allowed (parts p.now)) ErrorKind.InvalidPath) }
+fn colon_in_place(allowed: bool) -> Result<(), Error>
+    ensures { Answers result (unless allowed ErrorKind.InvalidPath) }
 {
-    if colon_allowed(p) {
+    if allowed {
         Ok(())
     } else {
         Err(Error::new(ErrorKind::InvalidPath))
     }
 }
 
-// The authority, where there is one.
-fn authority_in_place<S: Spec>(p: &Splitter<'_>) -> Result<(), Error>
-    ensures { Answers result (part_fault (authority_fault S.tests) (parts p.now).authority) }
-{
-    match p.authority() {
-        Some(a) => authority::<S>(a),
-        None => Ok(()),
-    }
-}
-
-// The authority, and the first segment without a colon where it has to be.
-fn authority_and_colon<S: Spec>(p: &Splitter<'_>) -> Result<(), Error>
-    ensures { Answers result (first (part_fault (authority_fault S.tests) (parts p.now).authority)
-        (unless (colon_allowed (parts p.now)) ErrorKind.InvalidPath)) }
-{
-    authority_in_place::<S>(p)?;
-    colon_in_place(p)
-}
-
-// Authority, path, query and fragment, of which the last three are each in its production.
+// The authority, which is plain unless it is `other`, and the first segment without a colon where it has to be.
 #[inline(always)]
-pub(crate) fn judge_scanned<S: Spec>(p: &Splitter<'_>) -> Result<(), Error>
-    requires over { AreOver S.tests (parts p.now).path (parts p.now).query (parts p.now).fragment }
-    ensures { Answers result (parts_fault S.tests (fragment_fault S.tests) (parts p.now)) }
+pub(crate) fn authority_and_colon<S: Spec>(
+    name: Option<&str>,
+    other: bool,
+    colon_allowed: bool,
+) -> Result<(), Error>
+    requires { other ≡ false → if_there is_plain_authority (now_of name) ≡ true }
+    ensures { Answers result (first (part_fault (authority_fault S.tests) (now_of name.entry))
+        (unless colon_allowed ErrorKind.InvalidPath)) }
 {
-    if !p.seen().other_authority {
-        return colon_in_place(p);
+    if !other {
+        return colon_in_place(colon_allowed);
     }
-    // The call gets a copy: the parts themselves can stay in registers.
-    let parts = *p;
-    authority_and_colon::<S>(&parts)
+    authority_in_place::<S>(name)?;
+    colon_in_place(colon_allowed)
 }
 
-// The part that a scan was in when it stopped.
-fn part_left(p: &Splitter<'_>) -> ErrorKind
-    ensures { result ≡ part_left (parts p.now).query (parts p.now).fragment }
-{
-    if p.fragment().is_some() {
-        ErrorKind::InvalidFragment
-    } else if p.query().is_some() {
-        ErrorKind::InvalidQuery
-    } else {
-        ErrorKind::InvalidPath
-    }
-}
-
-// The first fault of a text in which a scan left something over.
-pub(crate) fn fault_at<S: Spec>(p: &Splitter<'_>, rest: &[u8]) -> Error
-    ensures { Some result.kind ≡ bytes_fault (λ _. stop_fault S.tests (parts p.now)) rest.now }
+// The first fault of a text in which a scan left something over: `judged` is what comes before its last part.
+#[inline(never)]
+pub(crate) fn stopped(rest: &[u8], judged: Result<(), Error>, last: ErrorKind) -> Error
+    ensures { (f : Option ErrorKind) → Answers judged f
+        → Some result.kind ≡ bytes_fault (λ _. first f (Some last)) rest.now }
 {
     match str::from_utf8(rest) {
-        Ok(_) => match authority_and_colon::<S>(p) {
-            Ok(()) => Error::new(part_left(p)),
+        Ok(_) => match judged {
+            Ok(()) => Error::new(last),
             Err(error) => error,
         },
         Err(_) => Error::new(ErrorKind::InvalidUtf8),
