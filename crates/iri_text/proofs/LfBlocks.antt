@@ -1,48 +1,63 @@
 -- LFs, looked for in 16 bytes at a time.
-use Rattle.std.proofs.Common.{◌≡◌, ◌≢◌, ℕ, ◌+◌, ◌-◌, ◌<◌, ◌≤◌, ◌%◌, ◌^◌, true, false, not, cond, eqb, ◌&&◌, List, length, take, drop, map, replicate}
-use Rattle.std.proofs.Common.{get_or, slice_range, ap, arith, ltb, ltb-true, eqb-true, sym, ◌∙◌, w8}
+use Rattle.std.proofs.Common.{◌≡◌, ◌≢◌, ℕ, ◌+◌, ◌*◌, ◌<◌, ◌≤◌, ◌%◌, ◌^◌, Bool, true, false, not, cond, eqb, List, [], ◌∷◌, length, map, replicate, None, Some}
+use Rattle.std.proofs.Common.{get_or, take, slice_range, ap, arith, eqb-true, refl, sym, subst, ◌∙◌, w8}
 use Rattle.std.specs.List.{prefix_len}
-use Rattle.std.proofs.lemmas.Bool.{and_parts, ne_eqb, eqb-false}
-use Rattle.std.proofs.lemmas.List.Sums.{prefix_len-le-length}
-use Rattle.std.proofs.lemmas.Simd.{bitmask_splat, first_set_mask_l, run_in_chunk_fails}
+use Rattle.std.proofs.lemmas.Bool.{eqb-false, not-true, not-false}
+use Rattle.std.proofs.lemmas.List.Sums.{prefix_len_passes, prefix_len_stops}
+use Rattle.std.proofs.lemmas.Simd.{bitmask_splat, leading_from_mask_l, trailing_mask_l}
 use lib.Count.{count_trailing_zeros}
 use lib.Lanes.{mask_l, top, zip2}
+use Rattle.memchr.specs.Find.{IsFirstByte, Nowhere, Passes, is_byte}
 use Rattle.iri_text.specs.Lines.{NoLf}
 use Rattle.iri_text.specs.inside.Layout.{IsFirstLf}
-use Rattle.iri_text.proofs.Parts.{NoLf-further, NoLf-nowhere, get_or-part, length-part}
+use Rattle.iri_text.proofs.Parts.{found, NoLf-further}
 
 abbrev mask_of : List ℕ → ℕ
 mask_of v = mask_l (map (top 7) (zip2 (λ a b. cond (eqb a b) 255 0) v (replicate 16 10))) % 2 ^ 64
 
-block : (v : List ℕ) → length v ≡ 16 → cond (eqb (mask_of v) 0) 16 (count_trailing_zeros 64 (mask_of v)) ≡ prefix_len (λ b. not (eqb b 10)) v
-block v long =
-    ap (λ n. cond (eqb n 0) 16 (count_trailing_zeros 64 n)) (bitmask_splat w8 eqb v 16 10 long (omega arith))
-    ∙ first_set_mask_l (λ x. eqb x 10) v 16 long (omega arith)
+-- how many bytes come before the first LF
+abbrev run_of : List ℕ → ℕ
+run_of v = prefix_len (λ b. not (eqb b 10)) v
 
-pub no_delimiter : (v : List ℕ) → length v ≡ 16 → mask_of v ≡ 0 → 16 ≡ prefix_len (λ b. not (eqb b 10)) v
-no_delimiter v long none = ap (λ n. cond (eqb n 0) 16 (count_trailing_zeros 64 n)) (sym none) ∙ block v long
+mask_is : (v : List ℕ) → length v ≡ 16 → mask_of v ≡ mask_l (map (λ b. eqb b 10) v)
+mask_is v long = bitmask_splat w8 eqb v 16 10 long (omega arith)
 
-pub first_delimiter : (v : List ℕ) → length v ≡ 16 → mask_of v ≢ 0 → count_trailing_zeros 64 (mask_of v) ≡ prefix_len (λ b. not (eqb b 10)) v
-first_delimiter v long some =
-    let test : eqb (mask_of v) 0 ≡ false = ne_eqb (mask_of v) 0 some in
-    ap (λ c. cond c 16 (count_trailing_zeros 64 (mask_of v))) (sym test) ∙ block v long
+before : (v : List ℕ) (n : ℕ) → n ≡ run_of v → Nowhere (Passes (is_byte 10) v) 0 n
+before v n e = λ k from to is.
+    eqb-false (get_or v k 0) 10 (not-true _ (prefix_len_passes (λ b. not (eqb b 10)) v k 0 (omega (arith, e, to)))) (eqb-true _ _ is)
 
-pub block_within : (v : List ℕ) → length v ≡ 16 → prefix_len (λ b. not (eqb b 10)) v ≤ 16
-block_within v long = omega (arith, long, prefix_len-le-length (λ b. not (eqb b 10)) v)
+here_or_later : (b : Bool) (n t m : ℕ) → cond b 1 0 + 2 * n ≢ 0 → (n ≢ 0 → t < m) → cond (not b) (1 + t) 0 < 1 + m
+here_or_later true n t m some f = omega arith
+here_or_later false n t m some f = omega (arith, f (λ e. some (omega (arith, e))))
 
--- bytes that are no LF, and those of a block before its first one
-pub passed : (t : List ℕ) (i r : ℕ) → i + 16 ≤ length t → NoLf (take i t) → r ≡ prefix_len (λ b. not (eqb b 10)) (take 16 (drop i t)) → r ≤ 16
-    → NoLf (take (i + r) t)
-passed t i r room none e short =
-    let long = length-part t i (i + r) (omega (arith, room, short)) in
-    NoLf-further t i (i + r) (omega arith) none (NoLf-nowhere (slice_range t i (i + r)) (λ k l h.
-    let here : k < (i + r) - i = omega (arith, long, l) in
-    let other : eqb (get_or t (i + k) 0) 10 ≡ false = run_in_chunk_fails (λ b. eqb b 10) t i 16 r 0 room e (i + k) (omega arith) (omega (arith, here)) in
-    eqb-false (get_or t (i + k) 0) 10 other (sym (get_or-part t i (i + r) k here) ∙ h)))
+-- a byte that is marked is one of them
+run_short : (v : List ℕ) → mask_l (map (λ b. eqb b 10) v) ≢ 0 → run_of v < length v
+run_short [] some = absurd (some refl)
+run_short (b ∷ v) some =
+    omega (arith, here_or_later (eqb b 10) (mask_l (map (λ b. eqb b 10) v)) (run_of v) (length v) some (run_short v))
 
--- the first LF, where one stands after such bytes
-pub first_there : (t : List ℕ) (i : ℕ) → NoLf (take i t) → (ltb i (length t) && eqb (get_or t i 0) 10) ≡ true → IsFirstLf t i
-first_there t i none h =
-    let both = and_parts (ltb i (length t)) (eqb (get_or t i 0) 10) h in
-    let low = ltb-true i (length t) both.0 in
-    record { within = omega arith; no_lf = none; found = λ _. eqb-true (get_or t i 0) 10 both.1 }
+pub none_marked : (v w : List ℕ) → v ≡ w → length v ≡ 16 → mask_of v ≡ 0 → IsFirstByte (is_byte 10) w None
+none_marked v w same long none = subst (λ u. IsFirstByte (is_byte 10) u None) same
+    (before v (length v) (sym (leading_from_mask_l (λ b. eqb b 10) v (sym (mask_is v long) ∙ none))))
+
+pub first_marked : (v w : List ℕ) → v ≡ w → length v ≡ 16 → mask_of v ≢ 0 → IsFirstByte (is_byte 10) w (Some (count_trailing_zeros 64 (mask_of v)))
+first_marked v w same long some =
+    let short = run_short v (λ none. some (mask_is v long ∙ none)) in
+    let n = count_trailing_zeros 64 (mask_of v) in
+    let e : n ≡ run_of v =
+    ap (λ m. count_trailing_zeros 64 m) (mask_is v long) ∙ trailing_mask_l (λ b. eqb b 10) 64 v (omega (arith, long)) (omega (arith, mask_is v long, some)) in
+    subst (λ u. IsFirstByte (is_byte 10) u (Some n)) same (
+      record { low = omega arith; high = omega (arith, e, short); before = before v n e },
+      subst (λ m. Passes (is_byte 10) v m) (sym e) (not-false _ (prefix_len_stops (λ b. not (eqb b 10)) v 0 short)),
+    )
+
+-- the first LF, where there is none before a place and this is the first one after it
+pub first_after : (t : List ℕ) (a b k : ℕ) → a ≤ b → b ≤ length t → NoLf (take a t) → IsFirstByte (is_byte 10) (slice_range t a b) (Some k)
+    → IsFirstLf t (a + k)
+first_after t a b k h room none is =
+    let f = found t a b (Some k) h room is in
+    record { within = omega (arith, room, f.0); no_lf = NoLf-further t a (a + k) (omega arith) none f.1; found = λ _. f.2 }
+
+pub none_after : (t : List ℕ) (a b : ℕ) → a ≤ b → b ≤ length t → NoLf (take a t) → IsFirstByte (is_byte 10) (slice_range t a b) None
+    → NoLf (take b t)
+none_after t a b h room none is = NoLf-further t a b h none (found t a b None h room is)

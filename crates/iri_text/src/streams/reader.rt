@@ -1,8 +1,7 @@
 // Lines of a source.
-ghost use Rattle.std.specs.Prelude.{◌≡◌, ◌↔◌, ◌≤◌, ◌<◌, ◌+◌, ◌-◌, ◌^◌, ◌&&◌, ◌==◌, [], ◌++◌, true, false, length, take};
-ghost use Rattle.std.specs.Prelude.{drop, get_or, nat_lt, not};
-ghost use Rattle.std.specs.List.{prefix_len};
+ghost use Rattle.std.specs.Prelude.{◌≡◌, ◌↔◌, ◌≤◌, ◌<◌, ◌+◌, ◌-◌, ◌^◌, [], ◌++◌, true, false, length, take};
 ghost use Rattle.std.specs.Prelude.{slice_range, slice_index, IfOk, OnErr};
+ghost use Rattle.memchr.specs.Find.{IsFirstByte, is_byte};
 ghost use Rattle.std.specs.Vec.{vec_capacity};
 ghost use Rattle.iri_text.specs.Lines.{NoLf, no_cr};
 ghost use Rattle.iri_text.specs.inside.Layout.{IsFirstLf};
@@ -101,64 +100,39 @@ enum Look {
     More,
 }
 
-// How many of the 16 bytes from a place on come before the first LF.
+// Where the first LF is among the 16 bytes from a place on, counted from there.
 #[inline(always)]
-fn block_run(held: &[u8], i: usize) -> usize
+fn lf_in_block(held: &[u8], i: usize) -> Option<usize>
     requires { i + 16 ≤ length held.now }
-    ensures run { result ≡ prefix_len (λ b. not (b == line_feed)) (take 16 (drop i held.now)) }
-    ensures within { result ≤ 16 }
+    ensures { IsFirstByte (is_byte line_feed) (slice_range held.now i (i + 16)) result }
 {
     let delimiters = u8x16::from_slice(&held[i..])
         .simd_eq(u8x16::splat(b'\n'))
         .to_bitmask();
     if delimiters == 0 {
-        16
+        None
     } else {
-        delimiters.trailing_zeros() as usize
+        Some(delimiters.trailing_zeros() as usize)
     }
 }
 
-// Goes past bytes that are no LF, to an LF among the next 64 or where fewer than 16 bytes are left or so many were passed.
+// Where the first LF is, or the length where there is none. There is none before `from`. Most lines are short: by `memchr` alone each
+// takes 20 instructions more.
 #[inline(always)]
-fn past_near(held: &[u8], from: usize) -> usize
-    requires from { from ≤ length held.now }
-    requires no_lf { NoLf (take from held.now) }
-    ensures within { result ≤ length held.now }
-    ensures no_lf { NoLf (take result held.now) }
-{
-    let near = held.len().min(from + 64);
-    let mut i = from;
-    'passed: while i + 16 <= near {
-        let run = block_run(held, i);
-        if run < 16 {
-            return i + run;
-        }
-        i += 16;
-    }
-    i
-}
-
-// Whether an LF is at a place.
-#[inline(always)]
-fn is_lf(held: &[u8], i: usize) -> bool
-    ensures { result ≡ (nat_lt i (length held.now) && get_or held.now i 0 == line_feed) }
-{
-    i < held.len() && held[i] == b'\n'
-}
-
-// Where the first LF is, or the length where there is none. There is none before `from`. Most lines are short: by `memchr` alone they
-// take 0.6 instructions a byte more.
 fn find_lf(held: &[u8], from: usize) -> usize
     requires from { from ≤ length held.now }
     requires no_lf { NoLf (take from held.now) }
     ensures { IsFirstLf held.now result }
 {
-    let near = past_near(held, from);
-    if is_lf(held, near) {
-        return near;
+    let mut i = from;
+    'passed: while i + 16 <= held.len() {
+        if let Some(k) = lf_in_block(held, i) {
+            return i + k;
+        }
+        i += 16;
     }
-    match memchr(b'\n', &held[near..]) {
-        Some(i) => near + i,
+    match memchr(b'\n', &held[i..]) {
+        Some(k) => i + k,
         None => held.len(),
     }
 }
@@ -222,7 +196,10 @@ fn grow(buf: &mut Vec<u8>)
     }
 }
 
-// Makes room after a part that lies at the end: it moves to the start, or the buffer grows. Says where the part begins.
+// Makes room after a part that lies at the end: it moves to the start, or the buffer grows. Says where the part begins. This and `fill`
+// stand apart, so that `advance` is inlined where a line is held.
+#[cold]
+#[inline(never)]
 fn make_room(buf: &mut Vec<u8>, start: usize, end: usize) -> usize
     requires part { (start ≤ end) × (end ≤ length buf.old.items) }
     requires capacity { end - start + 65536 ≤ vec_capacity buf.old }
@@ -243,6 +220,8 @@ fn make_room(buf: &mut Vec<u8>, start: usize, end: usize) -> usize
 }
 
 // Takes bytes after a part.
+#[cold]
+#[inline(never)]
 fn fill<I: Source>(
     buf: &mut Vec<u8>,
     end: usize,
@@ -335,6 +314,7 @@ impl LineReader {
     }
 
     // The same, but for `done`.
+    #[inline(always)]
     fn find_line<I: Source>(&mut self, source: &mut I) -> Result<bool, LineFault>
         ensures needed { TakesAsNeeded I.call I.left self.old.held source.old source.new }
         ensures advances { Advances self.old (done_by result self.new) (I.left source.old) (I.left source.new)

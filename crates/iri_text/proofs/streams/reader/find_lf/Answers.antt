@@ -1,25 +1,28 @@
-use Rattle.std.proofs.Common.{None, Some, arith, ◌+◌, ◌∙◌, length, sym}
-use Rattle.iri_text.proofs.LfBlocks.{first_there}
-use Rattle.iri_text.proofs.Parts.{found, NoLf-further}
+use Rattle.std.proofs.Common.{arith, ◌+◌, length}
+use Rattle.iri_text.proofs.LfBlocks.{first_after, none_after}
 use Rattle.iri_text.proofs.streams.reader.find_lf.Goals as goal
-
-pub returns-then-is_lf : goal.returns-then-is_lf
-returns-then-is_lf c = first_there c.args.held.now c.past_near-near.result c.past_near-near.ensures.no_lf (sym c.is_lf.ensures ∙ c.if-is_lf.true)
 
 pub returns-in-Some : goal.returns-in-Some
 returns-in-Some c =
-    let f = found c.args.held.now c.past_near-near.result (length c.args.held.now) (Some c.in-Some.i) c.past_near-near.ensures.within (omega arith) c.in-Some.ensures in
+    let i = c.passed.i in
+    first_after c.args.held.now i (i + 16) c.in-Some.k (omega arith) c.passed-test.true c.passed.invariant.no_lf c.in-Some.ensures
+
+pub passed-preserved : goal.passed-preserved
+passed-preserved c =
+    let i = c.passed.i in
+    let room = c.passed-test.true in
     record {
-      within = omega (arith, f.0);
-      no_lf = NoLf-further _ c.past_near-near.result (c.past_near-near.result + c.in-Some.i) (omega arith) c.past_near-near.ensures.no_lf f.1;
-      found = λ _. f.2;
+      within = room;
+      no_lf = none_after c.args.held.now i (i + 16) (omega arith) room c.passed.invariant.no_lf c.in_default.ensures;
     }
 
+pub returns-in-Some-memchr : goal.returns-in-Some-memchr
+returns-in-Some-memchr c =
+    first_after c.args.held.now c.passed.i (length c.args.held.now) c.in-Some-memchr.k c.passed.invariant.within (omega arith) c.passed.invariant.no_lf c.in-Some-memchr.ensures
+
 pub returns-in-None : goal.returns-in-None
-returns-in-None c =
-    let f = found c.args.held.now c.past_near-near.result (length c.args.held.now) None c.past_near-near.ensures.within (omega arith) c.in-None.ensures in
-    record {
-      within = omega arith;
-      no_lf = NoLf-further _ c.past_near-near.result (length c.args.held.now) c.past_near-near.ensures.within c.past_near-near.ensures.no_lf f;
-      found = λ h. absurd (omega (arith, h));
-    }
+returns-in-None c = record {
+  within = omega arith;
+  no_lf = none_after c.args.held.now c.passed.i (length c.args.held.now) c.passed.invariant.within (omega arith) c.passed.invariant.no_lf c.in-None.ensures;
+  found = λ h. absurd (omega (arith, h));
+}
