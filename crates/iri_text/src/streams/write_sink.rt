@@ -44,6 +44,52 @@ impl<W: Write> WriteSink<W> {
     }
 }
 
+impl<W: Write> WriteSink<W> {
+    ghost use Rattle.std.specs.Prelude.{◌+◌, ◌-◌, ◌^◌, ◌<◌, ◌≤◌, min, length, take, OnOk, OnErr, IfOk};
+    ghost use Rattle.std.specs.Io.KnownBytes.{Appends, WriteAppends};
+    ghost use Rattle.iri_text.specs.Streams.{WritesPrefix};
+
+    // Writes once. It is a fault where the writer answers an error or takes nothing.
+    #[inline(always)]
+    fn write_some(&mut self, piece: &[u8]) -> Result<usize, Failed>
+        ensures count { IfOk result (λ n. (0 < n) × (n ≤ length piece.now)) }
+        ensures bytes { WriteAppends (W.contents self.old.inner) (W.contents self.new.inner) result piece.now }
+        ensures same { OnOk result (self.new.faults ≡ self.old.faults) }
+        ensures raised { OnErr result (self.new.faults ≡ min (self.old.faults + 1) (2 ^ 64 - 1)) }
+        ensures later { self.old.faults ≤ self.new.faults }
+        ensures pending { self.new.pending ≡ true }
+    {
+        self.pending = true;
+        match self.writer.write(piece) {
+            Ok(0) | Err(_) => {
+                self.faults = self.faults.saturating_add(1);
+                Err(Failed)
+            }
+            Ok(n) => Ok(n),
+        }
+    }
+
+    // Writes until the piece is taken. It stands apart, so that the first write is inlined: a writer that buffers takes most pieces at
+    // once.
+    #[cold]
+    #[inline(never)]
+    fn put_rest(&mut self, piece: &[u8]) -> Result<(), Failed>
+        ensures whole { OnOk result (Appends (W.contents self.old.inner) (W.contents self.new.inner) piece.now) }
+        ensures prefix { OnErr result (WritesPrefix (W.contents self.old.inner) (W.contents self.new.inner) piece.now) }
+        ensures same { OnOk result (self.new.faults ≡ self.old.faults) }
+        ensures raised { OnErr result (self.new.faults ≡ min (self.old.faults + 1) (2 ^ 64 - 1)) }
+        ensures later { self.old.faults ≤ self.new.faults }
+        ensures pending { self.old.pending ≡ true → self.new.pending ≡ true }
+    {
+        let mut rest = piece;
+        while !rest.is_empty() {
+            let n = self.write_some(rest)?;
+            rest = &rest[n..];
+        }
+        Ok(())
+    }
+}
+
 impl<W: Write> Sink for WriteSink<W> {
     ghost use Rattle.std.specs.Prelude.{◌≡◌, ◌≢◌, ◌+◌, ◌-◌, ◌^◌, [], false, min, None, OnOk, OnErr, IsOk, true};
     ghost use Rattle.std.specs.Io.KnownBytes.{Appends, Keeps};
@@ -72,18 +118,15 @@ impl<W: Write> Sink for WriteSink<W> {
         if piece.is_empty() {
             return Ok(());
         }
-        self.pending = true;
-        let mut rest = piece;
-        while !rest.is_empty() {
-            match self.writer.write(rest) {
-                Ok(0) | Err(_) => {
-                    self.faults = self.faults.saturating_add(1);
-                    return Err(Failed);
+        match self.write_some(piece) {
+            Ok(n) => {
+                if n < piece.len() {
+                    return self.put_rest(&piece[n..]);
                 }
-                Ok(n) => rest = &rest[n..],
+                Ok(())
             }
+            Err(Failed) => Err(Failed),
         }
-        Ok(())
     }
 
     /// Flushes the writer, where bytes may be pending: at first, and where a piece that isn't empty was put since the
