@@ -1,9 +1,11 @@
 // A path in two pieces, as it is merged (RFC 3986 section 5.2.3).
-ghost use Rattle.std.specs.Prelude.{◌≡◌, ◌||◌, ◌++◌, true};
+ghost use Rattle.std.specs.Prelude.{◌≡◌, ◌||◌, ◌++◌, false, true};
 ghost use Rattle.iri_grammar.specs.Parts.{is_empty};
+ghost use Rattle.iri_normal.specs.Dots.{has_dot_segment};
 ghost use Rattle.iri_normal.specs.Target.{ends_at_slash};
 
 /// What the base gives of a path, and the reference's path after it. The first piece ends where a segment ends, or nothing follows it.
+/// `plain` says that it has no dot segment; `false` says nothing.
 ///
 /// ```
 /// use iri::steps::MergedPath;
@@ -15,7 +17,9 @@ ghost use Rattle.iri_normal.specs.Target.{ends_at_slash};
 pub struct MergedPath<'a> {
     pub base: &'a str,
     pub reference: &'a str,
+    pub plain: bool,
     pub ghost cut: { (is_empty reference.now || ends_at_slash base.now) ≡ true },
+    pub ghost noted: { plain ≡ true → has_dot_segment base.now ≡ false },
 }
 
 impl<'a> MergedPath<'a> {
@@ -26,6 +30,7 @@ impl<'a> MergedPath<'a> {
         MergedPath {
             base: "",
             reference: path,
+            plain: true,
         }
     }
 }

@@ -1,17 +1,19 @@
 // Removal of dot segments (RFC 3986 section 5.2.4), into a sink, with no memory.
 //
-// The output buffer of the definition holds segments, each with its slash. A path of up to 512 bytes goes into such a buffer
-// on the stack, run by run (`written`): in the end it holds the path without its dot segments (`dots`), by the law
-// `written-dots`. A longer one is shown in parts. After a slash, segments take some of those before them away and then push
-// what stays of themselves (`taken`, `kept`), and the law `path-stays` says that this is what the buffer does: so a part is
-// shown as soon as it was counted, forward, how many of its segments the parts after it take away. Each part is cut in two
-// until it is short or stays as it is; the second part is an eighth of it, so that all counts together go through a text of
-// 64 KiB less than twice.
-ghost use Rattle.std.specs.Prelude.{◌≡◌, ◌<◌, ◌≤◌, ◌+◌, ◌^◌, ◌==◌, ◌++◌, ◌&&◌, ◌||◌, ◌∷◌, [], false, not, true, drop, length, take};
+// The output buffer of the definition holds segments, each with its slash. Most paths have at most 128 bytes, and go into such a
+// buffer on the stack, run by run (`written`): in the end it holds the path without its dot segments (`dots`), by the law
+// `written-dots`.
+//
+// A longer path is read as a directory without dot segments, and what follows it: that is the base's piece where it is known to
+// have none, as most bases have, and otherwise the first segment. What follows takes some of the directory's last segments away,
+// and then pushes what stays of itself (`taken`, `kept`; by the law `path-stays` this is what the buffer does). So of a
+// directory only the end is looked at, however long it is. What follows it is seldom longer than the buffer. Where it is, it is
+// shown in parts, each as soon as it was counted, forward, how many of its segments the parts after it take away.
+ghost use Rattle.std.specs.Prelude.{◌≡◌, ◌<◌, ◌≤◌, ◌+◌, ◌^◌, ◌==◌, ◌&&◌, ◌||◌, [], false, not, true, drop, length, take};
 ghost use Rattle.std.specs.Str.{IsUtf8};
 ghost use Rattle.iri_grammar.specs.Characters.{slash};
 ghost use Rattle.iri_grammar.specs.Components.{is_path};
-ghost use Rattle.iri_grammar.specs.Cut.{before, lacks};
+ghost use Rattle.iri_grammar.specs.Cut.{before};
 ghost use Rattle.iri_grammar.specs.Parts.{is_empty};
 ghost use Rattle.iri_grammar.specs.Pieces.{pieces};
 ghost use Rattle.iri_percent.specs.Units.{whole_triplets};
@@ -21,14 +23,13 @@ ghost use Rattle.iri_normal.specs.inside.Kept.{kept};
 ghost use Rattle.iri_normal.specs.inside.PathForm.{in_form};
 ghost use Rattle.iri_normal.specs.Slices.{merged};
 ghost use Rattle.iri_normal.specs.Target.{ends_at_slash};
-ghost use Rattle.iri_normal.specs.inside.Written.{popped_times, written};
+ghost use Rattle.iri_normal.specs.inside.Written.{written};
 ghost use Rattle.iri_text.specs.Shown.{Shows};
 
 use self::output_buffer::{SHORT, put_kept, put_path};
-use self::segments::{cut_eighth, taken, without_first_dots};
+use self::segments::{cut_eighth, cut_first, popped_times, taken, without_first_dots};
 use crate::dots::has_dot_segment;
 use crate::merged_path::MergedPath;
-use iri_grammar::cutting::cut;
 use iri_grammar::dots::may_have_dots;
 use iri_grammar::spec::Spec;
 use iri_percent::PctCaseNormalized;
@@ -68,7 +69,7 @@ pub fn show_as_it_stands<S: Spec, W: TextSink>(
 
 // The text in the buffer between two places.
 fn text_of(buf: &[u8; SHORT], start: usize, len: usize) -> &str
-    requires within { (start ≤ len) × (len ≤ 512) }
+    requires within { (start ≤ len) × (len ≤ 128) }
     requires utf8 { IsUtf8 (drop start (take len buf.now)) }
     ensures { result.now ≡ drop start (take len buf.now) }
 {
@@ -83,15 +84,21 @@ fn show_short<S: Spec, W: TextSink>(
     normal: bool,
 ) -> Result<(), Stop>
     requires path { is_path S.tests (merged path.now) ≡ true }
-    requires short { length path.now.base.now + length path.now.reference.now ≤ 512 }
+    requires short { length path.now.base.now + length path.now.reference.now ≤ 128 }
     ensures { Shows W.puts W.halts W.stops sink.old (in_form S.tests normal (dots (merged path.now))) sink.new result }
 {
     let mut buf = [0u8; SHORT];
-    let len = put_path(&mut buf, path.base.as_bytes(), path.reference.as_bytes());
+    let len = put_path(
+        &mut buf,
+        path.base.as_bytes(),
+        path.reference.as_bytes(),
+        path.plain,
+    );
     show_part::<S, W>(sink, text_of(&buf, 0, len), normal)
 }
 
 // What stays of a short part after a slash, where `count` segments are taken away after it.
+#[inline(never)]
 fn show_few<S: Spec, W: TextSink>(
     sink: &mut W,
     text: &str,
@@ -100,7 +107,7 @@ fn show_few<S: Spec, W: TextSink>(
 ) -> Result<(), Stop>
     requires ends { (ends_at_slash text.now || count == 0) ≡ true }
     requires path { is_path S.tests text.now ≡ true }
-    requires short { length text.now < 512 }
+    requires short { length text.now < 128 }
     ensures { Shows W.puts W.halts W.stops sink.old (in_form S.tests normal (kept (pieces slash text.now) count)) sink.new result }
 {
     let mut buf = [0u8; SHORT];
@@ -140,23 +147,24 @@ fn show_kept<S: Spec, W: TextSink>(
     show_kept::<S, W>(sink, rest, count, normal)
 }
 
-// The first segment with its slash, or its slash alone where `count` segments are taken away.
-fn show_first<S: Spec, W: TextSink>(
+// A path in three pieces: a directory, what follows it, and more, which follows where a segment of that ends.
+fn show_after<S: Spec, W: TextSink>(
     sink: &mut W,
-    segment: &str,
-    count: usize,
+    directory: &str,
+    text: &str,
+    more: &str,
     normal: bool,
 ) -> Result<(), Stop>
-    requires path { is_path S.tests segment.now ≡ true }
-    requires one { lacks slash segment.now ≡ true }
+    requires directory { (ends_at_slash directory.now && not (is_empty directory.now)) ≡ true }
+    requires cut { (is_empty more.now || ends_at_slash text.now) ≡ true }
+    requires paths { (is_path S.tests directory.now ≡ true) × (is_path S.tests text.now ≡ true) × (is_path S.tests more.now ≡ true) }
     ensures { Shows W.puts W.halts W.stops sink.old
-        (in_form S.tests normal (popped_times count (segment.now ++ slash ∷ []))) sink.new result }
+        (in_form S.tests normal (written (written directory.now text.now) more.now)) sink.new result }
 {
-    if count > 0 {
-        return sink.put("/");
-    }
-    show_part::<S, W>(sink, segment, normal)?;
-    sink.put("/")
+    let count = taken(more, 0);
+    show_part::<S, W>(sink, popped_times(directory, taken(text, count)), normal)?;
+    show_kept::<S, W>(sink, text, count, normal)?;
+    show_kept::<S, W>(sink, more, 0, normal)
 }
 
 // A text that begins with no dot segment, and more, which follows where a segment of it ends.
@@ -172,18 +180,14 @@ fn show_from_first<S: Spec, W: TextSink>(
     ensures { Shows W.puts W.halts W.stops sink.old
         (in_form S.tests normal (written (written [] text.now) more.now)) sink.new result }
 {
-    let (segment, after) = cut(text, b'/');
-    let Some(rest) = after else {
-        return show_part::<S, W>(sink, text, normal);
-    };
-    let count = taken(more, 0);
-    show_first::<S, W>(sink, segment, taken(rest, count), normal)?;
-    show_kept::<S, W>(sink, rest, count, normal)?;
-    show_kept::<S, W>(sink, more, 0, normal)
+    match cut_first(text) {
+        Some((first, rest)) => show_after::<S, W>(sink, first, rest, more, normal),
+        None => show_part::<S, W>(sink, text, normal),
+    }
 }
 
-// A long path.
-fn show_long<S: Spec, W: TextSink>(
+// A path whose first piece may have dot segments, or is empty: its own, or against a base that wasn't prepared.
+fn show_from_start<S: Spec, W: TextSink>(
     sink: &mut W,
     path: &MergedPath<'_>,
     normal: bool,
@@ -199,6 +203,30 @@ fn show_long<S: Spec, W: TextSink>(
     show_from_first::<S, W>(sink, base, path.reference, normal)
 }
 
+// Whether a path's first piece is a directory without dot segments, and something follows it.
+fn has_plain_directory(path: &MergedPath<'_>) -> bool
+    ensures { result ≡ true → (is_empty path.now.base.now ≡ false) × (is_empty path.now.reference.now ≡ false)
+        × (has_dot_segment path.now.base.now ≡ false) }
+{
+    path.plain && !path.base.is_empty() && !path.reference.is_empty()
+}
+
+// A long path.
+#[inline(never)]
+fn show_long<S: Spec, W: TextSink>(
+    sink: &mut W,
+    path: &MergedPath<'_>,
+    normal: bool,
+) -> Result<(), Stop>
+    requires { is_path S.tests (merged path.now) ≡ true }
+    ensures { Shows W.puts W.halts W.stops sink.old (in_form S.tests normal (dots (merged path.now))) sink.new result }
+{
+    if has_plain_directory(path) {
+        return show_after::<S, W>(sink, path.base, path.reference, "", normal);
+    }
+    show_from_start::<S, W>(sink, path, normal)
+}
+
 // Whether no segment of a path begins with a dot, so that none is a dot segment.
 fn lacks_dots(path: &MergedPath<'_>) -> bool
     ensures { result ≡ true → has_dot_segment (merged path.now) ≡ false }
@@ -206,7 +234,7 @@ fn lacks_dots(path: &MergedPath<'_>) -> bool
     if may_have_dots(path.reference.as_bytes()) {
         return false;
     }
-    !may_have_dots(path.base.as_bytes())
+    path.plain || !may_have_dots(path.base.as_bytes())
 }
 
 /// A path without its dot segments.

@@ -3,6 +3,7 @@ ghost use Rattle.std.specs.Prelude.{◌≡◌, ◌++◌, ◌&&◌, ℕ, List, If
 ghost use Rattle.iri_grammar.specs.Characters.{percent_sign};
 ghost use Rattle.iri_grammar.specs.Components.{if_there};
 ghost use Rattle.iri_grammar.specs.Cut.{lacks};
+ghost use Rattle.iri_normal.specs.Dots.{has_dot_segment};
 ghost use Rattle.iri_grammar.specs.Parts.{Fits, Parts, is_empty};
 ghost use Rattle.iri_grammar.specs.Split.{split_of};
 ghost use Rattle.iri_grammar.specs.Splitters.{parts};
@@ -18,13 +19,15 @@ ghost use Rattle.iri_normal.specs.Target.{ends_at_slash, merge_prefix, target, t
 ghost use Rattle.std.proofs.Props.{props};
 ghost use Rattle.iri_normal.specs.declared.mode.Mode.TheVariants.{Plain};
 
+use crate::dots::has_dot_segment;
 use crate::mode::{CanonMode, Mode};
 use crate::normalized::{Normalized, NormalizedText};
 use crate::owned_target::Target;
 use crate::prefix::{cut_prefix, normal_prefix};
 use crate::scheme_rules::{keeps_port, stays_by_scheme};
 use crate::target::{TargetSlices, merge_prefix, starts_with_slash, takes_base_path, target};
-use crate::unchanged::{Before, keeps_path, keeps_prefix, keeps_query, lacks_triplets_and_dots};
+use crate::unchanged::{Before, keeps_path, keeps_prefix, keeps_query};
+use iri_grammar::cutting::lacks;
 use iri_grammar::spec::Spec;
 use iri_grammar::splitter::Splitter;
 use iri_types::kind::{Absolute, Reference};
@@ -49,7 +52,8 @@ use std::alloc::{AllocError, Global};
 pub struct FixedBaseResolver<'a, S: Spec> {
     base: SplitView<'a, S, Absolute>,
     directory: &'a str,
-    // Nothing in the prefix of relative paths changes.
+    // The prefix of relative paths has no dot segment, and nothing in it changes.
+    dotless: bool,
     plain: bool,
     prefix: Option<&'a str>,
     // The path stays as it is in normal form, and so does the query.
@@ -62,7 +66,8 @@ pub struct FixedBaseResolver<'a, S: Spec> {
         × (plain ≡ is_plain_prefix (split_of (split_text base)) directory.now)
         × (path_stays ≡ true → is_plain_prefix (split_of (split_text base)) (split_of (split_text base)).path ≡ true)
         × (query_stays ≡ true → if_there (lacks percent_sign) (split_of (split_text base)).query ≡ true)
-        × (keeps_port ≡ true → ends_in_port (split_of (split_text base)).authority ≡ false) } by { Prim.hlevel props },
+        × (keeps_port ≡ true → ends_in_port (split_of (split_text base)).authority ≡ false)
+        × (dotless ≡ true → has_dot_segment directory.now ≡ false) } by { Prim.hlevel props },
 }
 
 // What comes before a reference with a scheme, of which nothing changes but its percent-encoded octets: nothing.
@@ -120,12 +125,13 @@ impl<'a, S: Spec> FixedBaseResolver<'a, S> {
         ensures { base_text result ≡ split_text base.entry }
     {
         let directory = merge_prefix(base.parts());
-        let plain = base.parts().authority().is_some()
-            && lacks_triplets_and_dots(directory, directory);
+        let dotless = !has_dot_segment(directory);
+        let plain = base.parts().authority().is_some() && dotless && lacks(directory, b'%');
         let prefix = normal_prefix(&base);
         FixedBaseResolver {
             base,
             directory,
+            dotless,
             plain,
             prefix,
             path_stays: keeps_path(&base),
@@ -183,7 +189,12 @@ impl<'a, S: Spec> FixedBaseResolver<'a, S> {
         ensures scheme { IsSome (slices result).scheme }
         ensures parts { slices result ≡ target (split_of (base_text self.now)) (split_of (split_text reference.now)) }
     {
-        target(self.base.parts(), self.directory, reference.parts())
+        target(
+            self.base.parts(),
+            self.directory,
+            self.dotless,
+            reference.parts(),
+        )
     }
 
     // The prefix of a reference's target, where it is the base's and in normal form.

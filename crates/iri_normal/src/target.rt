@@ -1,9 +1,10 @@
 // The target of a reference against a base.
-ghost use Rattle.std.specs.Prelude.{◌≡◌, ◌++◌, ◌||◌, cond, is_some, None, true};
+ghost use Rattle.std.specs.Prelude.{◌≡◌, ◌++◌, ◌||◌, cond, is_some, None, false, true};
 ghost use Rattle.memchr.specs.Find.{IsLastByte, is_byte};
 ghost use Rattle.iri_grammar.specs.Parts.{starts_with_slash};
 ghost use Rattle.iri_grammar.specs.Splitters.{parts};
 ghost use Rattle.iri_grammar.specs.OptionalSlices.{now_of};
+ghost use Rattle.iri_normal.specs.Dots.{has_dot_segment};
 ghost use Rattle.iri_normal.specs.Target.{takes_base_path, target, target_under, to_last_slash, merge_prefix};
 ghost use Rattle.iri_normal.specs.Target.{ends_at_slash, last_segment};
 ghost use Rattle.iri_normal.specs.Slices.{merged, slices};
@@ -73,8 +74,9 @@ pub(crate) fn starts_with_slash(path: &str) -> bool
 }
 
 // The path of a reference that has one, with neither scheme nor authority (section 5.2.3).
-fn merge<'a>(base: &'a str, path: &'a str) -> MergedPath<'a>
-    requires { ends_at_slash base.now ≡ true }
+fn merge<'a>(base: &'a str, path: &'a str, plain: bool) -> MergedPath<'a>
+    requires ends { ends_at_slash base.now ≡ true }
+    requires plain { plain ≡ true → has_dot_segment base.now ≡ false }
     ensures { merged result ≡ cond (starts_with_slash path.now) path.now (base.now ++ path.now) }
 {
     if starts_with_slash(path) {
@@ -83,6 +85,7 @@ fn merge<'a>(base: &'a str, path: &'a str) -> MergedPath<'a>
     MergedPath {
         base,
         reference: path,
+        plain,
     }
 }
 
@@ -91,10 +94,12 @@ fn merge<'a>(base: &'a str, path: &'a str) -> MergedPath<'a>
 fn after_base<'a>(
     base: &Splitter<'a>,
     directory: &'a str,
+    plain: bool,
     reference: &Splitter<'a>,
 ) -> TargetSlices<'a>
     requires prefix { directory.now ≡ merge_prefix (parts base.now) }
     requires ends { ends_at_slash directory.now ≡ true }
+    requires plain { plain ≡ true → has_dot_segment directory.now ≡ false }
     ensures parts { slices result ≡ target_under (parts base.now) (parts reference.now) None None }
 {
     let path = reference.path();
@@ -103,10 +108,7 @@ fn after_base<'a>(
         TargetSlices {
             scheme: base.scheme(),
             authority: base.authority(),
-            path: MergedPath {
-                base: base.path(),
-                reference: path,
-            },
+            path: MergedPath::of(base.path()),
             query: reference.query().or(base.query()),
             fragment,
         }
@@ -114,7 +116,7 @@ fn after_base<'a>(
         TargetSlices {
             scheme: base.scheme(),
             authority: base.authority(),
-            path: merge(directory, path),
+            path: merge(directory, path, plain),
             query: reference.query(),
             fragment,
         }
@@ -135,22 +137,24 @@ fn under_scheme<'a>(scheme: Option<&'a str>, reference: &Splitter<'a>) -> Target
 }
 
 /// The target of a reference against a base (RFC 3986 sections 5.2.2 and 5.2.3), with its dot segments kept. `directory` is the base's prefix, by
-/// `merge_prefix`.
+/// `merge_prefix`, and `plain` says that it has no dot segment.
 #[tactic(auto, unfolding(crate::specs::Target::target))]
 #[inline(always)]
 pub fn target<'a>(
     base: &Splitter<'a>,
     directory: &'a str,
+    plain: bool,
     reference: &Splitter<'a>,
 ) -> TargetSlices<'a>
     requires prefix { directory.now ≡ merge_prefix (parts base.now) }
     requires ends { ends_at_slash directory.now ≡ true }
+    requires plain { plain ≡ true → has_dot_segment directory.now ≡ false }
     ensures parts { slices result ≡ target (parts base.now) (parts reference.now) }
 {
     match (reference.scheme(), reference.authority()) {
         (Some(scheme), _) => under_scheme(Some(scheme), reference),
         (None, Some(_)) => under_scheme(base.scheme(), reference),
-        (None, None) => after_base(base, directory, reference),
+        (None, None) => after_base(base, directory, plain, reference),
     }
 }
 

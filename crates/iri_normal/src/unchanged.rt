@@ -10,14 +10,11 @@ ghost use Rattle.iri_grammar.specs.Splitters.{parts};
 ghost use Rattle.iri_percent.specs.Triplets.{pct};
 ghost use Rattle.iri_percent.specs.Units.{whole_triplets};
 ghost use Rattle.iri_normal.specs.inside.Unchanged.{IsLowered, KeepsPrefix, LacksTriplets, is_plain_prefix};
-ghost use Rattle.iri_normal.specs.inside.Unchanged.{lacks_triplets_and_dots};
 ghost use Rattle.iri_normal.specs.NormalForm.{lowered};
 ghost use Rattle.iri_types.specs.SplitText.{split_text};
 ghost use Rattle.iri_text.specs.Shown.{Shows};
 
-use crate::dots::has_dot_segment;
 use crate::prefix::cut_prefix;
-use iri_grammar::cutting::lacks;
 use iri_grammar::spec::Spec;
 use iri_grammar::splitter::Splitter;
 use iri_percent::PctCaseNormalized;
@@ -30,13 +27,6 @@ use iri_types::split::SplitView;
 pub(crate) struct Before<'a> {
     pub prefix: &'a str,
     pub directory: &'a str,
-}
-
-// Whether a text has no percent-encoded octet, and a path of it no dot segment.
-pub(crate) fn lacks_triplets_and_dots(text: &str, path: &str) -> bool
-    ensures { result ≡ lacks_triplets_and_dots text.now path.now }
-{
-    lacks(text, b'%') && !has_dot_segment(path)
 }
 
 // Whether the scan saw no percent-encoded octet after the authority.

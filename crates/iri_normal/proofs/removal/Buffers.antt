@@ -3,14 +3,18 @@ use Rattle.iri_normal.proofs.Common.{unwrap_or, ◌≡◌, ℕ, Bool, true, fals
 use Rattle.iri_normal.proofs.Common.{◌∙◌, ap, subst, append_assoc, append-nil, or_parts, before, after, is_empty, pieces, more_pieces}
 use Rattle.iri_normal.proofs.Common.{pieces_cut, is_two_dots, without_last, dots, is_dot_segment, any_dot_segment, has_dot_segment}
 use Rattle.iri_normal.proofs.Common.{ends_at_slash, popped, left, written_segments, written, ◌+◌, ◌-◌, ◌<◌, ◌≤◌, arith, length, take, drop}
-use Rattle.iri_normal.proofs.Common.{is_byte, IsLastByte, length-take-le, take-append-drop}
+use Rattle.iri_normal.proofs.Common.{is_byte, IsLastByte, length-take-le, take-append-drop, lacks, by_test, not, ◌&&◌, Tests, path_char, is_path}
+use Rattle.iri_normal.proofs.Common.{text_over, text_over-append, nothing_over}
 use Rattle.iri_grammar.proofs.hosts.Ipv6Laws.{joined_pieces}
 use Rattle.iri_grammar.specs.Pieces.{joined}
-use Rattle.iri_normal.proofs.segments.Slashes.{both-end, slash-ends, after_last, without_end, no_slash, slash_is}
+use Rattle.iri_normal.proofs.segments.Slashes.{both-end, slash-ends, after_last, end_slash, without_end, no_slash, slash_is}
 use Rattle.iri_normal.proofs.removal.Output.{text_after, text_from, dots-text, without_last-all, without_last-slash}
 use Rattle.iri_normal.proofs.segments.DotKinds.{pieces-some, nothing-is_no_dot}
 use Rattle.iri_normal.proofs.segments.CutPaths.{alone, ended}
 use Rattle.iri_normal.specs.inside.Written.{but_last, closing}
+use Rattle.iri_normal.proofs.targets.Targets.{slash_in_path}
+use Rattle.iri_normal.proofs.targets.CutTexts.{slash_over, text_over-cut}
+use Rattle.std.proofs.Math.Seq.{take-length}
 use Rattle.std.proofs.lemmas.List.{take-take, take_more}
 use Rattle.std.specs.Prelude.{slice_set}
 
@@ -198,3 +202,51 @@ popped-none t n l m h k =
     ∙ sym (ap popped (buffer-end t n l m h)
     ∙ (popped-output (take (n - 1) t)
     ∙ ap (λ o. o ++ 47 ∷ []) (without_last-all (take (n - 1) t) (no_slash (take (n - 1) t) k).0)))
+
+-- of a text of its own
+pub popped-last : (t : List ℕ) (i : ℕ) → 0 < length t → ends_at_slash t ≡ true
+    → IsLastByte (is_byte 47) (take (length t - 1) t) (Some i) → take (i + 1) t ≡ popped t
+popped-last t i l h k =
+    let all = take-length t in
+    popped-some t (length t) i l (omega arith) (ap ends_at_slash all ∙ h) k ∙ ap popped all
+
+pub popped-alone : (t : List ℕ) → 0 < length t → ends_at_slash t ≡ true
+    → IsLastByte (is_byte 47) (take (length t - 1) t) None → 47 ∷ [] ≡ popped t
+popped-alone t l h k =
+    let u = take (length t - 1) t in
+    sym (ap popped (without_end t h l) ∙ (popped-output u ∙ ap (λ o. o ++ 47 ∷ []) (without_last-all u (no_slash u k).0)))
+
+-- what is left is a path
+record LastCut (o : List ℕ) : Type 0 where
+  rest : List ℕ
+  whole : o ≡ without_last o ++ 47 ∷ rest
+
+last-cut : (o : List ℕ) → lacks 47 o ≡ false → LastCut o
+last-cut [] h = cc
+last-cut (x ∷ xs) h =
+    elim (lacks 47 xs) as (λ b. lacks 47 xs ≡ b → LastCut (x ∷ xs)) [
+      | true ↦ λ e. record { rest = xs; whole = rw e (ap (λ y. y ∷ xs) (is_slash e)) }
+      | false ↦ λ e. let r = last-cut xs e in record { rest = r.rest; whole = rw e (ap (λ l. x ∷ l) r.whole) }
+    ] refl
+  where
+    is_slash : lacks 47 xs ≡ true → x ≡ 47
+    is_slash e = by_test x 47 (λ b. (not b && lacks 47 xs) ≡ false → x ≡ 47) (λ y _. y) (λ _ k. let n : true ≡ false = sym e ∙ k in cc) h
+
+without_last-over : (p : ℕ → Bool) (o : List ℕ) → text_over p o ≡ true → text_over p (without_last o) ≡ true
+without_last-over p o h =
+    elim (lacks 47 o) as (λ b. lacks 47 o ≡ b → text_over p (without_last o) ≡ true) [
+      | true ↦ λ e. subst (λ l. text_over p l ≡ true) (sym (without_last-all o e)) (nothing_over p)
+      | false ↦ λ e. let r = last-cut o e in
+          (text_over-cut p (without_last o) r.rest (subst (λ l. text_over p l ≡ true) r.whole h)).left
+    ] refl
+
+pub segment-path : (s : Tests) (a : List ℕ) → is_path s a ≡ true → is_path s (a ++ 47 ∷ []) ≡ true
+segment-path s a h = text_over-append (path_char s) a (47 ∷ []) h (slash_over (path_char s) (slash_in_path s))
+
+pub popped-path : (s : Tests) (d : List ℕ) → is_path s d ≡ true → ends_at_slash d ≡ true → is_path s (popped d) ≡ true
+popped-path s [] h e = h
+popped-path s (x ∷ xs) h e =
+    let r = end_slash (x ∷ xs) e (omega arith) in
+    let prefix = (text_over-cut (path_char s) r.prefix [] (subst (λ l. is_path s l ≡ true) r.whole h)).left in
+    subst (λ l. is_path s l ≡ true) (sym (ap popped r.whole ∙ popped-output r.prefix))
+    (segment-path s (without_last r.prefix) (without_last-over (path_char s) r.prefix prefix))

@@ -5,8 +5,8 @@ use Rattle.iri_normal.proofs.Common.{append-nil, length-take-le, list_all, ◌==
 use Rattle.iri_normal.proofs.Common.{text_over, is_empty, pieces, text_over-append, nothing_over, is_two_dots, without_last}
 use Rattle.iri_normal.proofs.Common.{any_dot_segment, has_dot_segment, is_dot_segment, kept, taken, ends_at_slash, left, popped}
 use Rattle.iri_normal.proofs.Common.{popped_times, written, written_segments}
-use Rattle.iri_normal.proofs.segments.Slashes.{both-end, slash-ends, without_end}
-use Rattle.iri_normal.proofs.removal.Output.{without_last-all, without_last-slash}
+use Rattle.iri_normal.proofs.segments.Slashes.{EndSlash, both-end, slash-ends, without_end}
+use Rattle.iri_normal.proofs.removal.Output.{without_last-slash}
 use Rattle.iri_normal.proofs.normal_forms.Paths.{pieces-over}
 use Rattle.iri_normal.proofs.segments.DotKinds.{all_lack, nothing-is_no_dot, pieces-lack, pieces-slash, pieces-some, pieces-whole}
 use Rattle.iri_normal.proofs.segments.CutPaths.{alone, ended}
@@ -103,7 +103,7 @@ last-path t n h =
       | false ↦ λ _ k. subst (λ m. last_ok (pieces 47 t) m ≡ true) (sym (eqb-true n 0 k)) (last-none (pieces 47 t))
     ] refl h
 
-pub path-stays : (o t : List ℕ) (n : ℕ) → (ends_at_slash t || n == 0) ≡ true
+path-stays : (o t : List ℕ) (n : ℕ) → (ends_at_slash t || n == 0) ≡ true
     → popped_times n (written (o ++ 47 ∷ []) t) ≡ popped_times (taken (pieces 47 t) n) (o ++ 47 ∷ []) ++ kept (pieces 47 t) n
 path-stays o t n h =
     let r = pieces-some t in
@@ -111,17 +111,18 @@ path-stays o t n h =
     (pieces-stay o r.first r.rest n (subst (λ ps. all_lack ps ≡ true) r.whole (pieces-lack t))
     (subst (λ ps. last_ok ps n ≡ true) r.whole (last-path t n h)))
 
+-- after a directory
+pub stays-after : (d t : List ℕ) (n : ℕ) → EndSlash d → (ends_at_slash t || n == 0) ≡ true
+    → popped_times n (written d t) ≡ popped_times (taken (pieces 47 t) n) d ++ kept (pieces 47 t) n
+stays-after d t n e h =
+    subst (λ (x : List ℕ). popped_times n (written x t) ≡ popped_times (taken (pieces 47 t) n) x ++ kept (pieces 47 t) n) (sym e.whole)
+    (path-stays e.prefix t n h)
+
 -- after a slash, which stays
 pub after-slash : (t : List ℕ) (n : ℕ) → (ends_at_slash t || n == 0) ≡ true
     → popped_times n (written (47 ∷ []) t) ≡ 47 ∷ kept (pieces 47 t) n
 after-slash t n h = path-stays [] t n h
     ∙ ap (λ l. l ++ kept (pieces 47 t) n) (times-small (taken (pieces 47 t) n) (47 ∷ []) refl (omega arith))
-
--- after the first segment, which stays or leaves its slash
-pub bottom-times : (n : ℕ) (s : List ℕ) → lacks 47 s ≡ true → 0 < n → 47 ∷ [] ≡ popped_times n (s ++ 47 ∷ [])
-bottom-times zero s h l = absurd (omega arith)
-bottom-times (suc n) s h l =
-    sym (ap (popped_times n) (popped-output s ∙ ap (λ o. o ++ 47 ∷ []) (without_last-all s h)) ∙ times-small n (47 ∷ []) refl (omega arith))
 
 -- ---- a path in two parts
 taken-append : (ss : List (List ℕ)) (p : List ℕ) (ps : List (List ℕ)) (n : ℕ)

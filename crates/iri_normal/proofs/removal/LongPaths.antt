@@ -1,20 +1,21 @@
 -- A long path in parts.
 use Rattle.iri_normal.proofs.Common.{unwrap_or, length-take-le, take-append-drop, count_by, ◌==◌, MatchOption, slice_index, IsUtf8, is_byte}
 use Rattle.iri_normal.proofs.Common.{Tests, path_char, is_path, before, after, lacks, delimited, both, joined, eqb-true, or_parts, or-true}
-use Rattle.iri_normal.proofs.Common.{is_empty, onto, pieces, more_pieces, pieces_cut, pct, pct_delimiter, slash, dots, is_two_dots}
+use Rattle.iri_normal.proofs.Common.{is_empty, onto, pieces, more_pieces, pieces_cut, dots, is_two_dots}
 use Rattle.iri_normal.proofs.Common.{is_dot_segment, any_dot_segment, has_dot_segment, kept, taken, in_form, ends_at_slash, popped}
 use Rattle.iri_normal.proofs.Common.{popped_times, written, written_segments, nothing_over, ◌≡◌, ℕ, zero, suc, ◌+◌, ◌-◌, ◌<◌, ◌≤◌, Bool}
 use Rattle.iri_normal.proofs.Common.{true, false, cond, not, ◌&&◌, ◌||◌, List, [], ◌∷◌, ◌++◌, Option, Some, None, refl, sym, ◌∙◌, ap, subst}
 use Rattle.iri_normal.proofs.Common.{arith, append_assoc, length, take, drop, append-nil}
 use Rattle.iri_grammar.proofs.authorities.AuthorityTexts.{text_over-utf8}
 use Rattle.iri_grammar.proofs.splits.FirstBytes.{found}
-use Rattle.iri_normal.proofs.segments.Slashes.{first_whole, rest-ends, slash-ends, take-ends}
-use Rattle.iri_normal.proofs.removal.KeptSegments.{bottom-times, kept-ends, kept-two, path-stays, taken-two}
-use Rattle.iri_normal.proofs.removal.WrittenPaths.{pct_nil, form-append, form-nil}
+use Rattle.iri_normal.proofs.segments.Slashes.{EndSlash, end_slash, first_whole, rest-ends, slash-ends, take-ends}
+use Rattle.iri_normal.proofs.removal.KeptSegments.{kept-ends, kept-two, stays-after, taken-two}
+use Rattle.iri_normal.proofs.removal.WrittenPaths.{form-append, form-nil}
 use Rattle.iri_normal.proofs.segments.DotKinds.{nothing-is_no_dot, pieces-some}
 use Rattle.iri_normal.proofs.targets.Targets.{parts_over}
 use Rattle.iri_normal.proofs.targets.CutTexts.{text_over-cut}
-use Rattle.iri_normal.proofs.removal.Buffers.{left-nothing, popped-ends, written-dot, written-dots, written-nothing, written-two}
+use Rattle.iri_normal.proofs.removal.Buffers.{left-nothing, popped-ends, popped-path, written-dot, written-dots, written-nothing, written-parts}
+use Rattle.iri_normal.proofs.removal.Buffers.{written-plain, written-two}
 use Rattle.iri_normal.specs.inside.NextDots.{IsCut, IsNext}
 use Rattle.memchr.specs.Find.{IsFirstByte}
 use Rattle.std.proofs.Common.{ap₂}
@@ -121,6 +122,10 @@ written-first t r e h =
     ap (written_segments []) (pieces_cut 47 t ∙ ap (λ o. before 47 t ∷ more_pieces 47 o) e)
     ∙ subst (λ qs. written_segments [] (before 47 t ∷ qs) ≡ written_segments (before 47 t ++ 47 ∷ []) qs) (sym ps.whole) (rw h refl)
 
+pub from-first : (t r f : List ℕ) → after 47 t ≡ Some r → f ≡ before 47 t ++ 47 ∷ [] → is_dot_segment (before 47 t) ≡ false
+    → written f r ≡ written [] t
+from-first t r f e q h = ap (λ l. written l r) q ∙ sym (written-first t r e h)
+
 pub no-slash : (t : List ℕ) → after 47 t ≡ None → (ends_at_slash t && not (is_empty t)) ≡ false
 no-slash [] e = refl
 no-slash (x ∷ []) e = elim (x == 47) as (λ b. cond b (Some []) (after 47 []) ≡ None → (b && true) ≡ false) [ true ↦ λ k. cc | false ↦ λ _. refl ] e
@@ -181,24 +186,38 @@ times-ends : (n : ℕ) (b : List ℕ) → ends_at_slash b ≡ true → ends_at_s
 times-ends zero b h = h
 times-ends (suc n) b h = times-ends n (popped b) (popped-ends b)
 
--- the first segment, what stays of the others, and of what follows
-pub form-three : (s : Tests) (normal : Bool) (t r m : List ℕ) (i k : ℕ) → after 47 t ≡ Some r → is_dot_segment (before 47 t) ≡ false
-    → (is_empty m || (ends_at_slash t && not (is_empty t))) ≡ true → k ≡ taken (pieces 47 m) 0 → i ≡ taken (pieces 47 r) k
-    → in_form s normal (popped_times i (before 47 t ++ 47 ∷ [])) ++ (in_form s normal (kept (pieces 47 r) k) ++ in_form s normal (kept (pieces 47 m) 0))
-    ≡ in_form s normal (written (written [] t) m)
-form-three s normal t r m i k e h c p q =
-    let b = before 47 t ++ 47 ∷ [] in
-    let x = kept (pieces 47 r) k in
+-- a directory isn't empty, and ends with a slash
+pub directory-end : (d : List ℕ) → (ends_at_slash d && not (is_empty d)) ≡ true → EndSlash d
+directory-end [] h = cc
+directory-end (x ∷ xs) h = end_slash (x ∷ xs) (both (ends_at_slash (x ∷ xs)) true h).0 (omega arith)
+
+pub directory-ends : (d : List ℕ) → (ends_at_slash d && not (is_empty d)) ≡ true → ends_at_slash d ≡ true
+directory-ends d h = (both (ends_at_slash d) (not (is_empty d)) h).0
+
+pub segment-directory : (s : List ℕ) → (ends_at_slash (s ++ 47 ∷ []) && not (is_empty (s ++ 47 ∷ []))) ≡ true
+segment-directory [] = refl
+segment-directory (x ∷ xs) = ap (λ b. b && true) (slash-ends (x ∷ xs))
+
+pub times-path : (s : Tests) (n : ℕ) (d : List ℕ) → is_path s d ≡ true → ends_at_slash d ≡ true → is_path s (popped_times n d) ≡ true
+times-path s zero d h e = h
+times-path s (suc n) d h e = times-path s n (popped d) (popped-path s d h e) (popped-ends d)
+
+-- what stays of a directory, of what follows it, and of what follows that
+pub form-three : (s : Tests) (normal : Bool) (d t m : List ℕ) (i k : ℕ) → (ends_at_slash d && not (is_empty d)) ≡ true
+    → (is_empty m || ends_at_slash t) ≡ true → k ≡ taken (pieces 47 m) 0 → i ≡ taken (pieces 47 t) k
+    → in_form s normal (popped_times i d) ++ (in_form s normal (kept (pieces 47 t) k) ++ in_form s normal (kept (pieces 47 m) 0))
+    ≡ in_form s normal (written (written d t) m)
+form-three s normal d t m i k h c p q =
+    let x = kept (pieces 47 t) k in
     let y = kept (pieces 47 m) 0 in
-    let cut = more-ends t m r e c in
-    let all : written (written [] t) m ≡ popped_times (taken (pieces 47 (r ++ m)) 0) b ++ kept (pieces 47 (r ++ m)) 0 =
-    ap (λ l. written l m) (written-first t r e h) ∙ (written-more b r m cut ∙ path-stays (before 47 t) (r ++ m) 0 (or-true (ends_at_slash (r ++ m)))) in
-    let parts : popped_times (taken (pieces 47 (r ++ m)) 0) b ++ kept (pieces 47 (r ++ m)) 0 ≡ popped_times i b ++ (x ++ y) =
-    ap₂ (λ n l. popped_times n b ++ l) (taken-more r m cut ∙ (ap (taken (pieces 47 r)) (sym p) ∙ sym q))
-    (kept-more r m cut ∙ ap (λ n. kept (pieces 47 r) n ++ y) (sym p)) in
+    let all : written (written d t) m ≡ popped_times (taken (pieces 47 (t ++ m)) 0) d ++ kept (pieces 47 (t ++ m)) 0 =
+    written-more d t m c ∙ stays-after d (t ++ m) 0 (directory-end d h) (or-true (ends_at_slash (t ++ m))) in
+    let parts : popped_times (taken (pieces 47 (t ++ m)) 0) d ++ kept (pieces 47 (t ++ m)) 0 ≡ popped_times i d ++ (x ++ y) =
+    ap₂ (λ n l. popped_times n d ++ l) (taken-more t m c ∙ (ap (taken (pieces 47 t)) (sym p) ∙ sym q))
+    (kept-more t m c ∙ ap (λ n. kept (pieces 47 t) n ++ y) (sym p)) in
     sym (ap (in_form s normal) (all ∙ parts)
-    ∙ (form-append s normal (popped_times i b) (x ++ y) (times-ends i b (slash-ends (before 47 t)))
-    ∙ ap (λ l. in_form s normal (popped_times i b) ++ l) (form-kept s normal r m k p cut)))
+    ∙ (form-append s normal (popped_times i d) (x ++ y) (times-ends i d (directory-ends d h))
+    ∙ ap (λ l. in_form s normal (popped_times i d) ++ l) (form-kept s normal t m k p c)))
   where
     form-kept : (s : Tests) (normal : Bool) (r m : List ℕ) (k : ℕ) → k ≡ taken (pieces 47 m) 0 → (is_empty m || ends_at_slash r) ≡ true
         → in_form s normal (kept (pieces 47 r) k ++ kept (pieces 47 m) 0) ≡ in_form s normal (kept (pieces 47 r) k) ++ in_form s normal (kept (pieces 47 m) 0)
@@ -217,18 +236,6 @@ form-two s normal t a b n k h r =
     ∙ (ap (in_form s normal) (kept-two a b n h.ends ∙ ap (λ m. kept (pieces 47 a) m ++ kept (pieces 47 b) n) (sym r))
     ∙ form-append s normal (kept (pieces 47 a) k) (kept (pieces 47 b) n) (kept-ends a k h.ends)))
 
--- the slash of the first segment
-form-slash : (s : Tests) (normal : Bool) (a : List ℕ) → in_form s normal a ++ 47 ∷ [] ≡ in_form s normal (a ++ 47 ∷ [])
-form-slash s true a = sym (pct_delimiter s 47 a [] slash ∙ ap (λ l. pct s a ++ 47 ∷ l) (pct_nil s))
-form-slash s false a = refl
-
-pub form-gone : (s : Tests) (normal : Bool) (a : List ℕ) (n : ℕ) → lacks 47 a ≡ true → 0 < n
-    → 47 ∷ [] ≡ in_form s normal (popped_times n (a ++ 47 ∷ []))
-form-gone s normal a n l h = (sym (ap (λ l. l ++ 47 ∷ []) (form-nil s normal)) ∙ form-slash s normal []) ∙ ap (in_form s normal) (bottom-times n a l h)
-
-pub form-first : (s : Tests) (normal : Bool) (a : List ℕ) (n : ℕ) → n ≡ 0 → in_form s normal a ++ 47 ∷ [] ≡ in_form s normal (popped_times n (a ++ 47 ∷ []))
-form-first s normal a n z = form-slash s normal a ∙ ap (λ k. in_form s normal (popped_times k (a ++ 47 ∷ []))) (sym z)
-
 -- ---- the two pieces of a path
 pub dots-base : (f p g : List ℕ) → (is_empty p || ends_at_slash f) ≡ true → written [] g ≡ written [] f → written (written [] g) p ≡ dots (f ++ p)
 dots-base f p g c h = ap (λ w. written w p) h ∙ (written-more [] f p c ∙ written-dots (f ++ p))
@@ -238,6 +245,17 @@ pub dots-reference : (f p g q : List ℕ) → (is_empty p || ends_at_slash f) �
 dots-reference f p g q c z h k =
     written-nothing (written [] q) ∙ (k ∙ (ap (λ w. written w p) (sym (written-nothing []) ∙ (ap (written []) (sym (nil_from_length g z)) ∙ h))
     ∙ (written-more [] f p c ∙ written-dots (f ++ p))))
+
+pub directory-of : (f p : List ℕ) → (is_empty p || ends_at_slash f) ≡ true → is_empty f ≡ false → is_empty p ≡ false
+    → (ends_at_slash f && not (is_empty f)) ≡ true
+directory-of [] p c e n = cc
+directory-of (x ∷ xs) [] c e n = cc
+directory-of (x ∷ xs) (y ∷ ys) c e n = ap (λ b. b && true) c
+
+pub dots-directory : (f p : List ℕ) → (is_empty p || ends_at_slash f) ≡ true → has_dot_segment f ≡ false
+    → written (written f p) [] ≡ dots (f ++ p)
+dots-directory f p c d =
+    written-nothing (written f p) ∙ (ap (λ b. written b p) (sym (written-plain [] f d)) ∙ written-parts f p c)
 
 -- what follows the base's piece follows a segment of what is left of it
 pub cut-after : (f p g : List ℕ) → (is_empty p || ends_at_slash f) ≡ true → (ends_at_slash f ≡ true → ends_at_slash g ≡ true) → 0 < length g

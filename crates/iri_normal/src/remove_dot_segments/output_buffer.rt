@@ -1,21 +1,22 @@
 // The output buffer of dot removal: the segments that stay so far, each with its slash.
-ghost use Rattle.std.specs.Prelude.{◌≡◌, ◌<◌, ◌≤◌, ◌+◌, ◌++◌, ◌∷◌, ◌||◌, ◌==◌, length, take, false, true};
+ghost use Rattle.std.specs.Prelude.{◌≡◌, ◌<◌, ◌≤◌, ◌+◌, ◌++◌, ◌∷◌, ◌||◌, ◌==◌, [], length, take, false, true};
 ghost use Rattle.memchr.specs.Find.{IsLastByte, is_byte};
 ghost use Rattle.iri_grammar.specs.Characters.{slash};
 ghost use Rattle.iri_grammar.specs.Parts.{is_empty};
 ghost use Rattle.iri_grammar.specs.Pieces.{pieces};
 ghost use Rattle.iri_normal.specs.DotRemoval.{dots};
+ghost use Rattle.iri_normal.specs.Dots.{has_dot_segment};
 ghost use Rattle.iri_normal.specs.inside.Kept.{kept};
 ghost use Rattle.iri_normal.specs.Target.{ends_at_slash};
 ghost use Rattle.iri_normal.specs.inside.Written.{left, popped, popped_times, written};
 
 use crate::dots::next_dots;
 
-// How many bytes a path has at most that is gathered.
-pub(crate) const SHORT: usize = 512;
+// How many bytes a path has at most that is gathered. The buffer is filled with zeros for each, so that a larger one costs more.
+pub(crate) const SHORT: usize = 128;
 
 fn append(buf: &mut [u8; SHORT], len: usize, piece: &[u8]) -> usize
-    requires room { len + length piece.now ≤ 512 }
+    requires room { len + length piece.now ≤ 128 }
     ensures len { result ≡ len + length piece.now }
     ensures text { take result buf.new ≡ take len buf.old ++ piece.now }
 {
@@ -40,7 +41,7 @@ fn rfind_near(bytes: &[u8]) -> Option<usize>
 
 // The last segment goes; where it is the first one, its slash stays.
 fn pop(buf: &mut [u8; SHORT], len: usize) -> usize
-    requires within { len ≤ 512 }
+    requires within { len ≤ 128 }
     requires ends { ends_at_slash (take len buf.old) ≡ true }
     ensures within { result ≤ len }
     ensures text { take result buf.new ≡ popped (take len buf.old) }
@@ -59,7 +60,7 @@ fn pop(buf: &mut [u8; SHORT], len: usize) -> usize
 
 // What a dot segment leaves.
 fn leave(buf: &mut [u8; SHORT], len: usize, two: bool) -> usize
-    requires within { len ≤ 512 }
+    requires within { len ≤ 128 }
     requires ends { ends_at_slash (take len buf.old) ≡ true }
     ensures within { result ≤ len }
     ensures text { take result buf.new ≡ left two (take len buf.old) }
@@ -70,7 +71,7 @@ fn leave(buf: &mut [u8; SHORT], len: usize, two: bool) -> usize
 // Puts a path after what is in the buffer, without its dot segments.
 #[inline(always)]
 fn put(buf: &mut [u8; SHORT], len: usize, path: &[u8]) -> usize
-    requires room { len + length path.now ≤ 512 }
+    requires room { len + length path.now ≤ 128 }
     requires ends { (is_empty path.now || ends_at_slash (take len buf.old)) ≡ true }
     ensures within { result ≤ len + length path.now }
     ensures text { take result buf.new ≡ written (take len buf.old) path.now }
@@ -87,7 +88,7 @@ fn put(buf: &mut [u8; SHORT], len: usize, path: &[u8]) -> usize
 
 // So many times the last segment goes. Of the first one the slash stays.
 fn pop_times(buf: &mut [u8; SHORT], len: usize, count: usize) -> usize
-    requires within { len ≤ 512 }
+    requires within { len ≤ 128 }
     requires ends { (ends_at_slash (take len buf.old) || count == 0) ≡ true }
     ensures within { result ≤ len }
     ensures text { take result buf.new ≡ popped_times count (take len buf.old) }
@@ -101,14 +102,30 @@ fn pop_times(buf: &mut [u8; SHORT], len: usize, count: usize) -> usize
     end
 }
 
+// The same of an empty buffer. `plain` says that the path has no dot segment.
+fn put_first(buf: &mut [u8; SHORT], path: &[u8], plain: bool) -> usize
+    requires short { length path.now ≤ 128 }
+    requires plain { plain ≡ true → has_dot_segment path.now ≡ false }
+    ensures within { result ≤ length path.now }
+    ensures text { take result buf.new ≡ written [] path.now }
+{
+    if plain {
+        append(buf, 0, path)
+    } else {
+        put(buf, 0, path)
+    }
+}
+
 // Puts a short path in two pieces, cut where a segment ends or with nothing after the cut, without its dot segments.
-pub(crate) fn put_path(buf: &mut [u8; SHORT], base: &[u8], reference: &[u8]) -> usize
+// `plain` says that the first piece has none.
+pub(crate) fn put_path(buf: &mut [u8; SHORT], base: &[u8], reference: &[u8], plain: bool) -> usize
     requires cut { (is_empty reference.now || ends_at_slash base.now) ≡ true }
-    requires short { length base.now + length reference.now ≤ 512 }
-    ensures within { result ≤ 512 }
+    requires short { length base.now + length reference.now ≤ 128 }
+    requires plain { plain ≡ true → has_dot_segment base.now ≡ false }
+    ensures within { result ≤ 128 }
     ensures text { take result buf.new ≡ dots (base.now ++ reference.now) }
 {
-    let first = put(buf, 0, base);
+    let first = put_first(buf, base, plain);
     put(buf, first, reference)
 }
 
@@ -116,8 +133,8 @@ pub(crate) fn put_path(buf: &mut [u8; SHORT], base: &[u8], reference: &[u8]) -> 
 // no dot segment takes away.
 pub(crate) fn put_kept(buf: &mut [u8; SHORT], text: &[u8], count: usize) -> usize
     requires ends { (ends_at_slash text.now || count == 0) ≡ true }
-    requires short { length text.now < 512 }
-    ensures within { (1 ≤ result) × (result ≤ 512) }
+    requires short { length text.now < 128 }
+    ensures within { (1 ≤ result) × (result ≤ 128) }
     ensures text { take result buf.new ≡ slash ∷ kept (pieces slash text.now) count }
 {
     buf[0] = b'/';

@@ -1,18 +1,18 @@
 // A long path cut between its segments, and how many of them later ones take away.
-ghost use Rattle.std.specs.Prelude.{◌≡◌, ◌<◌, ◌≤◌, ◌+◌, ◌-◌, ◌^◌, ◌++◌, ℕ, [], MatchOption, cond, false, true, length, slice_index, count_by, take};
-ghost use Rattle.memchr.specs.Find.{is_byte};
+ghost use Rattle.std.specs.Prelude.{◌≡◌, ◌<◌, ◌≤◌, ◌+◌, ◌-◌, ◌^◌, ◌++◌, ◌∷◌, ℕ, [], MatchOption, None, Some, cond, false, true, length, slice_index, count_by, take};
+ghost use Rattle.memchr.specs.Find.{IsLastByte, is_byte};
 ghost use Rattle.iri_grammar.specs.Characters.{slash};
 ghost use Rattle.iri_grammar.specs.Components.{is_path};
-ghost use Rattle.iri_grammar.specs.Cut.{before, lacks};
+ghost use Rattle.iri_grammar.specs.Cut.{after, before, lacks};
 ghost use Rattle.iri_grammar.specs.Pieces.{pieces};
 ghost use Rattle.iri_normal.specs.Dots.{is_dot_segment};
 ghost use Rattle.iri_normal.specs.inside.Kept.{taken};
 ghost use Rattle.iri_normal.specs.Target.{ends_at_slash};
 ghost use Rattle.iri_normal.specs.inside.NextDots.{IsCut};
-ghost use Rattle.iri_normal.specs.inside.Written.{written};
+ghost use Rattle.iri_normal.specs.inside.Written.{popped, popped_times, written};
 
 use crate::dots::{is_dot_segment, next_dots};
-use iri_grammar::cutting::cut;
+use iri_grammar::cutting::{cut, find};
 use iri_grammar::spec::Spec;
 use memchr::{memchr, memrchr};
 
@@ -73,6 +73,51 @@ pub(crate) fn without_first_dots<S: Spec>(text: &str) -> &str
             None => return "",
         }
     }
+}
+
+// A path up to and with its first slash, and what follows it. `None` where it has none.
+pub(crate) fn cut_first(text: &str) -> Option<(&str, &str)>
+    ensures { MatchOption result (after slash text.now ≡ None)
+        (λ parts. (after slash text.now ≡ Some parts.1.now) × (parts.0.now ≡ before slash text.now ++ slash ∷ [])) }
+{
+    match find(text, b'/') {
+        Some(i) => Some((&text[..i + 1], &text[i + 1..])),
+        None => None,
+    }
+}
+
+// Where the last slash before the last byte is.
+fn slash_before_last(path: &[u8]) -> Option<usize>
+    requires { 1 ≤ length path.now }
+    ensures { IsLastByte (is_byte 47) (take (length path.now - 1) path.now) result }
+{
+    memrchr(b'/', &path[..path.len() - 1])
+}
+
+// A directory without its last segment. Of the first one the slash stays.
+fn popped(directory: &str) -> &str
+    requires some { 1 ≤ length directory.now }
+    requires ends { ends_at_slash directory.now ≡ true }
+    ensures { result.now ≡ popped directory.now }
+{
+    match slash_before_last(directory.as_bytes()) {
+        Some(i) => &directory[..i + 1],
+        None => "/",
+    }
+}
+
+// So many times.
+pub(crate) fn popped_times(directory: &str, count: usize) -> &str
+    requires ends { ends_at_slash directory.now ≡ true }
+    ensures { result.now ≡ popped_times count directory.now }
+{
+    let mut rest = directory;
+    let mut left = count;
+    'pops: while left > 0 && rest.len() > 1 {
+        rest = popped(rest);
+        left -= 1;
+    }
+    rest
 }
 
 // Where the last slash of the first seven eighths is, or the first one before the end.

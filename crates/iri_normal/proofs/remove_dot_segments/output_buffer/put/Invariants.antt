@@ -4,7 +4,7 @@ use Rattle.iri_normal.proofs.remove_dot_segments.output_buffer.put.Given as goal
 -- the rest after the buffer gives what the path gives
 abbrev pub invariant-dots : goal.invariant-dots
 invariant-dots l = record {
-  long : length l.buf ≡ 512;
+  long : length l.buf ≡ 128;
   room : l.end + length l.rest ≤ l.fn.len + length l.fn.path;
   ends : (is_empty l.rest || ends_at_slash (take l.end l.buf)) ≡ true;
   text : written (take l.end l.buf) l.rest ≡ written (take l.fn.len l.fn.buf) l.fn.path;

@@ -1,0 +1,5 @@
+use Rattle.iri_normal.proofs.segments.CutPaths.{nothing-plain}
+use Rattle.iri_normal.proofs.merged_path.MergedPath.of.Goals as goal
+
+pub invariant_of-result-clause-noted : goal.invariant_of-result-clause-noted
+invariant_of-result-clause-noted c = λ _. nothing-plain
