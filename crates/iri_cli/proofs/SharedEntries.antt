@@ -7,7 +7,7 @@ use Rattle.std.proofs.lemmas.List.Elements.{Contains-append_right, Contains-push
 use Rattle.iri_register.specs.Commands.{Command, Add, Remove, Line, live, stays, targets, numbers, entries_of_lines}
 use Rattle.iri_register.specs.Entries.{Entry}
 use Rattle.iri_register.proofs.GroupLemmas.{same, is_same}
-use Rattle.iri_register.proofs.MapLemmas.{none_is_some, some_same}
+use Rattle.std.proofs.lemmas.Option.{none-some, same_Some}
 use Rattle.iri_cli.specs.register.Lines.{RegisterLine, adds, removes, finds, bad, unless_fault}
 
 -- ---- elements of lists
@@ -26,8 +26,8 @@ first_or y ys x h =
     (Contains-append_cases (y ∷ []) ys x h)
 
 pub got : {X : Type 0} (xs : List X) (i : ℕ) (x : X) → slice_get xs i ≡ Some x → Contains xs x
-got [] i x h = absurd (none_is_some h)
-got (y ∷ ys) zero x h = subst (λ z. Contains (y ∷ ys) z) (some_same h) (here y ys)
+got [] i x h = absurd (none-some _ h)
+got (y ∷ ys) zero x h = subst (λ z. Contains (y ∷ ys) z) (same_Some _ _ h) (here y ys)
 got (y ∷ ys) (suc i) x h = there y ys x (got ys i x h)
 
 mapped : {X Y : Type 0} (f : X → Y) (xs : List X) (x : X) → Contains xs x → Contains (map f xs) (f x)

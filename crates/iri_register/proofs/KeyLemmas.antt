@@ -6,9 +6,10 @@ use Rattle.iri_register.proofs.Common.{is_text, IsAt, flag_at, IsKept}
 use Rattle.std.proofs.Common.{not, take, Bool, cond, string_eq, nat_lt, slice_set, ⊎_elim, lt-ltb}
 use Rattle.std.specs.Prelude.{slice_index_or, OnOk, Result, Err}
 use Rattle.std.proofs.lemmas.Bool.{cases_lt}
+use Rattle.std.proofs.lemmas.Option.{none-some}
 use Rattle.std.specs.List.{position_or_len, swap_remove}
 use Rattle.indexmap.specs.IndexMap.{insert_entry, swap_remove_entry}
-use Rattle.iri_register.proofs.MapLemmas.{less_none, none_is_some}
+use Rattle.iri_register.proofs.MapLemmas.{less_none}
 use Rattle.iri_register.proofs.SlotLemmas.{at_within, apart_text, flag_false, flag_small, place_live, live_within, length_listed}
 use Rattle.iri_register.proofs.SlotLemmas.{insert_last}
 
@@ -16,7 +17,7 @@ use Rattle.iri_register.proofs.SlotLemmas.{insert_last}
 pub dead_at : (t : List ℕ) (es : List (String Global × Vec ℕ)) (i : ℕ) → IsAt t es i → place (entries_of es) t ≡ None → flag_at es i ≡ 0
 dead_at t es i h n =
     let small = flag_small es i in
-    ⊎_elim (λ y. omega arith) (λ y. let one : flag_at es i ≡ 1 = omega arith in absurd (none_is_some (sym n ∙ place_live t es i h one)))
+    ⊎_elim (λ y. omega arith) (λ y. let one : flag_at es i ≡ 1 = omega arith in absurd (none-some _ (sym n ∙ place_live t es i h one)))
     (cases_lt (flag_at es i) 1)
 
 none_among : (t : List ℕ) (es : List (String Global × Vec ℕ)) → AllByRecursion (λ y. is_text t y ≡ false) (keys_of es)
@@ -51,7 +52,7 @@ absent_live t (e ∷ es) h n = by (λ l m. absent_live t es l m) (is_live e) h n
     others : (length es ≡ length (filter is_live es) → place (entries_of es) t ≡ None → is_some (lookup (is_text t) es) ≡ false) → (b : Bool)
         → length es ≡ length (filter is_live es) → cond b (Some 1) (option_map (λ k. k + 1) (place (entries_of es) t)) ≡ None
         → is_some (cond b (Some e.1) (lookup (is_text t) es)) ≡ false
-    others r true l m = absurd (none_is_some (sym m))
+    others r true l m = absurd (none-some _ (sym m))
     others r false l m = r l (less_none (place (entries_of es) t) m)
 
     by : (length es ≡ length (filter is_live es) → place (entries_of es) t ≡ None → is_some (lookup (is_text t) es) ≡ false) → (b : Bool)

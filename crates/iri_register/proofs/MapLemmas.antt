@@ -3,6 +3,7 @@ use Rattle.iri_register.proofs.Common.{◌≡◌, ℕ, zero, suc, ◌+◌, ◌<�
 use Rattle.iri_register.proofs.Common.{position, String, Global, refl, sym, arith, Vec, keys_of, is_text, IsAt}
 use Rattle.std.proofs.Common.{Option}
 use Rattle.std.proofs.lemmas.List.Quantifiers.{position-Some}
+use Rattle.std.proofs.lemmas.Option.{none-some}
 
 at_from : (t : List ℕ) (es : List (String Global × Vec ℕ)) (i : ℕ) (d : String Global) → i < length (keys_of es)
     → is_text t (get_or (keys_of es) i d) ≡ true
@@ -12,17 +13,11 @@ at_from t (e ∷ es) zero d l here before = here
 at_from t (e ∷ es) (suc i) d l here before =
     (before 0 (omega arith), at_from t es i d (omega arith) here (λ k h. before (suc k) (omega arith)))
 
-pub none_is_some : {A : Type 0} {x : A} → None ≡ Some x → ⊥
-none_is_some e = cc
-
-pub some_same : {A : Type 0} {x y : A} → Some x ≡ Some y → x ≡ y
-some_same e = cc
-
 -- one more than no place is none
 pub less_none : (o : Option ℕ) → option_map (λ k. k + 1) o ≡ None → o ≡ None
 less_none None h = refl
-less_none (Some k) h = absurd (none_is_some (sym h))
+less_none (Some k) h = absurd (none-some _ (sym h))
 
 pub at_position : (t : List ℕ) (es : List (String Global × Vec ℕ)) (i : ℕ) → position (is_text t) (keys_of es) ≡ Some i → IsAt t es i
-at_position t [] i p = absurd (none_is_some p)
+at_position t [] i p = absurd (none-some _ p)
 at_position t (e ∷ es) i p = let s = position-Some (is_text t) (keys_of (e ∷ es)) i e.0 p in at_from t (e ∷ es) i e.0 s.0 s.1 s.2

@@ -2,6 +2,7 @@
 use Rattle.iri_percent.specs.declared.canon_mode.CanonMode.TheVariants.{Default}
 use Rattle.std.proofs.Common.{◌≡◌, ◌↔◌, ℕ, zero, suc, ◌+◌, List, [], ◌∷◌, true, false, not, cond, bytes_eq, Option, Some, None, option_map}
 use Rattle.std.proofs.Common.{slice_get, length, refl, sym, ◌∙◌, ap, subst, arith}
+use Rattle.std.proofs.lemmas.Option.{none-some, same_Some}
 use Rattle.std.specs.Prelude.{IsSome, IfOk, Result, Ok, Err}
 use Rattle.iri_grammar.specs.Classes.{Tests, IsSpec}
 use Rattle.iri_grammar.specs.Fault.{bytes_fault}
@@ -24,25 +25,25 @@ use Rattle.iri_register.specs.declared.added.Added.{Added}
 use Rattle.iri_register.specs.declared.added.Added.TheVariants.{New, Old}
 use Rattle.iri_register.specs.declared.error.RegisterError.{RegisterError}
 use Rattle.iri_register.proofs.GroupLemmas.{same, is_same, without, grouped, entries_grouped}
-use Rattle.iri_register.proofs.MapLemmas.{less_none, none_is_some, some_same}
+use Rattle.iri_register.proofs.MapLemmas.{less_none}
 
 -- ---- places
 
 one_less : (o : Option ℕ) (k : ℕ) → option_map (λ j. j + 1) o ≡ Some k → (j : ℕ) × (o ≡ Some j) × (k ≡ j + 1)
-one_less None k h = absurd (none_is_some h)
-one_less (Some j) k h = (j, refl, sym (some_same h))
+one_less None k h = absurd (none-some _ h)
+one_less (Some j) k h = (j, refl, sym (same_Some _ _ h))
 
 above_zero : (es : List Entry) (t : List ℕ) → place es t ≡ Some 0 → ⊥
-above_zero [] t h = none_is_some h
+above_zero [] t h = none-some _ h
 above_zero (e ∷ es) t h =
     elim (bytes_eq t e.target) as (λ b. cond b (Some 1) (option_map (λ j. j + 1) (place es t)) ≡ Some 0 → ⊥) [
-      | true ↦ λ m. let n : 1 ≡ 0 = some_same m in omega (arith, n)
+      | true ↦ λ m. let n : 1 ≡ 0 = same_Some _ _ m in omega (arith, n)
       | false ↦ λ m. let l = one_less (place es t) 0 m in omega (arith, l.2)
     ] h
 
 -- one place has one target
 pub one_target : (es : List Entry) (t u : List ℕ) (k : ℕ) → place es t ≡ Some k → place es u ≡ Some k → t ≡ u
-one_target [] t u k h i = absurd (none_is_some h)
+one_target [] t u k h i = absurd (none-some _ h)
 one_target (e ∷ es) t u k h i =
     elim (bytes_eq t e.target) as (λ b. bytes_eq t e.target ≡ b → cond b (Some 1) (option_map (λ j. j + 1) (place es t)) ≡ Some k → t ≡ u) [
       | true ↦ λ a m.
@@ -51,7 +52,7 @@ one_target (e ∷ es) t u k h i =
             | true ↦ λ c n. is_same t e.target a ∙ sym (is_same u e.target c)
             | false ↦ λ c n.
                 let l = one_less (place es u) k n in
-                let first : 1 ≡ k = some_same m in
+                let first : 1 ≡ k = same_Some _ _ m in
                 let zero_at : l.0 ≡ 0 = omega (arith, l.2, first) in
                 absurd (above_zero es u (l.1 ∙ ap Some zero_at))
           ] refl i
@@ -60,7 +61,7 @@ one_target (e ∷ es) t u k h i =
           → t ≡ u) [
             | true ↦ λ c n.
                 let l = one_less (place es t) k m in
-                let first : 1 ≡ k = some_same n in
+                let first : 1 ≡ k = same_Some _ _ n in
                 let zero_at : l.0 ≡ 0 = omega (arith, l.2, first) in
                 absurd (above_zero es t (l.1 ∙ ap Some zero_at))
             | false ↦ λ c n.
@@ -84,7 +85,7 @@ placed_after e es t h =
 
 -- another target's entry stays where one target is taken out
 placed_without : (t u : List ℕ) → bytes_eq t u ≡ false → (es : List Entry) (k : ℕ) → place es u ≡ Some k → IsPlaced (without t es) u
-placed_without t u h [] k p = absurd (none_is_some p)
+placed_without t u h [] k p = absurd (none-some _ p)
 placed_without t u h (e ∷ es) k p =
     elim (bytes_eq u e.target) as (λ b. bytes_eq u e.target ≡ b → cond b (Some 1) (option_map (λ j. j + 1) (place es u)) ≡ Some k
     → IsPlaced (without t (e ∷ es)) u) [
@@ -102,8 +103,8 @@ placed_without t u h (e ∷ es) k p =
 
 -- each line has an entry
 placed_line : (ls : List Line) (i : ℕ) (l : Line) → slice_get ls i ≡ Some l → IsPlaced (grouped ls) l.target
-placed_line [] i l h = absurd (none_is_some h)
-placed_line (m ∷ ls) zero l h = subst (λ (x : Line). IsPlaced (grouped (m ∷ ls)) x.target) (some_same h) (1, rw (same m.target) refl)
+placed_line [] i l h = absurd (none-some _ h)
+placed_line (m ∷ ls) zero l h = subst (λ (x : Line). IsPlaced (grouped (m ∷ ls)) x.target) (same_Some _ _ h) (1, rw (same m.target) refl)
 placed_line (m ∷ ls) (suc i) l h =
     let rest = placed_line ls i l h in
     elim (bytes_eq m.target l.target) as (λ b. bytes_eq m.target l.target ≡ b → IsPlaced (grouped (m ∷ ls)) l.target) [
@@ -150,7 +151,7 @@ share_joined s cs base q r m n k b hq hr h =
 
 -- where the line stood already, and where it is new
 placed_old : (es : List Entry) (t : List ℕ) (n k : ℕ) → place es t ≡ Some k → place (added es t n) t ≡ Some k
-placed_old [] t n k h = absurd (none_is_some h)
+placed_old [] t n k h = absurd (none-some _ h)
 placed_old (e ∷ es) t n k h =
     elim (bytes_eq t e.target) as (λ b. bytes_eq t e.target ≡ b → cond b (Some 1) (option_map (λ j. j + 1) (place es t)) ≡ Some k
     → place (cond b (with_line e n ∷ es) (e ∷ added es t n)) t ≡ Some k) [

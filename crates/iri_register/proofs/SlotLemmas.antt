@@ -6,13 +6,14 @@ use Rattle.std.proofs.Common.{slice_get, true, Bool, false, cond, true≢false, 
 use Rattle.std.proofs.Common.{string_eq, Global, refl, sym, ◌∙◌, ap, subst, arith, take, not}
 use Rattle.std.specs.Bool.{◌==◌}
 use Rattle.std.proofs.lemmas.Bool.{eqb-true, false_from_ne_true}
+use Rattle.std.proofs.lemmas.Option.{none-some, same_Some}
 use Rattle.std.specs.Map.{values_of}
 use Rattle.indexmap.specs.IndexMap.{set_value_at, insert_entry}
 use Rattle.iri_register.specs.Entries.{with_line}
 use Rattle.iri_register.specs.inside.Slots.{flag, counted}
 use Rattle.iri_register.proofs.GroupLemmas.{is_same}
 use Rattle.iri_register.proofs.TreeLemmas.{level_total, by_same}
-use Rattle.iri_register.proofs.MapLemmas.{less_none, none_is_some, some_same}
+use Rattle.iri_register.proofs.MapLemmas.{less_none}
 
 -- ---- counts
 
@@ -122,7 +123,7 @@ removed_live t (e ∷ es) (suc i) w h f n =
 pub count_live : (t : List ℕ) (es : List (String Global × Vec ℕ)) (i : ℕ) (v : Vec ℕ) → IsAt t es i → flag_at es i ≡ 1
     → slice_get (values_of es) i ≡ Some v → line_count (entries_of es) t ≡ Some (length v.items)
 count_live t [] i v h f g = absurd h
-count_live t (e ∷ es) zero v h f g = rw (flag_true e f, h) (ap (λ (u : Vec ℕ). Some (length u.items)) (some_same g))
+count_live t (e ∷ es) zero v h f g = rw (flag_true e f, h) (ap (λ (u : Vec ℕ). Some (length u.items)) (same_Some _ _ g))
 count_live t (e ∷ es) (suc i) v h f g =
     let rest = count_live t es i v h.1 f g in
     elim (is_live e) as (λ b. line_count (map entry_of (cond b (e ∷ filter is_live es) (filter is_live es))) t ≡ Some (length v.items)) [
@@ -134,7 +135,7 @@ pub count_none : (es : List Entry) (t : List ℕ) → place es t ≡ None → li
 count_none [] t h = refl
 count_none (e ∷ es) t h =
     elim (bytes_eq t e.target) as (λ b. cond b (Some 1) (option_map (λ k. k + 1) (place es t)) ≡ None → cond b (Some (length e.lines)) (line_count es t) ≡ None) [
-      | true ↦ λ m. absurd (none_is_some (sym m))
+      | true ↦ λ m. absurd (none-some _ (sym m))
       | false ↦ λ m. count_none es t (less_none (place es t) m)
     ] h
 
@@ -142,7 +143,7 @@ pub removed_none : (es : List Entry) (t : List ℕ) → place es t ≡ None → 
 removed_none [] t h = refl
 removed_none (e ∷ es) t h =
     elim (bytes_eq t e.target) as (λ b. cond b (Some 1) (option_map (λ k. k + 1) (place es t)) ≡ None → cond b es (e ∷ removed es t) ≡ e ∷ es) [
-      | true ↦ λ m. absurd (none_is_some (sym m))
+      | true ↦ λ m. absurd (none-some _ (sym m))
       | false ↦ λ m. ap (λ l. e ∷ l) (removed_none es t (less_none (place es t) m))
     ] h
 
@@ -179,8 +180,8 @@ live_less (e ∷ es) (suc i) w f n =
 
 pub flag_entry : (es : List (String Global × Vec ℕ)) (i : ℕ) (k : String Global) (v : Vec ℕ) → slice_get es i ≡ Some (k, v)
     → flag_at es i ≡ cond (has_lines v.items) 1 0
-flag_entry [] i k v h = absurd (none_is_some h)
-flag_entry (e ∷ es) zero k v h = ap (λ (p : String Global × Vec ℕ). cond (has_lines p.1.items) 1 0) (some_same h)
+flag_entry [] i k v h = absurd (none-some _ h)
+flag_entry (e ∷ es) zero k v h = ap (λ (p : String Global × Vec ℕ). cond (has_lines p.1.items) 1 0) (same_Some _ _ h)
 flag_entry (e ∷ es) (suc i) k v h = flag_entry es i k v h
 
 nonzero : (n : ℕ) → 0 < n → (n == 0) ≡ false
@@ -327,7 +328,7 @@ pub added_live : (t : List ℕ) (n : ℕ) (es : List (String Global × Vec ℕ))
 added_live t n [] i v w h f g e l = absurd h
 added_live t n (x ∷ es) zero v w h f g e l =
     rw (l, flag_true x f, h) (ap (λ (ls : List ℕ). record { target = string_bytes x.0; lines = ls } ∷ entries_of es) (e
-    ∙ ap (λ (u : Vec ℕ). u.items ++ n ∷ []) (sym (some_same g))))
+    ∙ ap (λ (u : Vec ℕ). u.items ++ n ∷ []) (sym (same_Some _ _ g))))
 added_live t n (x ∷ es) (suc i) v w h f g e l =
     let rest = added_live t n es i v w h.1 f g e l in
     elim (is_live x) as (λ b. map entry_of (cond b (x ∷ filter is_live (set_value_at es i w)) (filter is_live (set_value_at es i w)))
@@ -352,7 +353,7 @@ first_as k w v es e = first_shown k w es ∙ (λ j. shown k (e j) (entries_of es
 pub same_live : (es : List (String Global × Vec ℕ)) (i : ℕ) (v w : Vec ℕ) → slice_get (values_of es) i ≡ Some v → w.items ≡ v.items
     → entries_of (set_value_at es i w) ≡ entries_of es
 same_live [] i v w g e = refl
-same_live (x ∷ es) zero v w g e = first_as x.0 w x.1 es (e ∙ ap (λ (u : Vec ℕ). u.items) (sym (some_same g)))
+same_live (x ∷ es) zero v w g e = first_as x.0 w x.1 es (e ∙ ap (λ (u : Vec ℕ). u.items) (sym (same_Some _ _ g)))
 same_live (x ∷ es) (suc i) v w g e =
     let rest = same_live es i v w g e in
     elim (is_live x) as (λ b. map entry_of (cond b (x ∷ filter is_live (set_value_at es i w)) (filter is_live (set_value_at es i w)))
@@ -364,7 +365,7 @@ same_live (x ∷ es) (suc i) v w g e =
 pub value_live : (es : List (String Global × Vec ℕ)) (i : ℕ) (v : Vec ℕ) → flag_at es i ≡ 1 → slice_get (values_of es) i ≡ Some v
     → has_lines v.items ≡ true
 value_live [] i v f g = absurd (zero_one f)
-value_live (e ∷ es) zero v f g = ap (λ (u : Vec ℕ). has_lines u.items) (sym (some_same g)) ∙ flag_true e f
+value_live (e ∷ es) zero v f g = ap (λ (u : Vec ℕ). has_lines u.items) (sym (same_Some _ _ g)) ∙ flag_true e f
 value_live (e ∷ es) (suc i) v f g = value_live es i v f g
 
 pub has_last : (ls : List ℕ) (n : ℕ) → has_lines (ls ++ n ∷ []) ≡ true
@@ -482,7 +483,7 @@ added_last [] t n h = refl
 added_last (e ∷ es) t n h =
     elim (bytes_eq t e.target) as (λ b. cond b (Some 1) (option_map (λ k. k + 1) (place es t)) ≡ None
     → cond b (with_line e n ∷ es) (e ∷ added es t n) ≡ e ∷ (es ++ record { target = t; lines = n ∷ [] } ∷ [])) [
-      | true ↦ λ m. absurd (none_is_some (sym m))
+      | true ↦ λ m. absurd (none-some _ (sym m))
       | false ↦ λ m. ap (λ l. e ∷ l) (added_last es t n (less_none (place es t) m))
     ] h
 
