@@ -10,6 +10,7 @@ pub use Rattle.std.specs.Prelude.{Ok}
 pub use Rattle.iri_normal.specs.Resolver.{base_text}
 pub use Rattle.iri_register.specs.Entries.{added, removed, Entry, place, entry_at, line_count}
 pub use Rattle.iri_register.specs.Listed.{entry_of, entries_of, is_live, has_lines}
-pub use Rattle.iri_register.specs.inside.Counted.{total, IsTree, width}
+pub use Rattle.iri_register.specs.declared.moves.Moves.{Moves}
+pub use Rattle.iri_register.specs.inside.Moved.{moved, IsBlocked}
 pub use Rattle.iri_register.specs.inside.Places.{is_text, IsAt}
-pub use Rattle.iri_register.specs.inside.Slots.{flag_at, IsKept}
+pub use Rattle.iri_register.specs.inside.Slots.{flag_at, gaps, IsKept}

@@ -2,7 +2,7 @@
 use Rattle.iri_register.proofs.Common.{bytes_eq, ◌≡◌, ℕ, zero, suc, ◌+◌, ◌-◌, ◌<◌, List, [], ◌∷◌, ◌++◌, length, map, filter, true, false}
 use Rattle.iri_register.proofs.Common.{Some, None, is_some, option_map, position, String, string_bytes, Global, refl, sym, ◌∙◌, ap, arith}
 use Rattle.iri_register.proofs.Common.{Vec, Ok, keys_of, lookup, IsDistinct, AllByRecursion, Entry, place, entry_of, entries_of, is_live}
-use Rattle.iri_register.proofs.Common.{is_text, IsAt, flag_at, IsKept}
+use Rattle.iri_register.proofs.Common.{is_text, IsAt, flag_at, gaps, Moves, IsKept}
 use Rattle.std.proofs.Common.{not, take, Bool, cond, string_eq, nat_lt, slice_set, ⊎_elim, lt-ltb}
 use Rattle.std.specs.Prelude.{slice_index_or, OnOk, Result, Err}
 use Rattle.std.proofs.lemmas.Bool.{cases_lt}
@@ -10,8 +10,8 @@ use Rattle.std.proofs.lemmas.Option.{none-some}
 use Rattle.std.specs.List.{position_or_len, swap_remove}
 use Rattle.indexmap.specs.IndexMap.{insert_entry, swap_remove_entry}
 use Rattle.iri_register.proofs.MapLemmas.{less_none}
-use Rattle.iri_register.proofs.SlotLemmas.{at_within, apart_text, flag_false, flag_small, place_live, live_within, length_listed}
-use Rattle.iri_register.proofs.SlotLemmas.{insert_last}
+use Rattle.iri_register.proofs.SlotLemmas.{at_within, apart_text, flag_false, flag_small, place_live, live_within}
+use Rattle.iri_register.proofs.SlotLemmas.{insert_last, kept_as}
 
 -- a target that has no entry stands in a slot that was given up
 pub dead_at : (t : List ℕ) (es : List (String Global × Vec ℕ)) (i : ℕ) → IsAt t es i → place (entries_of es) t ≡ None → flag_at es i ≡ 0
@@ -142,22 +142,17 @@ entries_dead (e ∷ es) (suc i) x f n =
       | false ↦ rest
     ]
 
-flag_dead : (es : List (String Global × Vec ℕ)) (i k : ℕ) (x : String Global × Vec ℕ) → flag_at es i ≡ 0 → is_live x ≡ false
-    → flag_at (slice_set es i x) k ≡ flag_at es k
-flag_dead [] i k x f n = refl
-flag_dead (e ∷ es) zero zero x f n = ap (λ b. cond b 1 0) n ∙ sym f
-flag_dead (e ∷ es) zero (suc k) x f n = refl
-flag_dead (e ∷ es) (suc i) zero x f n = refl
-flag_dead (e ∷ es) (suc i) (suc k) x f n = flag_dead es i k x f n
+gaps_dead : (es : List (String Global × Vec ℕ)) (i k : ℕ) (x : String Global × Vec ℕ) → flag_at es i ≡ 0 → is_live x ≡ false
+    → gaps (slice_set es i x) k ≡ gaps es k
+gaps_dead [] i k x f n = refl
+gaps_dead (e ∷ es) zero zero x f n = refl
+gaps_dead (e ∷ es) zero (suc k) x f n = rw (n, flag_false e f) refl
+gaps_dead (e ∷ es) (suc i) zero x f n = refl
+gaps_dead (e ∷ es) (suc i) (suc k) x f n = ap (λ m. cond (is_live e) 0 1 + m) (gaps_dead es i k x f n)
 
-pub kept_dead : {es : List (String Global × Vec ℕ)} {ns : List ℕ} {room height live : ℕ} → IsKept es ns room height live → (i : ℕ)
-    (x : String Global × Vec ℕ) → flag_at es i ≡ 0 → is_live x ≡ false → IsKept (slice_set es i x) ns room height live
-kept_dead {es} {ns} {room} {height} {live} kept i x f n = record {
-  tree = kept.tree;
-  within = let l = length_slot es i x in omega (arith, l, kept.within);
-  flags = λ k b. kept.flags k b ∙ sym (flag_dead es i k x f n);
-  living = kept.living ∙ (sym (length_listed es) ∙ (ap length (sym (entries_dead es i x f n)) ∙ length_listed (slice_set es i x)));
-}
+pub kept_dead : {es : List (String Global × Vec ℕ)} {m : Moves} {live : ℕ} → IsKept es m live → (i : ℕ) (x : String Global × Vec ℕ)
+    → flag_at es i ≡ 0 → is_live x ≡ false → IsKept (slice_set es i x) m live
+kept_dead {es} kept i x f n = kept_as kept (slice_set es i x) (length_slot es i x) (λ k. gaps_dead es i k x f n)
 
 pub on_ok : {A E : Type 0} {P Q : Type 0} (r : Result A E) → OnOk r P → (P → Q) → OnOk r Q
 on_ok (Ok a) h f = f h

@@ -1,39 +1,61 @@
 -- What the slots say of the entries that were not taken out.
 use Rattle.iri_register.proofs.Common.{Vec, keys_of, lookup, IsDistinct, AllByRecursion, Entry, entry_at, place, added, removed, line_count}
-use Rattle.iri_register.proofs.Common.{entry_of, entries_of, has_lines, is_live, total, IsTree, is_text, IsAt, flag_at, IsKept}
-use Rattle.std.proofs.Common.{bytes_eq, ◌≡◌, ◌≢◌, ℕ, zero, suc, ◌+◌, ◌-◌, ◌<◌, ◌≤◌, List, [], ◌∷◌, ◌++◌, length, map, filter, get_or}
+use Rattle.iri_register.proofs.Common.{entry_of, entries_of, has_lines, is_live, Moves, moved, IsBlocked, is_text, IsAt, flag_at, gaps, IsKept}
+use Rattle.std.proofs.Common.{bytes_eq, ◌≡◌, ◌≢◌, ℕ, zero, suc, ◌+◌, ◌-◌, ◌<◌, ◌≤◌, List, [], ◌∷◌, ◌++◌, length, map, filter}
 use Rattle.std.proofs.Common.{slice_get, true, Bool, false, cond, true≢false, Some, None, is_some, option_map, String, string_bytes}
-use Rattle.std.proofs.Common.{string_eq, Global, refl, sym, ◌∙◌, ap, subst, arith, take, not}
+use Rattle.std.proofs.Common.{string_eq, Global, refl, sym, ◌∙◌, ap, subst, arith, not, ⊎_elim}
 use Rattle.std.specs.Bool.{◌==◌}
-use Rattle.std.proofs.lemmas.Bool.{eqb-true, false_from_ne_true}
+use Rattle.std.proofs.lemmas.Bool.{cases_lt, eqb-true, false_from_ne_true}
 use Rattle.std.proofs.lemmas.Option.{none-some, same_Some}
 use Rattle.std.specs.Map.{values_of}
 use Rattle.indexmap.specs.IndexMap.{set_value_at, insert_entry}
 use Rattle.iri_register.specs.Entries.{with_line}
-use Rattle.iri_register.specs.inside.Slots.{flag, counted}
+use Rattle.iri_register.specs.inside.Slots.{flag}
 use Rattle.iri_register.proofs.GroupLemmas.{is_same}
-use Rattle.iri_register.proofs.TreeLemmas.{level_total, by_same}
 use Rattle.iri_register.proofs.MapLemmas.{less_none}
 
--- ---- counts
+-- ---- gaps
 
-counted_zero : (es : List (String Global × Vec ℕ)) → counted es 0 ≡ 0
-counted_zero [] = refl
-counted_zero (e ∷ es) = refl
+pub gaps_small : (es : List (String Global × Vec ℕ)) (n : ℕ) → gaps es n ≤ n
+gaps_small [] n = omega arith
+gaps_small (e ∷ es) zero = omega arith
+gaps_small (e ∷ es) (suc n) =
+    let rest = gaps_small es n in
+    elim (is_live e) as (λ b. cond b 0 1 + gaps es n ≤ suc n) [ true ↦ omega (arith, rest) | false ↦ omega (arith, rest) ]
 
-counted_step : (es : List (String Global × Vec ℕ)) (n : ℕ) → counted es (suc n) ≡ counted es n + flag_at es n
-counted_step [] n = refl
-counted_step (e ∷ es) zero = let z = counted_zero es in omega (arith, z)
-counted_step (e ∷ es) (suc n) = let rest = counted_step es n in omega (arith, rest)
+pub gaps_most : (es : List (String Global × Vec ℕ)) (n : ℕ) → gaps es n + length (filter is_live es) ≤ length es
+gaps_most [] n = omega arith
+gaps_most (e ∷ es) zero = let rest = gaps_most es zero in
+    elim (is_live e) as (λ b. ◌≤◌ (0 + length (cond b (e ∷ filter is_live es) (filter is_live es))) (suc (length es))) [
+      | true ↦ omega (arith, rest)
+      | false ↦ omega (arith, rest)
+    ]
+gaps_most (e ∷ es) (suc n) = let rest = gaps_most es n in
+    elim (is_live e) as (λ b. cond b 0 1 + gaps es n + length (cond b (e ∷ filter is_live es) (filter is_live es)) ≤ suc (length es)) [
+      | true ↦ omega (arith, rest)
+      | false ↦ omega (arith, rest)
+    ]
 
-pub total_counted : (ns : List ℕ) (es : List (String Global × Vec ℕ)) (room n : ℕ)
-    → ((k : ℕ) → k < room → get_or ns (room + k) 0 ≡ flag_at es k) → n ≤ room → total ns room n ≡ counted es n
-total_counted ns es room zero f h = sym (counted_zero es)
-total_counted ns es room (suc n) f h =
-    let rest = total_counted ns es room n f (omega arith) in
-    let here = f n (omega arith) in
-    let step = counted_step es n in
-    omega (arith, rest, here, step)
+pub gaps_all : (es : List (String Global × Vec ℕ)) (n : ℕ) → length es ≤ n → gaps es n + length (filter is_live es) ≡ length es
+gaps_all [] n h = refl
+gaps_all (e ∷ es) zero h = absurd (omega arith)
+gaps_all (e ∷ es) (suc n) h =
+    let rest = gaps_all es n (omega arith) in
+    elim (is_live e) as (λ b. cond b 0 1 + gaps es n + length (cond b (e ∷ filter is_live es) (filter is_live es)) ≡ suc (length es)) [
+      | true ↦ omega (arith, rest)
+      | false ↦ omega (arith, rest)
+    ]
+
+pub gaps_next : (es : List (String Global × Vec ℕ)) (n : ℕ) → n < length es → gaps es (suc n) + flag_at es n ≡ gaps es n + 1
+gaps_next [] n h = absurd (omega arith)
+gaps_next (e ∷ es) zero h =
+    let z = none es in
+    elim (is_live e) as (λ b. cond b 0 1 + gaps es 0 + cond b 1 0 ≡ 0 + 1) [ true ↦ omega (arith, z) | false ↦ omega (arith, z) ]
+  where
+    none : (es : List (String Global × Vec ℕ)) → gaps es 0 ≡ 0
+    none [] = refl
+    none (e ∷ es) = refl
+gaps_next (e ∷ es) (suc n) h = let rest = gaps_next es n (omega arith) in omega (arith, rest)
 
 zero_one : ◌≡◌ {A = ℕ} 0 1 → ⊥
 zero_one h = omega (arith, h)
@@ -44,16 +66,6 @@ flag_true e h = elim (is_live e) as (λ b. ◌≡◌ {A = ℕ} (cond b 1 0) 1 �
 pub flag_false : (e : String Global × Vec ℕ) → flag e ≡ 0 → is_live e ≡ false
 flag_false e h = elim (is_live e) as (λ b. ◌≡◌ {A = ℕ} (cond b 1 0) 0 → b ≡ false) [ true ↦ λ m. absurd (zero_one (sym m)) | false ↦ λ m. refl ] h
 
-pub counted_all : (es : List (String Global × Vec ℕ)) (n : ℕ) → length es ≤ n → counted es n ≡ length (filter is_live es)
-counted_all [] n h = refl
-counted_all (e ∷ es) zero h = absurd (omega arith)
-counted_all (e ∷ es) (suc n) h =
-    let rest = counted_all es n (omega arith) in
-    elim (is_live e) as (λ b. cond b 1 0 + counted es n ≡ length (cond b (e ∷ filter is_live es) (filter is_live es))) [
-      | true ↦ omega (arith, rest)
-      | false ↦ omega (arith, rest)
-    ]
-
 -- ---- places
 
 pub at_within : (t : List ℕ) (es : List (String Global × Vec ℕ)) (i : ℕ) → IsAt t es i → i < length es
@@ -62,14 +74,16 @@ at_within t (e ∷ es) zero h = omega arith
 at_within t (e ∷ es) (suc i) h = let rest = at_within t es i h.1 in omega arith
 
 pub place_live : (t : List ℕ) (es : List (String Global × Vec ℕ)) (i : ℕ) → IsAt t es i → flag_at es i ≡ 1
-    → place (entries_of es) t ≡ Some (counted es i + 1)
+    → place (entries_of es) t ≡ Some (i - gaps es i + 1)
 place_live t [] i h f = absurd h
 place_live t (e ∷ es) zero h f = rw (flag_true e f, h) refl
 place_live t (e ∷ es) (suc i) h f =
     let rest = place_live t es i h.1 f in
-    elim (is_live e) as (λ b. place (map entry_of (cond b (e ∷ filter is_live es) (filter is_live es))) t ≡ Some (cond b 1 0 + counted es i + 1)) [
-      | true ↦ rw (h.0, rest) (ap Some (omega arith))
-      | false ↦ rest ∙ ap Some (omega arith)
+    let small = gaps_small es i in
+    elim (is_live e) as (λ b. place (map entry_of (cond b (e ∷ filter is_live es) (filter is_live es))) t
+    ≡ Some (suc i - (cond b 0 1 + gaps es i) + 1)) [
+      | true ↦ rw (h.0, rest) (ap Some (omega (arith, small)))
+      | false ↦ rest ∙ ap Some (omega (arith, small))
     ]
 
 pub place_absent : (t : List ℕ) (es : List (String Global × Vec ℕ)) → AllByRecursion (λ y. is_text t y ≡ false) (keys_of es)
@@ -95,15 +109,17 @@ lookup_absent t (e ∷ es) h =
 -- ---- the entry at a place
 
 pub entry_live : (es : List (String Global × Vec ℕ)) (s : ℕ) → flag_at es s ≡ 1
-    → slice_get (entries_of es) (counted es s) ≡ option_map entry_of (slice_get es s)
+    → slice_get (entries_of es) (s - gaps es s) ≡ option_map entry_of (slice_get es s)
 entry_live [] s f = absurd (omega arith)
 entry_live (e ∷ es) zero f = rw (flag_true e f) refl
 entry_live (e ∷ es) (suc s) f =
     let rest = entry_live es s f in
-    elim (is_live e) as (λ b. slice_get (map entry_of (cond b (e ∷ filter is_live es) (filter is_live es))) (cond b 1 0 + counted es s)
+    let small = gaps_small es s in
+    elim (is_live e) as (λ b. slice_get (map entry_of (cond b (e ∷ filter is_live es) (filter is_live es))) (suc s - (cond b 0 1 + gaps es s))
     ≡ option_map entry_of (slice_get es s)) [
-      | true ↦ let up : 1 + counted es s ≡ suc (counted es s) = omega arith in ap (slice_get (entry_of e ∷ entries_of es)) up ∙ rest
-      | false ↦ let up : 0 + counted es s ≡ counted es s = omega arith in ap (slice_get (entries_of es)) up ∙ rest
+      | true ↦ let up : suc s - (0 + gaps es s) ≡ suc (s - gaps es s) = omega (arith, small) in
+          ap (slice_get (entry_of e ∷ entries_of es)) up ∙ rest
+      | false ↦ let up : suc s - (1 + gaps es s) ≡ s - gaps es s = omega (arith, small) in ap (slice_get (entries_of es)) up ∙ rest
     ]
 
 -- ---- an entry is taken out
@@ -147,34 +163,25 @@ removed_none (e ∷ es) t h =
       | false ↦ λ m. ap (λ l. e ∷ l) (removed_none es t (less_none (place es t) m))
     ] h
 
-pub flag_set : (es : List (String Global × Vec ℕ)) (i : ℕ) (w : Vec ℕ) → i < length es → flag_at (set_value_at es i w) i ≡ cond (has_lines w.items) 1 0
-flag_set [] i w h = absurd (omega arith)
-flag_set (e ∷ es) zero w h = refl
-flag_set (e ∷ es) (suc i) w h = flag_set es i w (omega arith)
+-- the slots before it stay, and those after it move up
+pub gaps_before : (es : List (String Global × Vec ℕ)) (i k : ℕ) (w : Vec ℕ) → k ≤ i → gaps (set_value_at es i w) k ≡ gaps es k
+gaps_before [] i k w h = refl
+gaps_before (e ∷ es) zero zero w h = refl
+gaps_before (e ∷ es) zero (suc k) w h = absurd (omega arith)
+gaps_before (e ∷ es) (suc i) zero w h = refl
+gaps_before (e ∷ es) (suc i) (suc k) w h = ap (λ n. cond (is_live e) 0 1 + n) (gaps_before es i k w (omega arith))
 
-pub flag_other : (es : List (String Global × Vec ℕ)) (i k : ℕ) (w : Vec ℕ) → k ≢ i → flag_at (set_value_at es i w) k ≡ flag_at es k
-flag_other [] i k w h = refl
-flag_other (e ∷ es) zero zero w h = absurd (h refl)
-flag_other (e ∷ es) zero (suc k) w h = refl
-flag_other (e ∷ es) (suc i) zero w h = refl
-flag_other (e ∷ es) (suc i) (suc k) w h = flag_other es i k w (λ e. h (ap suc e))
+pub gaps_after : (es : List (String Global × Vec ℕ)) (i k : ℕ) (w : Vec ℕ) → i < k → flag_at es i ≡ 1 → has_lines w.items ≡ false
+    → gaps (set_value_at es i w) k ≡ gaps es k + 1
+gaps_after [] i k w h f n = absurd (zero_one f)
+gaps_after (e ∷ es) i zero w h f n = absurd (omega arith)
+gaps_after (e ∷ es) zero (suc k) w h f n = rw (n, flag_true e f) (omega arith)
+gaps_after (e ∷ es) (suc i) (suc k) w h f n = let rest = gaps_after es i k w (omega arith) f n in omega (arith, rest)
 
 pub length_set : (es : List (String Global × Vec ℕ)) (i : ℕ) (w : Vec ℕ) → length (set_value_at es i w) ≡ length es
 length_set [] i w = refl
 length_set (e ∷ es) zero w = refl
 length_set (e ∷ es) (suc i) w = ap suc (length_set es i w)
-
-pub live_less : (es : List (String Global × Vec ℕ)) (i : ℕ) (w : Vec ℕ) → flag_at es i ≡ 1 → has_lines w.items ≡ false
-    → length (filter is_live (set_value_at es i w)) + 1 ≡ length (filter is_live es)
-live_less [] i w f n = absurd (omega arith)
-live_less (e ∷ es) zero w f n = rw (n, flag_true e f) (omega arith)
-live_less (e ∷ es) (suc i) w f n =
-    let rest = live_less es i w f n in
-    elim (is_live e) as (λ b. length (cond b (e ∷ filter is_live (set_value_at es i w)) (filter is_live (set_value_at es i w))) + 1
-    ≡ length (cond b (e ∷ filter is_live es) (filter is_live es))) [
-      | true ↦ omega (arith, rest)
-      | false ↦ rest
-    ]
 
 -- ---- what the slot that a search found says
 
@@ -195,11 +202,6 @@ pub empty_some : (ls : List ℕ) (n : ℕ) → n ≡ length ls → (n == 0) ≡ 
 empty_some [] n e h = absurd (true≢false (sym (ap (λ k. k == 0) e) ∙ h))
 empty_some (l ∷ ls) n e h = refl
 
-pub take_whole : (xs ys : List ℕ) (n : ℕ) → n ≡ length xs → take n (xs ++ ys) ≡ xs
-take_whole [] ys n e = ap (λ k. take k ys) e
-take_whole (x ∷ xs) ys zero e = absurd (omega (arith, e))
-take_whole (x ∷ xs) ys (suc n) e = ap (λ l. x ∷ l) (take_whole xs ys n (omega (arith, e)))
-
 pub apart_text : (t : List ℕ) (k : String Global) → bytes_eq t (string_bytes k) ≡ true → (es : List (String Global × Vec ℕ))
     → AllByRecursion (λ y. string_eq k y ≡ false) (keys_of es) → AllByRecursion (λ y. is_text t y ≡ false) (keys_of es)
 apart_text t k e [] h = tt
@@ -217,46 +219,36 @@ place_dead t (e ∷ es) (suc i) d h f =
       | false ↦ rest
     ]
 
-pub counted_small : (es : List (String Global × Vec ℕ)) (n : ℕ) → counted es n ≤ length es
-counted_small [] n = omega arith
-counted_small (e ∷ es) zero = omega arith
-counted_small (e ∷ es) (suc n) =
-    let rest = counted_small es n in
-    elim (is_live e) as (λ b. cond b 1 0 + counted es n ≤ suc (length es)) [ true ↦ omega (arith, rest) | false ↦ omega (arith, rest) ]
+-- ---- together with the moves
 
--- ---- together with the counts
-
-pub total_is : {es : List (String Global × Vec ℕ)} {ns : List ℕ} {room height live : ℕ} → IsKept es ns room height live → (i : ℕ) → i ≤ room
-    → total ns room i ≡ counted es i
-total_is {es} {ns} {room} k i h = total_counted ns es room i k.flags h
-
-pub root_is : {es : List (String Global × Vec ℕ)} {ns : List ℕ} {room height live : ℕ} → IsKept es ns room height live → 0 < room → get_or ns 1 0 ≡ live
-root_is {es} {ns} {room} {height} {live} k p =
-    let t = k.tree p in
-    let all : total ns room room ≡ get_or ns 1 0 =
-    subst (λ r. total ns r r ≡ get_or ns 1 0) (sym t.level) (level_total ns room height t.summed (omega (arith, t.level))) in
-    let a = total_is k room (omega arith) in
-    let b = counted_all es room k.within in
-    omega (arith, all, a, b, k.living)
+-- a slot of the entries has not moved up by more than its number
+pub moved_is : {es : List (String Global × Vec ℕ)} {m : Moves} {live : ℕ} → IsKept es m live → (i : ℕ) → i < length es
+    → moved m i ≡ gaps es i
+moved_is kept i h = kept.moves i (omega (arith, h, kept.within))
 
 -- one is taken out
-pub kept_less : {es : List (String Global × Vec ℕ)} {ns : List ℕ} {room height live : ℕ} → IsKept es ns room height live → (i : ℕ) (w : Vec ℕ)
-    (ms : List ℕ) → i < length es → flag_at es i ≡ 1 → has_lines w.items ≡ false → IsTree ms room height
-    → get_or ms (room + i) 0 + 1 ≡ get_or ns (room + i) 0 → ((k : ℕ) → k < room → k ≢ i → get_or ms (room + k) 0 ≡ get_or ns (room + k) 0)
-    → IsKept (set_value_at es i w) ms room height (live - 1)
-kept_less {es} {ns} {room} {height} {live} kept i w ms h f n t here others = record {
-  tree = λ p. t;
-  within = let l = length_set es i w in omega (arith, l, kept.within);
-  flags = λ k b. by_same k i
-      (λ e. let x = flag_set es i w h ∙ ap (λ b. cond b 1 0) n in
-      let y = kept.flags i (omega (arith, h, kept.within)) in
-      let z : get_or ms (room + i) 0 ≡ flag_at (set_value_at es i w) i = omega (arith, x, y, here, f) in
-      subst (λ j. get_or ms (room + j) 0 ≡ flag_at (set_value_at es i w) j) (sym e) z)
-      (λ e. others k b e ∙ kept.flags k b ∙ sym (flag_other es i k w e));
-  living = let l = live_less es i w f n in omega (arith, l, kept.living);
+pub kept_less : {es : List (String Global × Vec ℕ)} {m : Moves} {live : ℕ} → IsKept es m live → (i : ℕ) (w : Vec ℕ) (n : Moves)
+    → i < length es → flag_at es i ≡ 1 → has_lines w.items ≡ false → IsBlocked n → length n.slots.items ≡ length m.slots.items
+    → ((k : ℕ) → k ≤ i → moved n k ≡ moved m k) → ((k : ℕ) → i < k → k < length m.slots.items → moved n k ≡ moved m k + 1)
+    → IsKept (set_value_at es i w) n (live - 1)
+kept_less {es} {m} {live} kept i w n h f z blocked same before after = record {
+  blocked = blocked;
+  within = let l = length_set es i w in omega (arith, l, same, kept.within);
+  moves = λ k b. ⊎_elim
+      (λ lt. let x = after k lt (omega (arith, b, same)) in
+      let y = kept.moves k (omega (arith, b, same)) in
+      let g = gaps_after es i k w lt f z in
+      omega (arith, x, y, g))
+      (λ le. before k le ∙ kept.moves k (omega (arith, b, same)) ∙ sym (gaps_before es i k w le)) (cases_lt i k);
+  living =
+      let a = gaps_all es (length es) (omega arith) in
+      let l = length_set es i w in
+      let b = gaps_all (set_value_at es i w) (length es) (omega (arith, l)) in
+      let g = gaps_after es i (length es) w h f z in
+      omega (arith, a, b, l, g, kept.living);
 }
 
-pub some_live : {es : List (String Global × Vec ℕ)} {ns : List ℕ} {room height live : ℕ} → IsKept es ns room height live → (i : ℕ)
+pub some_live : {es : List (String Global × Vec ℕ)} {m : Moves} {live : ℕ} → IsKept es m live → (i : ℕ)
     → flag_at es i ≡ 1 → 1 ≤ live
 some_live {es} kept i f = let l = live_some es i f in omega (arith, l, kept.living)
   where
@@ -299,26 +291,19 @@ live_within (e ∷ es) =
       | false ↦ omega (arith, rest)
     ]
 
-pub room_live : {es : List (String Global × Vec ℕ)} {ns : List ℕ} {room height live : ℕ} → IsKept es ns room height live → 0 < live → 0 < room
-room_live {es} k h = let l = live_within es in omega (arith, l, k.within, k.living)
-
-pub past_live : {es : List (String Global × Vec ℕ)} {ns : List ℕ} {room height live : ℕ} → IsKept es ns room height live → (place : ℕ)
+pub past_live : {es : List (String Global × Vec ℕ)} {m : Moves} {live : ℕ} → IsKept es m live → (place : ℕ)
     → live < place → entry_at (entries_of es) place ≡ None
 past_live {es} kept place h =
     let l = length_listed es in
     entry_at_is (entries_of es) place (λ e. omega (arith, e, h))
     ∙ past_end (entries_of es) (place - 1) (omega (arith, l, kept.living, h))
 
-pub entry_in : {es : List (String Global × Vec ℕ)} {ns : List ℕ} {room height live : ℕ} → IsKept es ns room height live → (place s : ℕ)
-    → place ≢ 0 → s < room → 0 < get_or ns (room + s) 0 → total ns room s ≤ place - 1 → place - 1 < total ns room s + get_or ns (room + s) 0
+-- the slot that is not moved up by more than it is after the place
+pub entry_in : (es : List (String Global × Vec ℕ)) (place s : ℕ) → place ≢ 0 → flag_at es s ≡ 1 → place - 1 + gaps es s ≡ s
     → entry_at (entries_of es) place ≡ option_map entry_of (slice_get es s)
-entry_in {es} {ns} {room} kept place s p w t b u =
-    let f = kept.flags s w in
-    let small = flag_small es s in
-    let c = total_is kept s (omega arith) in
-    let one : flag_at es s ≡ 1 = omega (arith, f, small, t) in
-    let here : place - 1 ≡ counted es s = omega (arith, c, f, one, b, u) in
-    entry_at_is (entries_of es) place p ∙ (ap (slice_get (entries_of es)) here ∙ entry_live es s one)
+entry_in es place s p f c =
+    let here : place - 1 ≡ s - gaps es s = omega (arith, c) in
+    entry_at_is (entries_of es) place p ∙ (ap (slice_get (entries_of es)) here ∙ entry_live es s f)
 
 -- ---- a line more
 
@@ -372,31 +357,34 @@ pub has_last : (ls : List ℕ) (n : ℕ) → has_lines (ls ++ n ∷ []) ≡ true
 has_last [] n = refl
 has_last (l ∷ ls) n = refl
 
-as_many : (es : List (String Global × Vec ℕ)) (i : ℕ) (w : Vec ℕ) → flag_at es i ≡ 1 → has_lines w.items ≡ true
-    → length (filter is_live (set_value_at es i w)) ≡ length (filter is_live es)
-as_many [] i w f n = absurd (zero_one f)
-as_many (e ∷ es) zero w f n = rw (n, flag_true e f) refl
-as_many (e ∷ es) (suc i) w f n =
-    let rest = as_many es i w f n in
-    elim (is_live e) as (λ b. length (cond b (e ∷ filter is_live (set_value_at es i w)) (filter is_live (set_value_at es i w)))
-    ≡ length (cond b (e ∷ filter is_live es) (filter is_live es))) [
-      | true ↦ ap suc rest
-      | false ↦ rest
-    ]
+gaps_same : (es : List (String Global × Vec ℕ)) (i k : ℕ) (w : Vec ℕ) → flag_at es i ≡ 1 → has_lines w.items ≡ true
+    → gaps (set_value_at es i w) k ≡ gaps es k
+gaps_same [] i k w f n = refl
+gaps_same (e ∷ es) i zero w f n = none e es i w
+  where
+    none : (e : String Global × Vec ℕ) (es : List (String Global × Vec ℕ)) (i : ℕ) (w : Vec ℕ) → gaps (set_value_at (e ∷ es) i w) 0 ≡ 0
+    none e es zero w = refl
+    none e es (suc i) w = refl
+gaps_same (e ∷ es) zero (suc k) w f n = rw (n, flag_true e f) refl
+gaps_same (e ∷ es) (suc i) (suc k) w f n = ap (λ m. cond (is_live e) 0 1 + m) (gaps_same es i k w f n)
 
-pub kept_same : {es : List (String Global × Vec ℕ)} {ns : List ℕ} {room height live : ℕ} → IsKept es ns room height live → (i : ℕ) (w : Vec ℕ)
-    → i < length es → flag_at es i ≡ 1 → has_lines w.items ≡ true → IsKept (set_value_at es i w) ns room height live
-kept_same {es} {ns} {room} {height} {live} kept i w h f n = record {
-  tree = kept.tree;
-  within = let l = length_set es i w in omega (arith, l, kept.within);
-  flags = λ k b. by_same k i
-      (λ e. let x = flag_set es i w h ∙ ap (λ b. cond b 1 0) n in
-      let y = kept.flags i (omega (arith, h, kept.within)) in
-      let z : get_or ns (room + i) 0 ≡ flag_at (set_value_at es i w) i = omega (arith, x, y, f) in
-      subst (λ j. get_or ns (room + j) 0 ≡ flag_at (set_value_at es i w) j) (sym e) z)
-      (λ e. kept.flags k b ∙ sym (flag_other es i k w e));
-  living = kept.living ∙ sym (as_many es i w f n);
+-- as many slots, with as many gaps before each
+pub kept_as : {es : List (String Global × Vec ℕ)} {m : Moves} {live : ℕ} → IsKept es m live → (ds : List (String Global × Vec ℕ))
+    → length ds ≡ length es → ((k : ℕ) → gaps ds k ≡ gaps es k) → IsKept ds m live
+kept_as {es} kept ds l same = record {
+  blocked = kept.blocked;
+  within = omega (arith, l, kept.within);
+  moves = λ k b. kept.moves k b ∙ sym (same k);
+  living =
+      let a = gaps_all es (length es) (omega arith) in
+      let b = gaps_all ds (length es) (omega (arith, l)) in
+      let g = same (length es) in
+      omega (arith, a, b, l, g, kept.living);
 }
+
+pub kept_same : {es : List (String Global × Vec ℕ)} {m : Moves} {live : ℕ} → IsKept es m live → (i : ℕ) (w : Vec ℕ) → flag_at es i ≡ 1
+    → has_lines w.items ≡ true → IsKept (set_value_at es i w) m live
+kept_same {es} kept i w f n = kept_as kept (set_value_at es i w) (length_set es i w) (λ k. gaps_same es i k w f n)
 
 -- ---- slots are freed
 
@@ -413,40 +401,27 @@ filter_twice (e ∷ es) =
 pub packed_same : (es : List (String Global × Vec ℕ)) → entries_of (filter is_live es) ≡ entries_of es
 packed_same es = ap (map entry_of) (filter_twice es)
 
-pub packed_flags : (es : List (String Global × Vec ℕ)) (k : ℕ) → k < length (filter is_live es) → flag_at (filter is_live es) k ≡ 1
-packed_flags [] k h = absurd (omega arith)
-packed_flags (e ∷ es) k h =
-    elim (is_live e) as (λ b. is_live e ≡ b → k < length (cond b (e ∷ filter is_live es) (filter is_live es))
-    → flag_at (cond b (e ∷ filter is_live es) (filter is_live es)) k ≡ 1) [
-      | true ↦ λ m g. first e es k m (packed_flags es) g
-      | false ↦ λ m g. packed_flags es k g
-    ] refl h
+packed_gaps : (es : List (String Global × Vec ℕ)) (k : ℕ) → gaps (filter is_live es) k ≡ 0
+packed_gaps [] k = refl
+packed_gaps (e ∷ es) k =
+    elim (is_live e) as (λ b. is_live e ≡ b → gaps (cond b (e ∷ filter is_live es) (filter is_live es)) k ≡ 0) [
+      | true ↦ λ m. first e es k m (packed_gaps es)
+      | false ↦ λ m. packed_gaps es k
+    ] refl
   where
     first : (e : String Global × Vec ℕ) (es : List (String Global × Vec ℕ)) (k : ℕ) → is_live e ≡ true
-        → ((j : ℕ) → j < length (filter is_live es) → flag_at (filter is_live es) j ≡ 1)
-        → k < length (e ∷ filter is_live es) → flag_at (e ∷ filter is_live es) k ≡ 1
-    first e es zero m r g = ap (λ b. cond b 1 0) m
-    first e es (suc k) m r g = r k (omega arith)
+        → ((j : ℕ) → gaps (filter is_live es) j ≡ 0) → gaps (e ∷ filter is_live es) k ≡ 0
+    first e es zero m r = refl
+    first e es (suc k) m r = let z = r k in rw m (omega (arith, z))
 
-flag_past : (es : List (String Global × Vec ℕ)) (k : ℕ) → length es ≤ k → flag_at es k ≡ 0
-flag_past [] k h = refl
-flag_past (e ∷ es) zero h = absurd (omega arith)
-flag_past (e ∷ es) (suc k) h = flag_past es k (omega arith)
-
-pub kept_packed : (es : List (String Global × Vec ℕ)) (ns : List ℕ) (room height live : ℕ) → live ≡ length (filter is_live es)
-    → IsTree ns room height → live < room → ((k : ℕ) → k < live → get_or ns (room + k) 0 ≡ 1)
-    → ((k : ℕ) → live ≤ k → k < room → get_or ns (room + k) 0 ≡ 0) → IsKept (filter is_live es) ns room height live
-kept_packed es ns room height live e t w first others = record {
-  tree = λ p. t;
+pub kept_packed : (es : List (String Global × Vec ℕ)) (m : Moves) (live : ℕ) → live ≡ length (filter is_live es) → IsBlocked m
+    → live < length m.slots.items → ((k : ℕ) → moved m k ≡ 0) → IsKept (filter is_live es) m live
+kept_packed es m live e blocked w none = record {
+  blocked = blocked;
   within = omega (arith, e, w);
-  flags = λ k b. at_most k live
-      (λ h. first k h ∙ sym (packed_flags es k (omega (arith, h, e))))
-      (λ h. others k h b ∙ sym (flag_past (filter is_live es) k (omega (arith, h, e))));
+  moves = λ k b. none k ∙ sym (packed_gaps es k);
   living = e ∙ ap length (sym (filter_twice es));
 }
-  where
-    at_most : {P : Type 0} (a b : ℕ) → (a < b → P) → (b ≤ a → P) → P
-    at_most a b y n = by_same (b - a) 0 (λ e. n (omega (arith, e))) (λ e. y (omega (arith, e)))
 
 pub not_empty : (ls : List ℕ) (n : ℕ) → n ≡ length ls → not (n == 0) ≡ has_lines ls
 not_empty ls n e = by (n == 0) refl
@@ -487,30 +462,15 @@ added_last (e ∷ es) t n h =
       | false ↦ λ m. ap (λ l. e ∷ l) (added_last es t n (less_none (place es t) m))
     ] h
 
-flag_last : (es : List (String Global × Vec ℕ)) (x : String Global × Vec ℕ) → flag_at (es ++ x ∷ []) (length es) ≡ flag x
-flag_last [] x = refl
-flag_last (e ∷ es) x = flag_last es x
-
-flag_before : (es : List (String Global × Vec ℕ)) (x : String Global × Vec ℕ) (k : ℕ) → k ≢ length es → flag_at (es ++ x ∷ []) k ≡ flag_at es k
-flag_before [] x zero h = absurd (h refl)
-flag_before [] x (suc k) h = refl
-flag_before (e ∷ es) x zero h = refl
-flag_before (e ∷ es) x (suc k) h = flag_before es x k (λ q. h (ap suc q))
-
 length_last : (es : List (String Global × Vec ℕ)) (x : String Global × Vec ℕ) → length (es ++ x ∷ []) ≡ length es + 1
 length_last [] x = omega arith
 length_last (e ∷ es) x = let rest = length_last es x in omega (arith, rest)
 
-one_live : (es : List (String Global × Vec ℕ)) (x : String Global × Vec ℕ) → is_live x ≡ true
-    → length (filter is_live (es ++ x ∷ [])) ≡ length (filter is_live es) + 1
-one_live [] x h = rw h (omega arith)
-one_live (e ∷ es) x h =
-    let rest = one_live es x h in
-    elim (is_live e) as (λ b. length (cond b (e ∷ filter is_live (es ++ x ∷ [])) (filter is_live (es ++ x ∷ [])))
-    ≡ length (cond b (e ∷ filter is_live es) (filter is_live es)) + 1) [
-      | true ↦ omega (arith, rest)
-      | false ↦ rest
-    ]
+more_gaps : (es : List (String Global × Vec ℕ)) (x : String Global × Vec ℕ) (k : ℕ) → is_live x ≡ true → gaps (es ++ x ∷ []) k ≡ gaps es k
+more_gaps [] x zero h = refl
+more_gaps [] x (suc k) h = rw h refl
+more_gaps (e ∷ es) x zero h = refl
+more_gaps (e ∷ es) x (suc k) h = ap (λ n. cond (is_live e) 0 1 + n) (more_gaps es x k h)
 
 pub added_new : (n : ℕ) (k : String Global) (w : Vec ℕ) (es : List (String Global × Vec ℕ))
     → is_some (lookup (is_text (string_bytes k)) es) ≡ false → w.items ≡ n ∷ []
@@ -521,22 +481,19 @@ added_new n k w es h e =
     ∙ ap (λ (ls : List ℕ). entries_of es ++ record { target = string_bytes k; lines = ls } ∷ []) e
     ∙ sym (added_last (entries_of es) (string_bytes k) n (place_absent (string_bytes k) es (lookup_absent (string_bytes k) es h)))
 
--- the counts after one more at the slot after the entries
-pub kept_more : {es : List (String Global × Vec ℕ)} {ns : List ℕ} {room height live : ℕ} → IsKept es ns room height live
-    → (x : String Global × Vec ℕ) (ms : List ℕ) → length es < room → is_live x ≡ true → IsTree ms room height
-    → get_or ms (room + length es) 0 ≡ get_or ns (room + length es) 0 + 1
-    → ((k : ℕ) → k < room → k ≢ length es → get_or ms (room + k) 0 ≡ get_or ns (room + k) 0) → IsKept (es ++ x ∷ []) ms room height (live + 1)
-kept_more {es} {ns} {room} {height} {live} kept x ms h n t here others = record {
-  tree = λ p. t;
+-- an entry more in the slot after the entries
+pub kept_more : {es : List (String Global × Vec ℕ)} {m : Moves} {live : ℕ} → IsKept es m live → (x : String Global × Vec ℕ)
+    → length es < length m.slots.items → is_live x ≡ true → IsKept (es ++ x ∷ []) m (live + 1)
+kept_more {es} kept x h n = record {
+  blocked = kept.blocked;
   within = let l = length_last es x in omega (arith, l, h);
-  flags = λ k b. by_same k (length es)
-      (λ e. let a = flag_last es x ∙ ap (λ b. cond b 1 0) n in
-      let y = kept.flags (length es) h in
-      let o = flag_past es (length es) (omega arith) in
-      let z : get_or ms (room + length es) 0 ≡ flag_at (es ++ x ∷ []) (length es) = omega (arith, a, y, o, here) in
-      subst (λ j. get_or ms (room + j) 0 ≡ flag_at (es ++ x ∷ []) j) (sym e) z)
-      (λ e. others k b e ∙ kept.flags k b ∙ sym (flag_before es x k e));
-  living = let l = one_live es x n in omega (arith, l, kept.living);
+  moves = λ k b. kept.moves k b ∙ sym (more_gaps es x k n);
+  living =
+      let l = length_last es x in
+      let a = gaps_all es (length es + 1) (omega arith) in
+      let b = gaps_all (es ++ x ∷ []) (length es + 1) (omega (arith, l)) in
+      let g = more_gaps es x (length es + 1) n in
+      omega (arith, a, b, l, g, kept.living);
 }
 
 longer : (es : List Entry) (e : Entry) → length (es ++ e ∷ []) ≡ length es + 1

@@ -1,4 +1,4 @@
 -- What private contracts cite.
-pub mod Counted
+pub mod Moved
 pub mod Places
 pub mod Slots

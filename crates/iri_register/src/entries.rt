@@ -1,5 +1,5 @@
 //! The entries, kept in a map in first-seen order.
-ghost use Rattle.std.specs.Prelude.{◌≡◌, ◌<◌, ◌+◌, ◌^◌, if◌then◌else◌, [], length, map as mapped, option_map};
+ghost use Rattle.std.specs.Prelude.{◌≡◌, ◌<◌, ◌≤◌, ◌+◌, ◌^◌, if◌then◌else◌, [], length, map as mapped, option_map};
 ghost use Rattle.std.specs.Prelude.{List, ℕ, is_some, false, None, filter, slice_get, is_ok};
 ghost use Rattle.std.specs.Prelude.{OnOk, IfOk, IfSome, IfNone};
 ghost use Rattle.std.specs.List.{IsDistinct};
@@ -8,13 +8,14 @@ ghost use Rattle.std.specs.Map.{lookup};
 ghost use Rattle.std.specs.Str.{bytes_eq};
 ghost use Rattle.iri_register.specs.Entries.{added, removed, place, line_count, entry_at, IsAdded};
 ghost use Rattle.iri_register.specs.Listed.{entry_of, has_lines, is_live, listed};
-ghost use Rattle.iri_register.specs.inside.Counted.{IsTree, total};
+ghost use Rattle.iri_register.specs.declared.moves.Moves.{Moves};
+ghost use Rattle.iri_register.specs.inside.Moved.{IsBlocked, moved};
 ghost use Rattle.iri_register.specs.inside.Places.{IsAt, is_text};
-ghost use Rattle.iri_register.specs.inside.Slots.{flag_at, IsKept};
+ghost use Rattle.iri_register.specs.inside.Slots.{flag_at, gaps, IsKept};
 
 use crate::added::Added;
-use crate::counts::{self, Counts};
 use crate::hasher::{Keyed, with_key};
+use crate::moves::{self, Moves};
 use indexmap::IndexMap;
 use std::alloc::{AllocError, Global};
 use std::marker::Model;
@@ -22,12 +23,12 @@ use std::marker::Model;
 type Map = IndexMap<String, Vec<u64>, Keyed>;
 
 // The entries. One that was taken out stays in the map without lines, in its slot, until the slots run out: the index
-// of an entry in the map is its slot, and the counts tell which slots have lines.
+// of an entry in the map is its slot, and the moves tell by how many places it moved up.
 #[derive(Drop)]
 pub(crate) struct Entries {
     map: Map,
     live: usize,
-    counts: Counts,
+    moves: Moves,
 }
 
 impl Model for Entries {
@@ -40,7 +41,7 @@ impl Model for Entries {
 
     ghost view = { λ r. listed r.map };
 
-    ghost invariant = { λ r. IsKept r.map.entries r.counts.nodes.items r.counts.room r.counts.height r.live };
+    ghost invariant = { λ r. IsKept r.map.entries r.moves r.live };
 }
 
 // No entries, in a map whose hashes have this key.
@@ -50,10 +51,10 @@ pub(crate) fn none(alloc: Global, key: u128) -> Entries
     Entries {
         map: IndexMap::with_hasher(alloc, with_key(key)),
         live: 0,
-        counts: Counts {
-            nodes: Vec::new(alloc),
-            room: 0,
-            height: 0,
+        moves: Moves {
+            blocks: Vec::new(alloc),
+            slots: Vec::new(alloc),
+            width: 1,
         },
     }
 }
@@ -84,13 +85,14 @@ fn slot_of(map: &Map, target: &str) -> Option<usize>
 }
 
 // The place of the entry in a slot.
-fn place_of(counts: &Counts, slot: usize) -> usize
-    requires tree { IsTree counts.now.nodes.items counts.now.room counts.now.height }
-    requires within { slot < counts.now.room }
-    requires small { total counts.now.nodes.items counts.now.room slot < 2 ^ 63 }
-    ensures { result ≡ total counts.now.nodes.items counts.now.room slot + 1 }
+fn place_of(moves: &Moves, slot: usize) -> usize
+    requires blocked { IsBlocked moves.now }
+    requires within { slot < length moves.now.slots.items }
+    requires up { moved moves.now slot ≤ slot }
+    requires small { slot < 2 ^ 63 }
+    ensures { result + moved moves.now slot ≡ slot + 1 }
 {
-    counts::before(counts.nodes.as_slice(), counts.room, counts.height, slot) + 1
+    slot - moves::at(moves, slot) + 1
 }
 
 // The place of the entry that has this target.
@@ -98,7 +100,7 @@ pub(crate) fn find(entries: &Entries, target: &str) -> Option<usize>
     ensures { result ≡ place entries.now target.now }
 {
     match slot_of(&entries.map, target) {
-        Some(slot) => Some(place_of(&entries.counts, slot)),
+        Some(slot) => Some(place_of(&entries.moves, slot)),
         None => None,
     }
 }
@@ -110,8 +112,8 @@ fn add_line(map: &mut Map, target: &str, slot: usize, line: u64) -> Result<(), A
     requires within { slot < index_map_len map.old }
     ensures lines { listed map.new
         ≡ (if is_ok result then added (listed map.old) target.now line else listed map.old) }
-    ensures kept { (ns : List ℕ) → (room height live : ℕ) → IsKept map.old.entries ns room height live
-        → IsKept map.new.entries ns room height live }
+    ensures kept { (moves : Moves) → (live : ℕ) → IsKept map.old.entries moves live
+        → IsKept map.new.entries moves live }
 {
     let lines = &mut map[slot];
     match lines.push(line) {
@@ -128,22 +130,22 @@ fn stays(lines: &Vec<u64>) -> bool
 }
 
 // Frees the slots of the entries that were taken out, and makes room for as many entries again.
-fn pack(alloc: Global, map: &mut Map, live: usize, counts: &mut Counts) -> Result<(), AllocError>
-    requires kept { IsKept map.old.entries counts.old.nodes.items counts.old.room counts.old.height live }
-    ensures kept { IsKept map.new.entries counts.new.nodes.items counts.new.room counts.new.height live }
+fn pack(alloc: Global, map: &mut Map, live: usize, moves: &mut Moves) -> Result<(), AllocError>
+    requires kept { IsKept map.old.entries moves.old live }
+    ensures kept { IsKept map.new.entries moves.new live }
     ensures same { listed map.new ≡ listed map.old }
     ensures packed { OnOk result (map.new.entries ≡ filter is_live map.old.entries) }
-    ensures room { OnOk result (index_map_len map.new < counts.new.room) }
+    ensures room { OnOk result (index_map_len map.new < length moves.new.slots.items) }
 {
     // `len` is called for its clause that the number of entries fits.
     let _len = map.len();
-    let packed = counts::of_first(alloc, live, counts.room)?;
+    let none = moves::none(alloc, live)?;
     map.retain(
         |_key: &String, lines: &mut Vec<u64>| -> bool
             ensures { (result ≡ has_lines lines.old.items) × (lines.new ≡ lines.old) }
         { stays(lines) },
     );
-    *counts = packed;
+    *moves = none;
     Ok(())
 }
 
@@ -152,16 +154,16 @@ fn pack(alloc: Global, map: &mut Map, live: usize, counts: &mut Counts) -> Resul
 fn free_key(
     alloc: Global,
     map: &mut Map,
-    counts: &mut Counts,
+    moves: &mut Moves,
     live: usize,
     target: &str,
 ) -> Result<(), AllocError>
-    requires kept { IsKept map.old.entries counts.old.nodes.items counts.old.room counts.old.height live }
-    requires room { index_map_len map.old < counts.old.room }
+    requires kept { IsKept map.old.entries moves.old live }
+    requires room { index_map_len map.old < length moves.old.slots.items }
     requires gone { place (listed map.old) target.now ≡ None }
-    ensures kept { IsKept map.new.entries counts.new.nodes.items counts.new.room counts.new.height live }
+    ensures kept { IsKept map.new.entries moves.new live }
     ensures same { listed map.new ≡ listed map.old }
-    ensures room { OnOk result (index_map_len map.new < counts.new.room) }
+    ensures room { OnOk result (index_map_len map.new < length moves.new.slots.items) }
     ensures absent { OnOk result (is_some (lookup (is_text target.now) map.new.entries) ≡ false) }
 {
     // No entry was taken out: the target is no key.
@@ -172,7 +174,7 @@ fn free_key(
         Some(slot) => {
             let key = slot.to_string(alloc)?;
             if map.contains_key(key.as_str()) {
-                return pack(alloc, map, live, counts);
+                return pack(alloc, map, live, moves);
             }
             map.insert(key, Vec::new(alloc))?;
             map.swap_remove(target);
@@ -186,31 +188,25 @@ fn free_key(
 fn put_last(
     alloc: Global,
     map: &mut Map,
-    counts: &mut Counts,
     live: usize,
     target: &str,
     line: u64,
 ) -> Result<usize, AllocError>
-    requires kept { IsKept map.old.entries counts.old.nodes.items counts.old.room counts.old.height live }
-    requires room { index_map_len map.old < counts.old.room }
+    requires living { live ≡ length (filter is_live map.old.entries) }
     requires absent { is_some (lookup (is_text target.now) map.old.entries) ≡ false }
-    ensures kept { IsKept map.new.entries counts.new.nodes.items counts.new.room counts.new.height
-        (if is_ok result then live + 1 else live) }
+    ensures kept { (moves : Moves) → IsKept map.old.entries moves live
+        → index_map_len map.old < length moves.slots.items
+        → IsKept map.new.entries moves (if is_ok result then live + 1 else live) }
     ensures entries { listed map.new
         ≡ (if is_ok result then added (listed map.old) target.now line else listed map.old) }
     ensures live { IfOk result (λ n. n ≡ live + 1) }
 {
-    let slot = map.len();
+    // `len` is called for its clause that the number of entries fits.
+    let _len = map.len();
     let key = String::from_str(alloc, target)?;
     let mut lines = Vec::new(alloc);
     lines.push(line)?;
     map.insert(key, lines)?;
-    counts::raise(
-        counts.nodes.as_mut_slice(),
-        counts.room,
-        counts.height,
-        slot,
-    );
     Ok(live + 1)
 }
 
@@ -224,20 +220,19 @@ fn add_entry(
     requires { place entries.old target.now ≡ None }
     ensures { entries.new ≡ (if is_ok result then added entries.old target.now line else entries.old) }
 {
-    if entries.map.len() >= entries.counts.room {
-        pack(alloc, &mut entries.map, entries.live, &mut entries.counts)?;
+    if entries.map.len() >= entries.moves.slots.len() {
+        pack(alloc, &mut entries.map, entries.live, &mut entries.moves)?;
     }
     free_key(
         alloc,
         &mut entries.map,
-        &mut entries.counts,
+        &mut entries.moves,
         entries.live,
         target,
     )?;
     entries.live = put_last(
         alloc,
         &mut entries.map,
-        &mut entries.counts,
         entries.live,
         target,
         line,
@@ -254,12 +249,7 @@ pub(crate) fn remove(alloc: Global, entries: &mut Entries, target: &str) -> Opti
         Some(slot) => {
             let count = entries.map[slot].len();
             entries.map[slot] = Vec::new(alloc);
-            counts::lower(
-                entries.counts.nodes.as_mut_slice(),
-                entries.counts.room,
-                entries.counts.height,
-                slot,
-            );
+            moves::close(&mut entries.moves, slot);
             entries.live -= 1;
             Some(count)
         }
@@ -280,7 +270,7 @@ pub(crate) fn add(
     match slot_of(&entries.map, target) {
         Some(slot) => {
             add_line(&mut entries.map, target, slot, line)?;
-            Ok(Added::Old(place_of(&entries.counts, slot)))
+            Ok(Added::Old(place_of(&entries.moves, slot)))
         }
         None => {
             add_entry(alloc, entries, target, line)?;
@@ -289,9 +279,31 @@ pub(crate) fn add(
     }
 }
 
+// The slot of the entry that stands after so many others: that many, and as many more as entries before it were taken
+// out.
+fn slot_after(map: &Map, moves: &Moves, live: usize, count: usize) -> usize
+    requires kept { IsKept map.now.entries moves.now live }
+    requires within { count < live }
+    ensures within { result < index_map_len map.now }
+    ensures live { flag_at map.now.entries result ≡ 1 }
+    ensures count { count + gaps map.now.entries result ≡ result }
+{
+    let mut low = count;
+    let mut high = count + (map.len() - live) + 1;
+    while high - low > 1 {
+        let middle = low + (high - low) / 2;
+        if middle - moves::at(moves, middle) <= count {
+            low = middle;
+        } else {
+            high = middle;
+        }
+    }
+    low
+}
+
 // The slot of the entry at a place from 1.
-fn slot_at(map: &Map, counts: &Counts, live: usize, place: usize) -> Option<usize>
-    requires { IsKept map.now.entries counts.now.nodes.items counts.now.room counts.now.height live }
+fn slot_at(map: &Map, moves: &Moves, live: usize, place: usize) -> Option<usize>
+    requires { IsKept map.now.entries moves.now live }
     ensures some { IfSome result (λ s. entry_at (listed map.now) place
         ≡ option_map entry_of (slice_get map.now.entries s)) }
     ensures none { IfNone result (entry_at (listed map.now) place ≡ None) }
@@ -302,19 +314,14 @@ fn slot_at(map: &Map, counts: &Counts, live: usize, place: usize) -> Option<usiz
     if place > live {
         return None;
     }
-    Some(counts::slot_after(
-        counts.nodes.as_slice(),
-        counts.room,
-        counts.height,
-        place - 1,
-    ))
+    Some(slot_after(map, moves, live, place - 1))
 }
 
 // The target of the entry at a place from 1.
 pub(crate) fn target_at(entries: &Entries, place: usize) -> Option<&str>
     ensures { option_map (λ t. t.now) result ≡ option_map (λ e. e.target) (entry_at entries.now place) }
 {
-    match slot_at(&entries.map, &entries.counts, entries.live, place) {
+    match slot_at(&entries.map, &entries.moves, entries.live, place) {
         Some(slot) => match entries.map.get_index(slot) {
             Some((target, _)) => Some(target.as_str()),
             None => None,
@@ -327,7 +334,7 @@ pub(crate) fn target_at(entries: &Entries, place: usize) -> Option<&str>
 pub(crate) fn lines_at(entries: &Entries, place: usize) -> Option<&[u64]>
     ensures { option_map (λ l. l.now) result ≡ option_map (λ e. e.lines) (entry_at entries.now place) }
 {
-    match slot_at(&entries.map, &entries.counts, entries.live, place) {
+    match slot_at(&entries.map, &entries.moves, entries.live, place) {
         Some(slot) => match entries.map.get_index(slot) {
             Some((_, lines)) => Some(lines.as_slice()),
             None => None,

@@ -24,9 +24,9 @@
 #![tactic(auto)]
 
 pub mod added;
-mod counts;
 mod entries;
 pub mod error;
 mod hasher;
 pub mod laws;
+mod moves;
 pub mod register;

@@ -13,12 +13,12 @@ returns-in-Err-clause-lines c =
     same_live c.args.map.now.entries c.args.slot c.index_mut-lines.result.now c.push.new.self c.index_mut-lines.ensures.value c.in-Err.ensures.items
 
 pub returns-in-Ok-clause-kept : goal.returns-in-Ok-clause-kept
-returns-in-Ok-clause-kept c ns room height live k =
-    kept_same k c.args.slot c.push.new.self c.requires.within c.requires.live
+returns-in-Ok-clause-kept c moves live k =
+    kept_same k c.args.slot c.push.new.self c.requires.live
     (ap has_lines c.in-Ok.ensures.items ∙ has_last c.index_mut-lines.result.now.items c.args.line)
 
 pub returns-in-Err-clause-kept : goal.returns-in-Err-clause-kept
-returns-in-Err-clause-kept c ns room height live k =
-    kept_same k c.args.slot c.push.new.self c.requires.within c.requires.live
+returns-in-Err-clause-kept c moves live k =
+    kept_same k c.args.slot c.push.new.self c.requires.live
     (ap has_lines c.in-Err.ensures.items
     ∙ value_live c.args.map.now.entries c.args.slot c.index_mut-lines.result.now c.requires.live c.index_mut-lines.ensures.value)

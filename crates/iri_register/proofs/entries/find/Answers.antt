@@ -1,24 +1,26 @@
 use Rattle.iri_register.proofs.Common.{sym, ap, ◌∙◌, Some, arith, place}
-use Rattle.iri_register.proofs.SlotLemmas.{at_within, counted_small, total_is, place_live}
+use Rattle.iri_register.proofs.SlotLemmas.{at_within, gaps_small, moved_is, place_live}
 use Rattle.iri_register.proofs.entries.find.Goals as goal
 
-pub place_of-requires-clause-within : goal.place_of-requires-clause-within
-place_of-requires-clause-within c =
-    let w = at_within c.args.target.now c.entries.inside.map.entries c.in-Some.slot c.in-Some.ensures.here in
-    omega (arith, w, c.entries.invariant.within)
-
-pub place_of-requires-clause-small : goal.place_of-requires-clause-small
-place_of-requires-clause-small c =
+pub place_of-requires : goal.place_of-requires
+place_of-requires c =
     let es = c.entries.inside.map.entries in
     let w = at_within c.args.target.now es c.in-Some.slot c.in-Some.ensures.here in
-    let t = total_is c.entries.invariant c.in-Some.slot (omega (arith, w, c.entries.invariant.within)) in
-    let s = counted_small es c.in-Some.slot in
-    omega (arith, t, s, c.slot_of.ensures.small)
+    let k = c.entries.invariant in
+    let m = moved_is k c.in-Some.slot w in
+    let g = gaps_small es c.in-Some.slot in
+    record {
+      blocked = k.blocked;
+      within = omega (arith, w, k.within);
+      up = omega (arith, m, g);
+      small = omega (arith, w, c.slot_of.ensures.small);
+    }
 
 pub returns-in-Some : goal.returns-in-Some
 returns-in-Some c =
     let es = c.entries.inside.map.entries in
     let w = at_within c.args.target.now es c.in-Some.slot c.in-Some.ensures.here in
-    let t = total_is c.entries.invariant c.in-Some.slot (omega (arith, w, c.entries.invariant.within)) in
+    let m = moved_is c.entries.invariant c.in-Some.slot w in
+    let g = gaps_small es c.in-Some.slot in
     let p = place_live c.args.target.now es c.in-Some.slot c.in-Some.ensures.here c.in-Some.ensures.live in
-    ap Some (omega (arith, c.place_of.ensures, t)) ∙ sym p ∙ ap (λ es. place es c.args.target.now) c.entries.view_is
+    ap Some (omega (arith, c.place_of.ensures, m, g)) ∙ sym p ∙ ap (λ es. place es c.args.target.now) c.entries.view_is

@@ -34,7 +34,7 @@ returns-in_ok-insert-in-Some c =
     let l = ap length given ∙ length_slot es i (key, w) in
     record {
       kept =
-          subst (λ l. IsKept l c.args.counts.now.nodes.items c.args.counts.now.room c.args.counts.now.height c.args.live) (sym given)
+          subst (λ l. IsKept l c.args.moves.now c.args.live) (sym given)
           (kept_dead c.requires.kept i (key, w) dead none);
       same = ap entries_of given ∙ entries_dead es i (key, w) dead none;
       room = omega (arith, l, c.requires.room);
