@@ -1,7 +1,7 @@
 -- The names that several proofs of this crate cite, passed on from one place. Declares nothing.
 pub use Rattle.std.proofs.Common.{◌≡◌, ℕ, List, [], ◌∷◌, ◌++◌, true, false, bytes_eq, refl, sym, ◌∙◌, ap, map, filter, subst, zero, suc}
 pub use Rattle.std.proofs.Common.{◌+◌, ◌-◌, ◌<◌, length, Some, None, is_some, option_map, position, String, string_bytes, Global, arith}
-pub use Rattle.std.proofs.Common.{get_or, ◌≤◌, rules, drop}
+pub use Rattle.std.proofs.Common.{get_or, ◌≤◌, rules}
 pub use Rattle.std.specs.Global.{Vec}
 pub use Rattle.std.specs.List.{AllByRecursion}
 unfoldable pub use Rattle.std.specs.List.{IsDistinct}

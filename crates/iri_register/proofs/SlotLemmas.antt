@@ -248,16 +248,14 @@ kept_less {es} {m} {live} kept i w n h f z blocked same before after = record {
       omega (arith, a, b, l, g, kept.living);
 }
 
-pub some_live : {es : List (String Global × Vec ℕ)} {m : Moves} {live : ℕ} → IsKept es m live → (i : ℕ)
-    → flag_at es i ≡ 1 → 1 ≤ live
-some_live {es} kept i f = let l = live_some es i f in omega (arith, l, kept.living)
-  where
-    live_some : (es : List (String Global × Vec ℕ)) (i : ℕ) → flag_at es i ≡ 1 → 1 ≤ length (filter is_live es)
-    live_some [] i f = absurd (zero_one f)
-    live_some (e ∷ es) zero f = rw (flag_true e f) (omega arith)
-    live_some (e ∷ es) (suc i) f =
-        let rest = live_some es i f in
-        elim (is_live e) as (λ b. 1 ≤ length (cond b (e ∷ filter is_live es) (filter is_live es))) [ true ↦ omega arith | false ↦ rest ]
+pub some_live : (es : List (String Global × Vec ℕ)) (i : ℕ) (w : Vec ℕ) → i < length es → flag_at es i ≡ 1 → has_lines w.items ≡ false
+    → 1 ≤ length (filter is_live es)
+some_live es i w h f n =
+    let a = gaps_all es (length es) (omega arith) in
+    let g = gaps_after es i (length es) w h f n in
+    let m = gaps_most (set_value_at es i w) (length es) in
+    let l = length_set es i w in
+    omega (arith, a, g, m, l)
 
 -- ---- by place
 
@@ -270,11 +268,6 @@ pub entry_at_is : (es : List Entry) (k : ℕ) → k ≢ 0 → entry_at es k ≡ 
 entry_at_is es zero h = absurd (h refl)
 entry_at_is es (suc k) h = ap (slice_get es) (omega arith)
 
-past_end : (es : List Entry) (i : ℕ) → length es ≤ i → slice_get es i ≡ None
-past_end [] i h = refl
-past_end (e ∷ es) zero h = absurd (omega arith)
-past_end (e ∷ es) (suc i) h = past_end es i (omega arith)
-
 pub length_listed : (es : List (String Global × Vec ℕ)) → length (entries_of es) ≡ length (filter is_live es)
 length_listed [] = refl
 length_listed (e ∷ es) =
@@ -283,22 +276,9 @@ length_listed (e ∷ es) =
     ≡ length (cond b (e ∷ filter is_live es) (filter is_live es))) [ true ↦ ap suc rest | false ↦ rest ]
 
 pub live_within : (es : List (String Global × Vec ℕ)) → length (filter is_live es) ≤ length es
-live_within [] = omega arith
-live_within (e ∷ es) =
-    let rest = live_within es in
-    elim (is_live e) as (λ b. length (cond b (e ∷ filter is_live es) (filter is_live es)) ≤ suc (length es)) [
-      | true ↦ omega (arith, rest)
-      | false ↦ omega (arith, rest)
-    ]
+live_within es = let m = gaps_most es 0 in omega (arith, m)
 
-pub past_live : {es : List (String Global × Vec ℕ)} {m : Moves} {live : ℕ} → IsKept es m live → (place : ℕ)
-    → live < place → entry_at (entries_of es) place ≡ None
-past_live {es} kept place h =
-    let l = length_listed es in
-    entry_at_is (entries_of es) place (λ e. omega (arith, e, h))
-    ∙ past_end (entries_of es) (place - 1) (omega (arith, l, kept.living, h))
-
--- the slot that is not moved up by more than it is after the place
+-- the slot that stands as far after a place as its entry moved up
 pub entry_in : (es : List (String Global × Vec ℕ)) (place s : ℕ) → place ≢ 0 → flag_at es s ≡ 1 → place - 1 + gaps es s ≡ s
     → entry_at (entries_of es) place ≡ option_map entry_of (slice_get es s)
 entry_in es place s p f c =

@@ -21,7 +21,11 @@ close-requires c =
     }
 
 pub overflow_sub-entries : goal.overflow_sub-entries
-overflow_sub-entries c = some_live c.entries.invariant c.in-Some.slot c.in-Some.ensures.live
+overflow_sub-entries c =
+    let es = c.entries.inside.map.entries in
+    let w = at_within c.args.target.now es c.in-Some.slot c.in-Some.ensures.here in
+    let s = some_live es c.in-Some.slot c.new.result w c.in-Some.ensures.live (ap has_lines c.new.ensures.items) in
+    omega (arith, s, c.entries.invariant.living)
 
 pub invariant_of-entries : goal.invariant_of-entries
 invariant_of-entries c =

@@ -32,22 +32,12 @@ overflow_sub-middle-in-loop-high c =
     let g = gaps_small c.args.map.now.entries middle in
     omega (arith, m, g, c.at.ensures)
 
-pub returns-clause-live : goal.returns-clause-live
-returns-clause-live c =
+pub returns : goal.returns
+returns c =
     let es = c.args.map.now.entries in
     let v = c.loop-high.invariant in
     let next : c.loop-high.high ≡ suc c.loop-high.low = omega (arith, v.0, c.loop-high-test.false) in
     let up = subst (λ h. c.args.count + gaps es h < h) next v.3 in
     let g = gaps_next es c.loop-high.low (omega (arith, v.0, v.1)) in
     let f = flag_small es c.loop-high.low in
-    omega (arith, up, g, f, v.2)
-
-pub returns-clause-count : goal.returns-clause-count
-returns-clause-count c =
-    let es = c.args.map.now.entries in
-    let v = c.loop-high.invariant in
-    let next : c.loop-high.high ≡ suc c.loop-high.low = omega (arith, v.0, c.loop-high-test.false) in
-    let up = subst (λ h. c.args.count + gaps es h < h) next v.3 in
-    let g = gaps_next es c.loop-high.low (omega (arith, v.0, v.1)) in
-    let f = flag_small es c.loop-high.low in
-    omega (arith, up, g, f, v.2)
+    record { within = omega (arith, v.0, v.1); live = omega (arith, up, g, f, v.2); count = omega (arith, up, g, f, v.2) }
