@@ -204,7 +204,7 @@ fn put_last(
     // `len` is called for its clause that the number of entries fits.
     let _len = map.len();
     let key = String::from_str(alloc, target)?;
-    let mut lines = Vec::new(alloc);
+    let mut lines = Vec::with_capacity(alloc, 1)?;
     lines.push(line)?;
     map.insert(key, lines)?;
     Ok(live + 1)
@@ -230,13 +230,7 @@ fn add_entry(
         entries.live,
         target,
     )?;
-    entries.live = put_last(
-        alloc,
-        &mut entries.map,
-        entries.live,
-        target,
-        line,
-    )?;
+    entries.live = put_last(alloc, &mut entries.map, entries.live, target, line)?;
     Ok(())
 }
 

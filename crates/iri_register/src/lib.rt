@@ -16,11 +16,12 @@
 //! Not proved: that memory is allocated, so that an `add`, a `remove` or a `find` that answered `Memory` to each valid
 //! reference would keep its contract (`remove` and `find` of a register without entries take none); tests show that
 //! each succeeds with ample memory. The words of `RegisterError`'s `Display`, which `thiserror` makes and a test reads.
-//! How long a call takes: time in the reference's and the target's length, and in the logarithm of the number of
-//! entries. What memory it takes: a removed target's text stays until slots run out, and there are no more than two, or
-//! four times as many as entries ever stood at once. That a key changes the hashes: whoever picks the references can
-//! make targets collide in a register by [`new`](register::Register::new), and not in one by
-//! [`with_key`](register::Register::with_key) with a key that they don't know.
+//! How long a call takes: time in the reference's and the target's length, a removal also in the square root of the number
+//! of entries, and what reads a place in the logarithm of the number of removed ones. What memory it takes: a removed
+//! target's text stays until slots run out, and there are no more than 729, or four times as many as entries ever stood at
+//! once. That a key changes the hashes: whoever picks the references can make targets collide in a register by
+//! [`new`](register::Register::new), and not in one by [`with_key`](register::Register::with_key) with a key that they
+//! don't know.
 #![tactic(auto)]
 
 pub mod added;

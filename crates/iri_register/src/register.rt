@@ -60,9 +60,10 @@ struct Links {
     entries: Entries,
 }
 
-// Writes the canonical target of a reference in place of what the buffer holds.
+// Writes the canonical target of a reference in place of what the buffer holds, which first gets room for so many bytes.
 fn write_target<S: Spec>(
     buffer: &mut String,
+    room: usize,
     resolver: &FixedBaseResolver<'_, S>,
     reference: &[u8],
 ) -> Result<(), RegisterError>
@@ -72,6 +73,9 @@ fn write_target<S: Spec>(
     match SplitView::try_from_bytes(reference) {
         Ok(reference) => {
             buffer.clear();
+            if buffer.reserve(room).is_err() {
+                return Err(RegisterError::Memory);
+            }
             match resolver.canonical_into(buffer, &reference) {
                 Ok(()) => Ok(()),
                 Err(_) => Err(RegisterError::Memory),
@@ -108,8 +112,9 @@ impl Links {
         if entries::len(&self.entries) == 0 {
             return none_there::<S>(reference);
         }
+        // The last line's target has had room for each that is there, so one found allocates once.
         let mut target = String::new(self.alloc);
-        match write_target(&mut target, resolver, reference) {
+        match write_target(&mut target, self.target.capacity(), resolver, reference) {
             Ok(()) => Ok(entries::find(&self.entries, target.as_str())),
             Err(error) => Err(error),
         }
@@ -128,7 +133,7 @@ impl Links {
         ensures entries { Adds S.tests (base_text resolver.now) self.old.entries self.new.entries reference.now line result }
         ensures unchanged { OnErr result (self.new.entries ≡ self.old.entries) }
     {
-        match write_target(&mut self.target, resolver, reference) {
+        match write_target(&mut self.target, 0, resolver, reference) {
             Ok(()) => match entries::add(
                 self.alloc,
                 &mut self.entries,
@@ -157,7 +162,7 @@ impl Links {
         if entries::len(&self.entries) == 0 {
             return none_there::<S>(reference);
         }
-        match write_target(&mut self.target, resolver, reference) {
+        match write_target(&mut self.target, 0, resolver, reference) {
             Ok(()) => Ok(entries::remove(self.alloc, &mut self.entries, self.target.as_str())),
             Err(error) => Err(error),
         }

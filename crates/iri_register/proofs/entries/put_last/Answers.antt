@@ -16,7 +16,7 @@ returns c =
     let is : string_bytes key ≡ c.args.target.now = c.in_ok-key.ensures.ok in
     let none : is_some (lookup (is_text (string_bytes key)) es) ≡ false =
     subst (λ t. is_some (lookup (is_text t) es) ≡ false) (sym is) c.requires.absent in
-    let lines = c.in_ok-push.ensures.items ∙ ap (λ l. l ++ c.args.line ∷ []) c.new-lines.ensures.items in
+    let lines = c.in_ok-push.ensures.items ∙ ap (λ l. l ++ c.args.line ∷ []) c.in_ok-lines.ensures.items in
     let last = c.in_ok-insert.ensures.entries ∙ insert_last key w es none in
     record {
       kept = λ moves kept room. subst (λ ls. IsKept ls moves (c.args.live + 1)) (sym last) (kept_more kept (key, w) room (ap has_lines lines));

@@ -33,13 +33,13 @@ returns-clause-after c k lt h =
     let b = ap (λ l. get_or l (k / m.width) 0) c.as_mut_slice-2.ensures.value in
     ⊎_elim
     (λ inside.
-        let x = c.raise.ensures.between k (omega (arith, lt)) inside in
-        let y = c.raise-2.ensures.before (k / m.width) ((div-lt_iff_lt-mul c.requires.blocked.wide).1 inside) in
-        omega (arith, slots, blocks, s, b, x, y))
+    let x = c.raise.ensures.between k (omega (arith, lt)) inside in
+    let y = c.raise-2.ensures.before (k / m.width) ((div-lt_iff_lt-mul c.requires.blocked.wide).1 inside) in
+    omega (arith, slots, blocks, s, b, x, y))
     (λ past.
-        let x = c.raise.ensures.after k past in
-        let w : k / m.width < length m.blocks.items = (div-lt_iff_lt-mul c.requires.blocked.wide).1 (omega (arith, h, c.requires.blocked.size)) in
-        let y = c.raise-2.ensures.between (k / m.width) ((le-div_iff_mul-le c.requires.blocked.wide).1 past)
-        (omega (arith, w, c.len-blocks.ensures, m.blocks.ok.0)) in
-        omega (arith, slots, blocks, s, b, x, y))
+    let x = c.raise.ensures.after k past in
+    let w : k / m.width < length m.blocks.items = (div-lt_iff_lt-mul c.requires.blocked.wide).1 (omega (arith, h, c.requires.blocked.size)) in
+    let y = c.raise-2.ensures.between (k / m.width) ((le-div_iff_mul-le c.requires.blocked.wide).1 past)
+    (omega (arith, w, c.len-blocks.ensures, m.blocks.ok.0)) in
+    omega (arith, slots, blocks, s, b, x, y))
     (cases_lt k (next * m.width))

@@ -8,4 +8,4 @@ returns-in-Ok-canonical_into-clause-text g c =
     let s = g.S.Spec.tests in
     let b = base_text c.args.resolver.now in
     let whole = canonical s b (split_text c.in-Ok.reference) in
-    c.in-Ok-canonical_into.ensures.text ∙ (ap (λ o. o ++ whole) c.clear.ensures.bytes ∙ ap (canonical s b) c.in-Ok.ensures.text)
+    c.in-Ok-canonical_into.ensures.text ∙ (ap (λ o. o ++ whole) (c.reserve.ensures.bytes ∙ c.clear.ensures.bytes) ∙ ap (canonical s b) c.in-Ok.ensures.text)
