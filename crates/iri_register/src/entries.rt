@@ -204,7 +204,8 @@ fn put_last(
     // `len` is called for its clause that the number of entries fits.
     let _len = map.len();
     let key = String::from_str(alloc, target)?;
-    let mut lines = Vec::with_capacity(alloc, 1)?;
+    // Three numbers take no more of the heap than one.
+    let mut lines = Vec::with_capacity(alloc, 3)?;
     lines.push(line)?;
     map.insert(key, lines)?;
     Ok(live + 1)
