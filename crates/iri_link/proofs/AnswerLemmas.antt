@@ -8,10 +8,12 @@ use Rattle.iri_link.specs.Fault.{Told, Fault as FaultAt}
 use Rattle.iri_link.specs.declared.error.LinkKind.{LinkKind}
 use Rattle.iri_link.specs.Refusals.{RefusedBy}
 use Rattle.iri_link.specs.inside.Halts.{IsTold}
-use Rattle.iri_link.specs.inside.ReadLinks.{ReadsField}
+use Rattle.iri_link.specs.inside.KeptLinks.{ReadsField}
+use Rattle.iri_link.specs.Readings.{links_in}
 use Rattle.iri_link.specs.declared.error.LinkError.{LinkError}
 use Rattle.iri_link.specs.declared.error.LinkError.TheVariants.{Fault, Memory}
 use Rattle.iri_link.specs.declared.error.LinkKind.TheVariants.{NotUtf8}
+use Rattle.iri_link.proofs.FieldLemmas.{links_of_faultless}
 use Rattle.iri_link.proofs.NoFaultLemmas.{links_without_fault}
 
 -- what has a fault has no link-values
@@ -24,7 +26,11 @@ text_fault s y u =
 
 answered : (s : Tests) (base y : List ℕ) → IsUtf8 y → (r : Result (List LinkValue) LinkError)
     → MatchResult r (λ l. ReadsField s base y l) (IsTold s y) → MatchResult r (IsRead s base y) (RefusedBy s y)
-answered s base y u (Ok l) h = record { links = h.sources; has = record { utf8 = u; field = h.field; valid = h.valid }; resolves = h.kept }
+answered s base y u (Ok l) h = record {
+  links = links_in y;
+  has = links_of_faultless s y (text_fault s y u ∙ ap (place_in y) h.faultless);
+  resolves = h.kept;
+}
 answered s base y u (Err (Fault k p)) h = let e = text_fault s y u ∙ h in (e, faulty s y (record { kind = k; place = p }) e)
 answered s base y u (Err Memory) h = (u, h)
 

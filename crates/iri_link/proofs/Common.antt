@@ -35,7 +35,7 @@ pub use Rattle.iri_link.specs.Resolved.{IsRead, resolved}
 pub use Rattle.iri_link.specs.Stored.{param_of, link_of, links_of}
 pub use Rattle.iri_link.specs.Token.{is_pair_char, is_plain_char, is_blanks, is_token_char, is_token, IsQuoted, done, plain, pair}
 pub use Rattle.iri_link.specs.Written.{escaped, written_param, written_link, written}
-pub use Rattle.iri_link.specs.inside.ReadParams.{ends_link, ReadsParams, ReadsValue, ReadsSome}
+pub use Rattle.iri_link.specs.inside.ReadParams.{ReadsValue}
 pub use Rattle.iri_link.specs.inside.ReadQuoted.{unquoted, IsCutQuoted}
 unfoldable pub use Rattle.iri_link.specs.inside.ReadQuoted.{quoted_len, unquoted_from}
 pub use Rattle.iri_link.specs.inside.Runs.{IsRun, run_test}

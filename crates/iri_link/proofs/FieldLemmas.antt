@@ -8,13 +8,12 @@ use Rattle.iri_link.proofs.Common.{IsElement, no_element, element, IsField, last
 use Rattle.iri_link.proofs.Common.{in_target, after_param, after_semicolon, in_name, after_name, after_equals, in_token, in_quoted}
 use Rattle.std.proofs.Common.{◌⊎◌}
 use Rattle.std.specs.Str.Lossy.{utf8_valid_len}
-use Rattle.iri_grammar.specs.declared.error.ErrorKind.{ErrorKind}
 use Rattle.iri_grammar.proofs.splits.CutLaws.{before-delimited, lacks-other}
 use Rattle.iri_link.specs.Fault.{Fault, fault_from, closes_from, target_fault, told_target, earlier, place_in, field_fault}
 use Rattle.iri_link.specs.Phases.{in_pair}
 use Rattle.iri_link.specs.declared.error.LinkKind.TheVariants.{NotUtf8, NoTarget, OpenTarget, NoParam, NoValue, OpenString}
 use Rattle.iri_link.proofs.OneListLemmas.{name_stops, semicolon-name as semicolon_read, equals-token as equals_read}
-use Rattle.iri_link.proofs.ParamLemmas.{no_param}
+use Rattle.iri_link.proofs.TargetLemmas.{target_none}
 use Rattle.iri_link.proofs.PhaseLemmas.{semicolon-name, name-run, name-ends, equals-token, token-run, token-ends}
 use Rattle.iri_link.specs.Readings.{Reading, of_links, of_params, more, param_end, reading, links_in}
 
@@ -240,7 +239,7 @@ module _ (s : Tests) (c : ℕ) (cs : List ℕ) (i : Complete s cs) where
       (λ a. at_char c 44 P (λ h. at_comma cs (links_in cs) none (i.start h))
       (λ b. at_char c 32 P (λ h. has_blank 32 refl (λ f k. params_blank 32 refl f _ k) (i.params h))
       (λ d. at_char c 9 P (λ h. has_blank 9 refl (λ f k. params_blank 9 refl f _ k) (i.params h))
-      (λ e h. let w = no_param s (c ∷ cs) (rw (d, e) refl) a b in cc))))
+      (λ e h. let w : fault_from s after_param (c ∷ cs) ≡ Some (record { kind = NoParam; rest = c ∷ cs }) = rw (d, e, a, b) refl in cc))))
 
   semicolon_step : fault_from s after_semicolon (c ∷ cs) ≡ None
       → Has s (λ f. IsSemicolonRest f (reading after_semicolon (c ∷ cs)).params) (c ∷ cs) (reading after_semicolon (c ∷ cs)).links
@@ -403,10 +402,6 @@ module _ (s : Tests) (c : ℕ) (cs : List ℕ) (i : Complete s cs) where
       (subst (λ z. IsField (x ++ z) (l ∷ [])) (sym (append-nil b)) (last (x ++ b) (l ∷ []) (element [] x b l refl h hb)), All-cons (HasReference s) l [] v (All-nil (HasReference s)))
   ended x b rest l ls h hb v (comma y ms f all) =
       (subst (λ z. IsField z (l ∷ ms)) (append_assoc x b (44 ∷ y)) (more_elements (x ++ b) y (l ∷ []) ms (element [] x b l refl h hb) f), All-cons (HasReference s) l ms v all)
-
-  target_none : (r : List ℕ) (o : Option ErrorKind) → told_target o r ≡ None → o ≡ None
-  target_none r None h = refl
-  target_none r (Some k) h = cc
 
   open_none : target_fault s cs ≡ None → (lacks 62 cs ≡ false) × (reference_fault s (before 62 cs) ≡ None)
   open_none h =

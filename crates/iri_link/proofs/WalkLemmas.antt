@@ -1,15 +1,16 @@
 -- What each piece of a walk over a field value leaves.
-use Rattle.iri_link.proofs.Common.{◌≡◌, ℕ, ◌<◌, Bool, true, false, List, [], ◌∷◌, ◌++◌, Option, Some, None, length, refl, sym, ap, ◌∙◌}
-use Rattle.iri_link.proofs.Common.{list_all, subst, arith, ◌==◌, ◌||◌, eqb-true, Tests, before, after, delimited, lacks, reference_fault}
+use Rattle.iri_link.proofs.Common.{◌≡◌, ℕ, ◌<◌, Bool, true, false, List, [], ◌∷◌, ◌++◌, Some, None, length, refl, sym, ap, ◌∙◌}
+use Rattle.iri_link.proofs.Common.{list_all, subst, arith, append_assoc, append-nil, both, is_blanks, ◌==◌, ◌||◌, eqb-true, Tests, before, after, delimited, lacks, reference_fault}
 use Rattle.iri_link.proofs.Common.{is_blank, is_token_char, LinkParam, LinkValue, before_link, in_target, after_param, after_semicolon, in_name}
-use Rattle.iri_link.proofs.Common.{next, fault_from, target_fault, earlier, first_passes, IsRun, by_test, ends_link}
+use Rattle.iri_link.proofs.Common.{next, fault_from, target_fault, earlier, first_passes, IsRun, by_test}
 use Rattle.std.proofs.Common.{length-append}
 use Rattle.std.proofs.lemmas.List.{nil_from_length}
 use denote.Bor.{Bor}
 use Rattle.iri_grammar.proofs.splits.CutLaws.{joined}
 use Rattle.iri_grammar.proofs.faults.Scans.{before-lacks}
-use Rattle.iri_link.specs.Fault.{Fault, unless, told_target}
+use Rattle.iri_link.specs.Fault.{unless, told_target}
 use Rattle.iri_link.specs.Phases.{may_follow}
+use Rattle.iri_link.specs.Refusals.{KeepsTarget}
 use Rattle.iri_link.specs.Readings.{Reading, reading, links_in}
 use Rattle.iri_link.specs.declared.error.LinkKind.TheVariants.{NoTarget, OpenTarget, NoParam}
 use Rattle.iri_link.specs.declared.halt.Halt.{Halt}
@@ -17,16 +18,15 @@ use Rattle.iri_link.specs.declared.param_text.ParamText.{ParamText}
 use Rattle.iri_link.specs.declared.piece.Piece.{Piece}
 use Rattle.iri_link.specs.declared.piece.Piece.TheVariants.{Target, Param, NoParam as NoneThere, Comma}
 use Rattle.iri_link.specs.inside.Halts.{IsFault}
-use Rattle.iri_link.specs.inside.Pieces.{Comes, Ends, Left, left_at, param_said, phase_at, piece_fault, stands}
+use Rattle.iri_link.specs.inside.Pieces.{Comes, Ends, Left, left_at, param_said}
 use Rattle.iri_link.specs.inside.ReadParams.{ReadsParam}
-use Rattle.iri_link.proofs.LinkLemmas.{no_target, target_open}
 use Rattle.iri_link.proofs.NoFaultLemmas.{comma_same, end_same}
 use Rattle.iri_link.proofs.OneListLemmas.{Same, IsStop, param-blanks, semicolon-blanks, start-blanks, at_semicolon, at_comma, at_end, stops}
 use Rattle.iri_link.proofs.OneListLemmas.{param-given, link-open, target-given}
 use Rattle.iri_link.proofs.ParamLemmas.{no_param, ready_semicolon, semicolon_ready}
 use Rattle.iri_link.proofs.PhaseLemmas.{by_blank, start-blanks as blanks_before, ready-blanks, semicolon-blanks as blanks_after, semicolon-name}
 use Rattle.iri_link.proofs.QuotedLemmas.{after-shorter}
-use Rattle.iri_link.proofs.TargetLemmas.{some-lacks, target-goes, open_goes}
+use Rattle.iri_link.proofs.TargetLemmas.{some-lacks, target-goes, open_goes, no_target, target_open, target_none}
 
 -- ---- what may follow a parameter of a text without a fault
 follows : (s : Tests) (c : ℕ) (cs : List ℕ) → fault_from s after_param (c ∷ cs) ≡ None
@@ -74,6 +74,26 @@ left_of ps ls = record { params = ps; links = ls }
 left_same : {r z : Reading} → Same r z → left_of r.params r.links ≡ left_of z.params z.links
 left_same {r} {z} k = ap (λ p. left_of p r.links) k.params ∙ ap (left_of z.params) k.links
 
+-- ---- a target that is kept
+skipped_blanks : (a y : List ℕ) → is_blanks a ≡ true → list_all (λ c. is_blank c || c == 44) y ≡ true
+    → list_all (λ c. is_blank c || c == 44) (a ++ y) ≡ true
+skipped_blanks [] y h k = k
+skipped_blanks (c ∷ cs) y h k =
+    let b = both (is_blank c) (list_all is_blank cs) h in
+    let rest = skipped_blanks cs y b.1 k in
+    by_blank c (λ d. list_all (λ c. is_blank c || c == 44) (d ∷ (cs ++ y)) ≡ true) rest rest b.0
+
+kept_past_comma : (s : Tests) (t a rest : List ℕ) → t ≡ a ++ 44 ∷ rest → is_blanks a ≡ true → KeepsTarget s rest → KeepsTarget s t
+kept_past_comma s t a rest e h k = record {
+  prefix = a ++ 44 ∷ k.prefix;
+  target = k.target;
+  rest = k.rest;
+  whole = e ∙ (ap (λ l. a ++ 44 ∷ l) k.whole ∙ sym (append_assoc a (44 ∷ k.prefix) (60 ∷ (k.target ++ 62 ∷ k.rest))));
+  skipped = skipped_blanks a (44 ∷ k.prefix) h k.skipped;
+  closed = k.closed;
+  valid = k.valid;
+}
+
 -- ---- before a link-value, over blanks
 module _ (t a next : List ℕ) (h : IsRun is_blank t a next) where
   goes_before : (s : Tests) → fault_from s before_link t ≡ fault_from s before_link next
@@ -86,6 +106,7 @@ module _ (t a next : List ℕ) (h : IsRun is_blank t a next) where
   comma_before rest e = record {
     goes = λ s. goes_before s ∙ (ap (fault_from s before_link) e ∙ (comma_same s rest).3);
     reads = λ s _. ap (left_of []) (links_before ∙ (ap links_in e ∙ (at_comma rest).3));
+    keeps = λ s _ _. kept_past_comma s t a rest (h.whole ∙ ap (λ l. a ++ l) e) h.all;
     named = tt;
     shorter = shorter t a next rest 44 h.whole e;
   }
@@ -103,7 +124,7 @@ module _ (t a next : List ℕ) (h : IsRun is_blank t a next) where
 
   pub open_before : (inner : List ℕ) → next ≡ 60 ∷ inner → None ≡ after 62 inner
       → (s : Tests) → fault_from s before_link t ≡ Some (record { kind = OpenTarget; rest = next })
-  open_before inner e none s = goes_before s ∙ target_open s next inner (before 62 inner) e refl none
+  open_before inner e none s = goes_before s ∙ target_open s next inner e none
 
   pub target_before : (inner u : Bor (List ℕ)) (rest : List ℕ) → next ≡ 60 ∷ inner.now → u.now ≡ before 62 inner.now → Some rest ≡ after 62 inner.now
       → Comes false t (Target inner u) rest
@@ -121,6 +142,15 @@ module _ (t a next : List ℕ) (h : IsRun is_blank t a next) where
             ∙ (ap (λ o. earlier o (fault_from s in_target inner.now)) right
             ∙ ap (earlier (told_target (reference_fault s u.now) inner.now)) (target-goes s inner.now rest r))));
         reads = λ s _. ap (left_of []) (links_before ∙ (ap links_in e ∙ (ap (λ z. links_in (60 ∷ z)) whole ∙ opened u.now rest closed)));
+        keeps = λ s _ valid. record {
+          prefix = a;
+          target = u.now;
+          rest = rest;
+          whole = h.whole ∙ ap (λ l. a ++ l) (e ∙ ap (λ l. 60 ∷ l) whole);
+          skipped = subst (λ z. list_all (λ c. is_blank c || c == 44) z ≡ true) (append-nil a) (skipped_blanks a [] h.all refl);
+          closed = closed;
+          valid = target_none inner.now (reference_fault s u.now) valid;
+        };
         named = tt;
         shorter = omega (arith, shorter t a next inner.now 60 h.whole e, after-shorter 62 inner.now rest r);
       }
@@ -137,10 +167,6 @@ module _ (t a next : List ℕ) (h : IsRun is_blank t a next) where
           ∙ ap (λ w. record { target = v; params = z.params } ∷ w) g.links))
 
 -- ---- after a target or a parameter, over blanks
-not_ended : (t : List ℕ) → first_passes (λ c. c == 44) t ≡ false → (length t == 0) ≡ false → ends_link t ≡ false
-not_ended [] h k = cc
-not_ended (c ∷ cs) h k = h
-
 module _ (t a next : List ℕ) (h : IsRun is_blank t a next) where
   goes_inside : (s : Tests) → fault_from s after_param t ≡ fault_from s after_param next
   goes_inside s = ap (fault_from s after_param) h.whole ∙ ready-blanks s a next h.all
@@ -152,6 +178,7 @@ module _ (t a next : List ℕ) (h : IsRun is_blank t a next) where
   comma_inside rest e = record {
     goes = λ s. goes_inside s ∙ (ap (fault_from s after_param) e ∙ (comma_same s rest).1);
     reads = λ s _. left_inside ∙ (ap (left_at true) e ∙ left_same (at_comma rest).1);
+    keeps = λ s f. cc;
     named = tt;
     shorter = shorter t a next rest 44 h.whole e;
   }
@@ -165,7 +192,7 @@ module _ (t a next : List ℕ) (h : IsRun is_blank t a next) where
 
   pub no_param_inside : first_passes (λ c. c == 59) next ≡ false → first_passes (λ c. c == 44) next ≡ false → (length next == 0) ≡ false
       → (s : Tests) → fault_from s after_param t ≡ Some (record { kind = NoParam; rest = next })
-  no_param_inside semi comma some s = goes_inside s ∙ no_param s next h.ends semi (not_ended next comma some)
+  no_param_inside semi comma some s = goes_inside s ∙ no_param s next h.ends semi comma some
 
   pub fault_inside : (e : Halt) (s : Tests) → IsFault e (fault_from s after_param next) → IsFault e (fault_from s after_param t)
   fault_inside e s k = subst (IsFault e) (sym (goes_inside s)) k
@@ -174,6 +201,7 @@ module _ (t a next : List ℕ) (h : IsRun is_blank t a next) where
   piece_inside x rest k = record {
     goes = λ s. goes_inside s ∙ k.goes s;
     reads = λ s v. left_inside ∙ k.reads s v;
+    keeps = λ s f. cc;
     named = k.named;
     shorter = omega (arith, k.shorter, ap length h.whole, length-append a next);
   }
@@ -194,6 +222,7 @@ module _ (whole following b next : List ℕ) (e : whole ≡ 59 ∷ following) (h
   none_after none = record {
     goes = λ s. goes_after s ∙ semicolon_ready s next h.ends none;
     reads = λ s v. left_after ∙ left_same (valid_stop s next v).semicolon_ends;
+    keeps = λ s f. cc;
     named = tt;
     shorter = omega (arith, ap length e, ap length h.whole, length-append b next);
   }
@@ -209,6 +238,7 @@ module _ (whole following b next : List ℕ) (e : whole ≡ 59 ∷ following) (h
         let d = param-given r.prefix rest q r.param (valid_stop s rest v) in
         left_after ∙ (ap (λ x. left_of (reading after_semicolon x).params (reading after_semicolon x).links) r.whole
         ∙ (ap (λ ps. left_of ps R.links) d.params ∙ ap (left_of (q ∷ z.params)) d.links));
+    keeps = λ s f. cc;
     named = named;
     shorter = omega (arith, ap length e, ap length h.whole, length-append b next, ap length r.whole, length-append r.prefix rest);
   }
@@ -216,20 +246,3 @@ module _ (whole following b next : List ℕ) (e : whole ≡ 59 ∷ following) (h
   pub fault_after : (k : Halt) (s : Tests) → first_passes is_token_char next ≡ true → IsFault k (fault_from s in_name next)
       → IsFault k (fault_from s after_param whole)
   fault_after k s begun is = subst (IsFault k) (sym (goes_after s ∙ semicolon-name s next begun)) is
-
--- ---- a walk goes on
-pub walked : (s : Tests) (p q : Bool) (text t rest : List ℕ) (x : Piece) → fault_from s before_link text ≡ fault_from s (phase_at p) t
-    → Comes p t x rest → piece_fault s x ≡ None → q ≡ stands x → fault_from s before_link text ≡ fault_from s (phase_at q) rest
-walked s p q text t rest x same k none is =
-    same ∙ (k.goes s ∙ (ap (λ o. earlier o (fault_from s (phase_at (stands x)) rest)) none ∙ ap (λ b. fault_from s (phase_at b) rest) (sym is)))
-
--- a piece that is wrong is the first fault
-pub piece_wrong : (e : Halt) (s : Tests) (p : Bool) (text t rest : List ℕ) (x : Piece)
-    → fault_from s before_link text ≡ fault_from s (phase_at p) t → Comes p t x rest → IsFault e (piece_fault s x)
-    → IsFault e (fault_from s before_link text)
-piece_wrong e s p text t rest x same k wrong = subst (IsFault e) (sym (same ∙ k.goes s)) (earlier_wrong e (piece_fault s x) wrong)
-  where
-    earlier_wrong : (k : Halt) (f : Option Fault) → IsFault k f → IsFault k (earlier f (fault_from s (phase_at (stands x)) rest))
-    earlier_wrong k (Some f) is = is
-    earlier_wrong (Rattle.iri_link.specs.declared.halt.Halt.TheVariants.Fault i r) None is = cc
-    earlier_wrong Rattle.iri_link.specs.declared.halt.Halt.TheVariants.Memory None is = absurd is

@@ -1,8 +1,8 @@
 -- What private contracts cite.
 pub mod CutDelimiters
 pub mod Halts
+pub mod KeptLinks
 pub mod Pieces
-pub mod ReadLinks
 pub mod ReadParams
 pub mod ReadQuoted
 pub mod Runs

@@ -1,24 +1,22 @@
 // Parameters of link-values (RFC 8288 section 3).
-ghost use Rattle.std.specs.Prelude.{◌≡◌, ◌++◌, ◌∷◌, [], false, true, map, option_map, IfOk, OnOk, MatchOption, MatchResult};
+ghost use Rattle.std.specs.Prelude.{◌≡◌, true, option_map, IfOk, MatchOption, MatchResult};
 ghost use Rattle.std.specs.List.{list_all};
 ghost use Rattle.iri_grammar.specs.Classes.{Tests};
 ghost use Rattle.iri_link.specs.Fault.{fault_from};
-ghost use Rattle.iri_link.specs.Phases.{after_param, after_semicolon, in_name, after_name};
+ghost use Rattle.iri_link.specs.Phases.{after_param, in_name, after_name};
 ghost use Rattle.iri_grammar.specs.OptionalSlices.{now_of};
 ghost use Rattle.iri_link.specs.Stored.{param_of, value_of};
-ghost use Rattle.iri_grammar.specs.Blanks.{is_blank};
 ghost use Rattle.iri_link.specs.Token.{is_token_char};
-ghost use Rattle.iri_link.specs.inside.Halts.{HaltsAt, IsFault};
-ghost use Rattle.iri_link.specs.inside.ReadParams.{ends_link, ReadsEquals, ReadsParam, AddsParam, ReadsParams};
+ghost use Rattle.iri_link.specs.inside.Halts.{IsFault};
+ghost use Rattle.iri_link.specs.inside.ReadParams.{ReadsEquals, ReadsParam};
 ghost use Rattle.iri_link.specs.inside.ReadQuoted.{unquoted};
 ghost use Rattle.iri_link.specs.inside.Pieces.{param_said};
 ghost use Rattle.iri_grammar.specs.inside.Runs.{first_passes};
 
-use crate::error::LinkKind;
 use crate::halt::Halt;
 use crate::param_text::ParamText;
 use crate::quoted::unquote;
-use crate::runs::{Run, begins_token, cut_run, past};
+use crate::runs::{Run, cut_run, past};
 use crate::value::cut_value;
 use std::alloc::{AllocError, Global};
 
@@ -78,72 +76,10 @@ fn keep_value(alloc: Global, value: Option<&str>) -> Result<Option<String>, Allo
 }
 
 // A parameter, owned.
-fn keep_param(alloc: Global, param: ParamText<'_>) -> Result<Param, AllocError>
+pub(crate) fn keep_param(alloc: Global, param: ParamText<'_>) -> Result<Param, AllocError>
     ensures { IfOk result (λ p. param_of p ≡ param_said param.entry) }
 {
     let name = param.name.to_ascii_lowercase(alloc)?;
     let value = keep_value(alloc, param.value)?;
     Ok(Param { name, value })
-}
-
-// Puts a parameter, owned, at the end.
-fn push_kept(alloc: Global, params: &mut Vec<Param>, param: ParamText<'_>) -> Result<(), AllocError>
-    ensures { OnOk result (map param_of params.new.items
-        ≡ map param_of params.old.items ++ param_said param.entry ∷ []) }
-{
-    let kept = keep_param(alloc, param)?;
-    params.push(kept)?;
-    Ok(())
-}
-
-// The parameter that may come after a `;` and blanks, put at the end, and what follows it.
-fn push_param<'a>(alloc: Global, params: &mut Vec<Param>, s: &'a str) -> Result<&'a str, Halt<'a>>
-    requires { first_passes is_blank s.now ≡ false }
-    ensures { MatchResult result
-        (λ r. AddsParam s.now r.now (map param_of params.old.items) (map param_of params.new.items))
-        (λ e. (t : Tests) → HaltsAt e (fault_from t after_semicolon s.now)) }
-{
-    if !begins_token(s) {
-        return Ok(s);
-    }
-    match cut_param(s) {
-        Ok((param, rest)) => match push_kept(alloc, params, param) {
-            Ok(()) => Ok(rest),
-            Err(_) => Err(Halt::Memory),
-        },
-        Err(halt) => Err(halt),
-    }
-}
-
-// Whether nothing, or a comma, is left.
-fn ends_link(s: &str) -> bool
-    ensures { result ≡ ends_link s.now }
-{
-    match s.as_bytes() {
-        [b, ..] => *b == b',',
-        _ => true,
-    }
-}
-
-// The parameters of a link-value, and what follows them and blanks: nothing, or a comma.
-pub(crate) fn read_params<'a>(alloc: Global, s: &'a str) -> Result<(Vec<Param>, &'a str), Halt<'a>>
-    ensures { MatchResult result (λ r. ReadsParams s.now r.1.now (map param_of r.0.items))
-        (λ e. (t : Tests) → HaltsAt e (fault_from t after_param s.now)) }
-{
-    let mut params = Vec::new(alloc);
-    let mut rest = s;
-    'params: loop {
-        let (_, next) = cut_run(Run::Blank, rest);
-        let Some(following) = past(next, b';') else {
-            if ends_link(next) {
-                return Ok((params, next));
-            }
-            return Err(Halt::Fault(LinkKind::NoParam, next));
-        };
-        let (_, piece) = cut_run(Run::Blank, following);
-        match push_param(alloc, &mut params, piece) {
-            Ok(after) => rest = after,
-            Err(halt) => return Err(halt),
-        }
-    }
 }

@@ -5,7 +5,7 @@ ghost use Rattle.iri_types.specs.Texts.{text};
 ghost use Rattle.iri_link.specs.Refusals.{RefusedBy};
 ghost use Rattle.iri_link.specs.Resolved.{IsRead};
 ghost use Rattle.iri_link.specs.inside.Halts.{IsTold};
-ghost use Rattle.iri_link.specs.inside.ReadLinks.{ReadsField};
+ghost use Rattle.iri_link.specs.inside.KeptLinks.{ReadsField};
 
 use crate::error::{LinkError, LinkKind};
 use crate::halt::Halt;

@@ -2,7 +2,9 @@
 ghost use Rattle.std.specs.Prelude.{◌≡◌, ◌∷◌, None, true, false, MatchOption, MatchResult};
 ghost use Rattle.iri_grammar.specs.Classes.{Tests};
 ghost use Rattle.iri_grammar.specs.Characters.{semicolon};
-ghost use Rattle.iri_link.specs.Fault.{fault_from};
+ghost use Rattle.iri_grammar.specs.WholeFault.{reference_fault};
+ghost use Rattle.iri_types.specs.SplitText.{split_text};
+ghost use Rattle.iri_link.specs.Fault.{fault_from, told_target};
 ghost use Rattle.iri_link.specs.Phases.{before_link, after_param};
 ghost use Rattle.iri_link.specs.inside.Halts.{IsFault};
 ghost use Rattle.iri_link.specs.inside.Pieces.{Comes, Ends, phase_at, piece_fault, stands};
@@ -99,15 +101,30 @@ pub(crate) fn is_inside(piece: Piece<'_>) -> bool
     !matches!(piece, Piece::Comma)
 }
 
-// A target must be a `URI-Reference`.
+// The `URI-Reference` that a target must be; `inner` is what follows its `<`.
+pub(crate) fn reference_of<'a, S: Spec>(
+    inner: &'a str,
+    target: &'a str,
+) -> Result<SplitView<'a, S, Reference>, Halt<'a>>
+    ensures { MatchResult result
+        (λ r. (reference_fault S.tests target.now ≡ None) × (split_text r ≡ target.now))
+        (λ e. IsFault e (told_target (reference_fault S.tests target.now) inner.now)) }
+{
+    match SplitView::<S, Reference>::new(target) {
+        Ok(reference) => Ok(reference),
+        Err(error) => Err(Halt::Fault(LinkKind::BadTarget(error), inner)),
+    }
+}
+
+// The fault of a piece, where it has one.
 fn check_piece<'a, S: Spec>(piece: Piece<'a>) -> Result<(), Halt<'a>>
     ensures { MatchResult result (λ _. piece_fault S.tests piece.entry ≡ None)
         (λ e. IsFault e (piece_fault S.tests piece.entry)) }
 {
     match piece {
-        Piece::Target(inner, target) => match SplitView::<S, Reference>::new(target) {
+        Piece::Target(inner, target) => match reference_of::<S>(inner, target) {
             Ok(_) => Ok(()),
-            Err(error) => Err(Halt::Fault(LinkKind::BadTarget(error), inner)),
+            Err(halt) => Err(halt),
         },
         _ => Ok(()),
     }

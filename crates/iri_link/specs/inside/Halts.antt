@@ -1,5 +1,5 @@
 -- Where a reading halts.
-use Rattle.std.specs.Prelude.{◌≡◌, ℕ, List, ⊤, Option, Some}
+use Rattle.std.specs.Prelude.{◌≡◌, ℕ, true, List, Option, Some, None}
 use Rattle.iri_grammar.specs.Classes.{Tests}
 use Rattle.iri_link.specs.Fault.{Fault, fault_from, place_in}
 use Rattle.iri_link.specs.Phases.{before_link}
@@ -8,11 +8,17 @@ use Rattle.iri_link.specs.declared.error.LinkError.{LinkError}
 use Rattle.iri_link.specs.declared.error.LinkError.TheVariants.{Fault as ToldFault, Memory as ToldMemory}
 use Rattle.iri_link.specs.declared.halt.Halt.{Halt}
 use Rattle.iri_link.specs.declared.halt.Halt.TheVariants.{Fault as Halted, Memory}
+use Rattle.iri_link.specs.declared.piece.Piece.{Piece}
+use Rattle.iri_link.specs.inside.Pieces.{piece_fault, stands}
 
--- the cause of a halt after a target, where this is the first fault
+-- the cause of a halt at what may have this fault: the fault, or memory where it has none
 abbrev pub HaltsAt : Halt → Option Fault → Type 0
 HaltsAt (Halted k r) f = f ≡ Some (record { kind = k; rest = r.now })
-HaltsAt Memory f = ⊤
+HaltsAt Memory f = f ≡ None
+
+-- the same at a piece: one that is kept
+abbrev pub HaltsPast : Tests → Halt → Piece → Type 0
+HaltsPast s e x = HaltsAt e (piece_fault s x) × (stands x ≡ true)
 
 -- the fault of a halt that isn't for memory
 abbrev pub IsFault : Halt → Option Fault → Type 0

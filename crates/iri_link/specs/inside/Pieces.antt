@@ -11,6 +11,7 @@ use Rattle.iri_link.specs.Fault.{Fault, earlier, fault_from, told_target}
 use Rattle.iri_link.specs.Field.{LinkParam, LinkValue}
 use Rattle.iri_link.specs.Phases.{Phase, before_link, after_param}
 use Rattle.iri_link.specs.Readings.{reading}
+use Rattle.iri_link.specs.Refusals.{KeepsTarget}
 use Rattle.std.specs.List.{list_all}
 use Rattle.iri_link.specs.Token.{is_token_char}
 use Rattle.iri_link.specs.Written.{written_param}
@@ -59,10 +60,16 @@ abbrev pub IsNamed : Piece → Type 0
 IsNamed (Param p) = list_all is_token_char p.name.now ≡ true
 IsNamed _ = ⊤
 
+-- a target is kept in t: in what stands before a rest past a target or a parameter, else where one is kept in the rest
+abbrev pub Keeps : Tests → Bool → (t rest : List ℕ) → Type 0
+Keeps s true t rest = KeepsTarget s t
+Keeps s false t rest = KeepsTarget s rest → KeepsTarget s t
+
 -- the piece comes next in t, and then a rest
 pub record Comes (inside : Bool) (t : List ℕ) (x : Piece) (rest : List ℕ) : Type 0 where
   pub goes : (s : Tests) → fault_from s (phase_at inside) t ≡ earlier (piece_fault s x) (fault_from s (phase_at (stands x)) rest)
   pub reads : (s : Tests) → fault_from s (phase_at (stands x)) rest ≡ None → left_at inside t ≡ with_piece x (left_at (stands x) rest)
+  pub keeps : (s : Tests) → inside ≡ false → piece_fault s x ≡ None → Keeps s (stands x) t rest
   pub named : IsNamed x
   pub shorter : length rest < length t
 

@@ -1,23 +1,42 @@
-use Rattle.iri_link.proofs.Common.{ap, map, rules, now_of, base_text, link_of}
-use Rattle.iri_link.proofs.LinkLemmas.{up_none, up_more, up_end, halts_then}
+use Rattle.std.specs.Prelude.{MatchOption}
+use Rattle.iri_link.proofs.Common.{subst, ap, map, rules, base_text, link_of}
+use Rattle.iri_link.specs.inside.Pieces.{Comes, Ends}
+use Rattle.iri_link.proofs.LinkLemmas.{kept_none, kept_more, kept_all, kept_fault, kept_halt}
 use Rattle.iri_link.proofs.link.read_text.Goals as goal
 
-pub links-init : goal.links-init
-links-init g c = record {
+pub pieces-init : goal.pieces-init
+pieces-init g c = record {
   utf8 = search rules;
-  read = up_none g.S.Spec.tests (base_text c.args.resolver.now) c.args.text.now _ (ap (map link_of) c.new-links.ensures.items);
+  read = kept_none g.S.Spec.tests (base_text c.args.resolver.now) c.args.text.now _ (ap (map link_of) c.new-links.ensures.items);
 }
 
-pub links-preserved : goal.links-preserved
-links-preserved g c = record {
-  utf8 = search rules;
-  read = up_more g.S.Spec.tests (base_text c.args.resolver.now) c.args.text.now c.links.rest.now c.cut_run.result.0.now c.cut_run.result.1.now _ (map link_of c.links.links.items) _ c.links.invariant.read c.cut_run.ensures c.in-Ok-Some.ensures c.in-Ok-Some.after.now (ap now_of c.in-Ok-Some.field-0-is);
-}
+pub returns-in-Err-keep_piece : goal.returns-in-Err-keep_piece
+returns-in-Err-keep_piece g c =
+    let t = c.pieces.rest.now in
+    let k : Comes c.pieces.inside t c.in-Ok-Some.piece c.in-Ok-Some.after.now =
+    subst (λ o. MatchOption o (Ends c.pieces.inside t) (λ r. Comes c.pieces.inside t r.0 r.1.now)) c.in-Ok-Some.field-0-is c.in-Ok-Some.ensures in
+    kept_halt g.S.Spec.tests (base_text c.args.resolver.now) c.args.text.now c.pieces.inside t (map link_of c.pieces.links.items) c.pieces.invariant.read
+    c.in-Ok-Some.piece c.in-Ok-Some.after.now k c.in-Err-keep_piece.halt c.in-Err-keep_piece.ensures
+
+pub pieces-preserved : goal.pieces-preserved
+pieces-preserved g c =
+    let t = c.pieces.rest.now in
+    let k : Comes c.pieces.inside t c.in-Ok-Some.piece c.in-Ok-Some.after.now =
+    subst (λ o. MatchOption o (Ends c.pieces.inside t) (λ r. Comes c.pieces.inside t r.0 r.1.now)) c.in-Ok-Some.field-0-is c.in-Ok-Some.ensures in
+    record {
+      utf8 = search rules;
+      read = kept_more g.S.Spec.tests (base_text c.args.resolver.now) c.args.text.now c.pieces.inside t (map link_of c.pieces.links.items) c.pieces.invariant.read
+          c.in-Ok-Some.piece c.in-Ok-Some.after.now k _ _ c.in_default.ensures c.is_inside-inside.ensures;
+    }
 
 pub returns-in-Ok-None : goal.returns-in-Ok-None
 returns-in-Ok-None g c =
-    up_end g.S.Spec.tests (base_text c.args.resolver.now) c.args.text.now c.links.rest.now c.cut_run.result.0.now c.cut_run.result.1.now _ (map link_of c.links.links.items) _ c.links.invariant.read c.cut_run.ensures c.in-Ok-None.ensures (ap now_of c.in-Ok-None.field-0-is)
+    let t = c.pieces.rest.now in
+    let k : Ends c.pieces.inside t =
+    subst (λ o. MatchOption o (Ends c.pieces.inside t) (λ r. Comes c.pieces.inside t r.0 r.1.now)) c.in-Ok-None.field-0-is c.in-Ok-None.ensures in
+    kept_all g.S.Spec.tests (base_text c.args.resolver.now) c.args.text.now c.pieces.inside t (map link_of c.pieces.links.items) c.pieces.invariant.read k
 
 pub returns-in-Err : goal.returns-in-Err
 returns-in-Err g c =
-    halts_then c.in-Err.halt g.S.Spec.tests (base_text c.args.resolver.now) c.args.text.now c.links.rest.now c.cut_run.result.0.now c.cut_run.result.1.now _ c.links.invariant.read c.cut_run.ensures c.in-Err.ensures
+    kept_fault g.S.Spec.tests (base_text c.args.resolver.now) c.in-Err.halt c.args.text.now c.pieces.inside c.pieces.rest.now (map link_of c.pieces.links.items) c.pieces.invariant.read
+    (c.in-Err.ensures g.S.Spec.tests)
