@@ -1,14 +1,15 @@
 -- Parameters, read piece by piece.
-use Rattle.iri_link.proofs.Common.{◌≡◌, ℕ, length, true, false, List, [], ◌∷◌, ◌++◌, Option, Some, None, refl, sym, ap, ◌∙◌, subst, append_assoc}
+use Rattle.iri_link.proofs.Common.{IsValue, token, quoted, in_token, in_quoted, unquoted, IsCutQuoted, ◌≡◌, ℕ, length, true, false, List, [], ◌∷◌, ◌++◌, Option, Some, None, refl, sym, ap, ◌∙◌, subst, append_assoc}
 use Rattle.iri_link.proofs.Common.{◌==◌, str_to_ascii_lowercase, Tests, by_test, is_blank, is_token_char, is_token}
 use Rattle.iri_link.proofs.Common.{bare, valued, param, Phase, after_param, after_semicolon, in_name, after_name}
 use Rattle.iri_link.proofs.Common.{after_equals, fault_from, first_passes, IsRun, ReadsValue}
 use Rattle.iri_link.specs.inside.ReadParams.{ReadsEquals, ReadsParam}
 use Rattle.iri_link.specs.inside.Halts.{IsFault}
-use Rattle.iri_link.specs.declared.error.LinkKind.TheVariants.{NoParam}
+use Rattle.iri_link.specs.declared.error.LinkKind.TheVariants.{NoParam, NoValue}
 use Rattle.iri_link.specs.declared.halt.Halt.{Halt}
 use Rattle.iri_link.proofs.PhaseLemmas.{ready-blanks, named-blanks, equals-blanks, name-run, name-equals}
-use Rattle.iri_link.proofs.PhaseLemmas.{name-ends, named-ends}
+use Rattle.iri_link.proofs.PhaseLemmas.{name-ends, named-ends, equals-token, token-run, token-ends}
+use Rattle.iri_link.proofs.QuotedLemmas.{unquoted-token}
 
 -- ---- `=`
 pub equals_read : (t a next following b rest : List ℕ) → IsRun is_blank t a next → next ≡ 61 ∷ following → IsRun is_blank following b rest → ReadsEquals t rest
@@ -35,6 +36,35 @@ token-from_run : (t run rest : List ℕ) → IsRun is_token_char t run rest → 
 token-from_run t [] rest h b = let n : first_passes is_token_char t ≡ false = ap (first_passes is_token_char) h.whole ∙ h.ends in cc
 token-from_run t (c ∷ run) rest h b = h.all
 
+-- ---- values
+pub no_value : (s : Tests) (t : List ℕ) → first_passes (λ c. c == 34) t ≡ false → first_passes is_blank t ≡ false → first_passes is_token_char t ≡ false
+    → fault_from s after_equals t ≡ Some (record { kind = NoValue; rest = t })
+unfolding fault_from
+no_value s [] a b d = refl
+no_value s (c ∷ cs) a b d = rw (a, d, b) refl
+
+pub token_value : (t run rest : List ℕ) → IsRun is_token_char t run rest → first_passes is_token_char t ≡ true → ReadsValue t rest (unquoted run)
+token_value t run rest h b = record {
+  prefix = run;
+  whole = h.whole;
+  value = subst (IsValue run) (sym (unquoted-token run h.all)) (token run (token-from_run t run rest h b));
+  goes = λ s. equals-token s t b ∙ (ap (fault_from s in_token) h.whole ∙ (token-run s run rest h.all ∙ token-ends s rest h.ends));
+}
+
+pub string_value : (t inner raw rest : List ℕ) → t ≡ 34 ∷ inner → IsCutQuoted inner raw rest → ReadsValue t rest (unquoted raw)
+unfolding fault_from
+string_value t inner raw rest e h =
+    record {
+      prefix = 34 ∷ (raw ++ 34 ∷ []);
+      whole = e ∙ ap (λ l. 34 ∷ l) (h.whole ∙ sym (append_assoc raw (34 ∷ []) rest));
+      value = quoted raw (unquoted raw) h.text;
+      goes = λ s. ap (fault_from s after_equals) e ∙ (first s ∙ h.goes s);
+    }
+  where
+    first : (s : Tests) → fault_from s after_equals (34 ∷ inner) ≡ fault_from s in_quoted inner
+    first s = rw h.closes refl
+
+-- ---- names and values
 pub name_goes : (s : Tests) (t run rest : List ℕ) → IsRun is_token_char t run rest → fault_from s in_name t ≡ fault_from s after_name rest
 name_goes s t run rest h = ap (fault_from s in_name) h.whole ∙ (name-run s run rest h.all ∙ name-ends s rest h.ends)
 

@@ -1,5 +1,5 @@
 -- The end and the value of a quoted string.
-use Rattle.iri_link.proofs.Common.{◌≡◌, ℕ, suc, ◌<◌, ◌≤◌, ◌+◌, Bool, true, false, cond, not, ◌&&◌, List, [], ◌∷◌, ◌++◌, Option, Some, None}
+use Rattle.iri_link.proofs.Common.{IsCutQuoted, ◌≡◌, ℕ, suc, ◌<◌, ◌≤◌, ◌+◌, Bool, true, false, cond, not, ◌&&◌, List, [], ◌∷◌, ◌++◌, Option, Some, None}
 use Rattle.iri_link.proofs.Common.{length, take, drop, get_or, refl, sym, ◌∙◌, ap, subst, arith, drop-cons, drop_all, ◌==◌, slice_index}
 use Rattle.iri_link.proofs.Common.{Tests, before, after, both, by_test, is_pair_char, is_plain_char, IsQuoted, done, plain, pair, Phase}
 use Rattle.iri_link.proofs.Common.{list_all, test_apart, is_token_char, in_quoted, after_param, closes_from, fault_from, quoted_len, unquoted, unquoted_from, first_passes}
@@ -70,7 +70,7 @@ closed false (c ∷ cs) h =
     (λ _ h3. let k = closed false cs (both (is_plain_char c) (closes_from false cs) h3).1 in record { inside = omega (arith, k.inside); delimiter = k.delimiter; whole = ap (λ l. c ∷ l) k.whole }) h2) h
 
 -- what stands before the delimiter is quoted text, also after a `\`
-pub is_quoted : (t : List ℕ) → closes_from false t ≡ true → IsQuoted (take (quoted_len false t) t) (unquoted (take (quoted_len false t) t))
+is_quoted : (t : List ℕ) → closes_from false t ≡ true → IsQuoted (take (quoted_len false t) t) (unquoted (take (quoted_len false t) t))
 unfolding closes_from quoted_len unquoted_from
 is_quoted [] h = cc
 is_quoted (c ∷ []) h =
@@ -101,9 +101,17 @@ goes_from s false (c ∷ cs) h =
     (λ _ h3. goes_from s true cs h3)
     (λ _ h3. goes_from s false cs (both (is_plain_char c) (closes_from false cs) h3).1) h2) h
 
-pub quoted-goes : (s : Tests) (t : List ℕ) → closes_from false t ≡ true → fault_from s in_quoted t ≡ fault_from s after_param (drop (suc (quoted_len false t)) t)
+quoted-goes : (s : Tests) (t : List ℕ) → closes_from false t ≡ true → fault_from s in_quoted t ≡ fault_from s after_param (drop (suc (quoted_len false t)) t)
 unfolding phase_of
 quoted-goes s t h = goes_from s false t h
+
+pub cut_at : (t raw rest : List ℕ) (n : ℕ) → closes_from false t ≡ true → n ≡ quoted_len false t → raw ≡ take n t → rest ≡ drop (n + 1) t → IsCutQuoted t raw rest
+cut_at t raw rest n h e prefix back =
+    let m = quoted_len false t in
+    let f : raw ≡ take m t = prefix ∙ ap (λ i. take i t) e in
+    let s : n + 1 ≡ suc m = omega (arith, e) in
+    let b : rest ≡ drop (suc m) t = back ∙ ap (λ i. drop i t) s in
+    rw (f, b) (record { whole = (closed false t h).whole; text = is_quoted t h; closes = h; goes = λ s. quoted-goes s t h })
 
 -- ---- the value
 abbrev pub after_pair : Option (List ℕ) → List ℕ

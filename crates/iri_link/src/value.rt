@@ -13,7 +13,7 @@ ghost use Rattle.iri_grammar.specs.inside.Runs.{first_passes};
 use crate::error::LinkKind;
 use crate::halt::Halt;
 use crate::quoted::cut_quoted;
-use crate::runs::{Run, cut_run, past};
+use crate::runs::{Run, begins_token, cut_run, past};
 
 // A value that is a token, and what follows it.
 fn cut_token<'a>(s: &'a str) -> Result<(&'a str, &'a str), Halt<'a>>
@@ -22,11 +22,10 @@ fn cut_token<'a>(s: &'a str) -> Result<(&'a str, &'a str), Halt<'a>>
     ensures { MatchResult result (λ r. ReadsValue s.now r.1.now (unquoted r.0.now))
         (λ e. (t : Tests) → IsFault e (fault_from t after_equals s.now)) }
 {
-    let (token, rest) = cut_run(Run::Token, s);
-    if token.is_empty() {
+    if !begins_token(s) {
         return Err(Halt::Fault(LinkKind::NoValue, s));
     }
-    Ok((token, rest))
+    Ok(cut_run(Run::Token, s))
 }
 
 // What stands in a value that is a quoted string, of which `inner` comes after its first `"`, and what follows it.
