@@ -14,7 +14,7 @@ use Rattle.iri_link.specs.declared.error.LinkError.{LinkError}
 use Rattle.iri_link.specs.declared.error.LinkError.TheVariants.{Fault, Memory}
 use Rattle.iri_link.specs.declared.error.LinkKind.TheVariants.{NotUtf8}
 use Rattle.iri_link.proofs.FieldLemmas.{links_of_faultless}
-use Rattle.iri_link.proofs.NoFaultLemmas.{links_without_fault}
+use Rattle.iri_link.proofs.GrammarLemmas.{links_without_fault}
 
 -- what has a fault has no link-values
 faulty : (s : Tests) (x : List ℕ) (t : Told) → field_fault s x ≡ Some t → (ls : List LinkValue) → HasLinks s x ls → ⊥

@@ -26,7 +26,7 @@ pub use Rattle.iri_normal.specs.Resolver.{base_text}
 pub use Rattle.iri_link.specs.Fault.{field_fault, place_in, target_fault, earlier}
 unfoldable pub use Rattle.iri_link.specs.Fault.{fault_from, closes_from}
 pub use Rattle.iri_link.specs.Field.{LinkValue, LinkParam, IsValue, token, quoted, IsParam, bare, valued, IsParams, none, empty, param}
-pub use Rattle.iri_link.specs.Field.{IsLink, link, IsElement, empty as no_element, link as element, IsField, last, more as more_elements}
+pub use Rattle.iri_link.specs.Field.{IsLink, link, IsElement, empty as no_element, link as element, IsField, last}
 pub use Rattle.iri_link.specs.Field.{more}
 pub use Rattle.iri_link.specs.Links.{HasLinks, HasReference}
 pub use Rattle.iri_link.specs.Phases.{before_link, in_target, after_param, after_semicolon, in_name, after_name, after_equals, in_token}

@@ -13,13 +13,12 @@ use Rattle.iri_grammar.proofs.faults.Scans.{before-lacks}
 use Rattle.iri_link.specs.Fault.{Fault, told_target}
 use Rattle.iri_link.specs.declared.error.LinkKind.TheVariants.{NotUtf8, NoTarget, OpenTarget, NoParam, OpenString}
 use Rattle.iri_link.specs.inside.ReadParams.{ReadsParam}
-use Rattle.iri_link.proofs.NoFaultLemmas.{element_parts}
-use Rattle.iri_link.proofs.OneListLemmas.{field-given}
-use Rattle.iri_link.proofs.ParamLemmas.{no_value, token_value, string_value, name_goes, bare_read, valued_read, equals_read, no_equals, semicolon_ready, ready_semicolon}
-use Rattle.iri_link.proofs.PhaseLemmas.{start-blanks, ready-blanks, semicolon-blanks, semicolon-name}
+use Rattle.iri_link.proofs.ParamLemmas.{no_value, token_value, string_value, name_goes, bare_read, valued_read, equals_read, no_equals, semicolon_begun, semicolon_ready, ready_semicolon}
+use Rattle.iri_link.proofs.GrammarLemmas.{element-parts, field-given, params-parts}
+use Rattle.iri_link.proofs.PhaseLemmas.{fault-blanks, comma-same, target-given}
 use Rattle.iri_link.proofs.QuotedLemmas.{cut_at}
 use Rattle.iri_link.proofs.RunLemmas.{run-is}
-use Rattle.iri_link.proofs.TargetLemmas.{some-lacks, none-lacks, target-goes, open_goes, target_none}
+use Rattle.iri_link.proofs.TargetLemmas.{some-lacks, none-lacks, open_goes, target_none}
 use Rattle.iri_link.specs.Readings.{links_in}
 
 -- ---- tests
@@ -114,13 +113,6 @@ unfolding fault_from
 nothing_left s [] b m n h = refl
 nothing_left s (c ∷ cs) b m n h = let w : fault_from s after_param (c ∷ cs) ≡ Some (record { kind = NoParam; rest = c ∷ cs }) = rw (b, m, n) refl in cc
 
-after_comma : (s : Tests) (y : List ℕ) → (fault_from s after_param (44 ∷ y) ≡ fault_from s before_link y) × (fault_from s before_link (44 ∷ y) ≡ fault_from s before_link y)
-unfolding fault_from
-after_comma s y = (refl, refl)
-
-parts : (a b u z : List ℕ) → a ++ 59 ∷ (b ++ (u ++ z)) ≡ (a ++ 59 ∷ (b ++ u)) ++ z
-parts a b u z = ap (λ l. a ++ 59 ∷ l) (sym (append_assoc b u z)) ∙ sym (append_assoc a (59 ∷ (b ++ u)) z)
-
 params_in : (s : Tests) (n : ℕ) (t : List ℕ) → length t < n → ((y : List ℕ) → length y < length t → fault_from s before_link y ≡ None → Found s y)
     → fault_from s after_param t ≡ None → HasParams s t
 params_in s zero t lt again h = absurd (omega (arith, lt))
@@ -128,19 +120,19 @@ params_in s (suc n) t lt again h =
     let a = take (run_of is_blank t) t in
     let next = drop (run_of is_blank t) t in
     let r = run-is is_blank t in
-    let g : fault_from s after_param next ≡ None = sym (ap (fault_from s after_param) r.whole ∙ ready-blanks s a next r.all) ∙ h in
+    let g : fault_from s after_param next ≡ None = sym (ap (fault_from s after_param) r.whole ∙ fault-blanks s after_param refl a next r.all) ∙ h in
     elim (mark 59 next) [
       | inr m ↦
           let b = take (run_of is_blank m.0) m.0 in
           let x = drop (run_of is_blank m.0) m.0 in
           let k = run-is is_blank m.0 in
           let goes : fault_from s after_semicolon x ≡ None =
-          sym (ap (fault_from s after_param) m.1 ∙ (ready_semicolon s m.0 ∙ (ap (fault_from s after_semicolon) k.whole ∙ semicolon-blanks s b x k.all))) ∙ g in
+          sym (ap (fault_from s after_param) m.1 ∙ (ready_semicolon s m.0 ∙ (ap (fault_from s after_semicolon) k.whole ∙ fault-blanks s after_semicolon refl b x k.all))) ∙ g in
           let whole : t ≡ a ++ 59 ∷ (b ++ x) = r.whole ∙ ap (λ l. a ++ l) (m.1 ∙ ap (λ l. 59 ∷ l) k.whole) in
           let short : length x < length t = omega (arith, ap length whole, length-append a (59 ∷ (b ++ x)), length-append b x) in
           when (first_passes is_token_char x) (HasParams s t)
           (λ begun.
-          let named = sym (semicolon-name s x begun) ∙ goes in
+          let named = sym (semicolon_begun s x begun) ∙ goes in
           let p = param_in s x begun named in
           let d = p.2 in
           let shorter : length p.0 < length t = omega (arith, short, ap length d.whole, length-append d.prefix p.0) in
@@ -152,7 +144,7 @@ params_in s (suc n) t lt again h =
             rest = i.rest;
             params = p.1 ∷ i.params;
             links = i.links;
-            whole = whole ∙ (ap (λ l. a ++ 59 ∷ (b ++ l)) (d.whole ∙ (ap (λ l. d.prefix ++ l) i.whole ∙ sym (append_assoc d.prefix i.prefix z))) ∙ parts a b (d.prefix ++ i.prefix) z);
+            whole = whole ∙ (ap (λ l. a ++ 59 ∷ (b ++ l)) (d.whole ∙ (ap (λ l. d.prefix ++ l) i.whole ∙ sym (append_assoc d.prefix i.prefix z))) ∙ params-parts a b (d.prefix ++ i.prefix) z);
             fits = param a b d.prefix i.prefix p.1 i.params r.all k.all d.param i.fits;
             all = i.all;
             ends = i.ends;
@@ -165,7 +157,7 @@ params_in s (suc n) t lt again h =
             rest = i.rest;
             params = i.params;
             links = i.links;
-            whole = whole ∙ (ap (λ l. a ++ 59 ∷ (b ++ l)) i.whole ∙ parts a b i.prefix (i.blanks ++ i.rest));
+            whole = whole ∙ (ap (λ l. a ++ 59 ∷ (b ++ l)) i.whole ∙ params-parts a b i.prefix (i.blanks ++ i.rest));
             fits = empty a b i.prefix i.params r.all k.all i.fits;
             all = i.all;
             ends = i.ends;
@@ -173,7 +165,7 @@ params_in s (suc n) t lt again h =
       | inl other ↦ elim (mark 44 next) [
         | inr m ↦
             let short : length m.0 < length t = omega (arith, ap length r.whole, length-append a next, ap length m.1) in
-            let f = again m.0 short (sym (ap (fault_from s after_param) m.1 ∙ (after_comma s m.0).0) ∙ g) in
+            let f = again m.0 short (sym (ap (fault_from s after_param) m.1 ∙ ap (λ o. o.0) (comma-same s m.0).1) ∙ g) in
             record { prefix = []; blanks = a; rest = next; params = []; links = f.links; whole = r.whole; fits = none; all = r.all; ends = subst (λ z. Ends s z f.links) (sym m.1) (comma m.0 f.links f.field f.valid) }
         | inl none_there ↦ record {
           prefix = [];
@@ -195,7 +187,7 @@ ended : (s : Tests) (a x b rest : List ℕ) (l : LinkValue) (ls : List LinkValue
 ended s a x b rest l ls ha h hb v nothing =
     (subst (λ z. IsField (a ++ (x ++ z)) (l ∷ [])) (sym (append-nil b)) (last (a ++ (x ++ b)) (l ∷ []) (element a x b l ha h hb)), All-cons (HasReference s) l [] v (All-nil (HasReference s)))
 ended s a x b rest l ls ha h hb v (comma y ms f all) =
-    (subst (λ z. IsField z (l ∷ ms)) (element_parts a x b (44 ∷ y)) (more (a ++ (x ++ b)) y (l ∷ []) ms (element a x b l ha h hb) f), All-cons (HasReference s) l ms v all)
+    (subst (λ z. IsField z (l ∷ ms)) (element-parts a x b (44 ∷ y)) (more (a ++ (x ++ b)) y (l ∷ []) ms (element a x b l ha h hb) f), All-cons (HasReference s) l ms v all)
 
 no_link_left : (s : Tests) (t : List ℕ) → first_passes is_blank t ≡ false → first_passes (λ c. c == 60) t ≡ false → first_passes (λ c. c == 44) t ≡ false
     → fault_from s before_link t ≡ None → t ≡ []
@@ -222,7 +214,7 @@ links_from s (suc n) t lt h =
     let a = take (run_of is_blank t) t in
     let next = drop (run_of is_blank t) t in
     let r = run-is is_blank t in
-    let g : fault_from s before_link next ≡ None = sym (ap (fault_from s before_link) r.whole ∙ start-blanks s a next r.all) ∙ h in
+    let g : fault_from s before_link next ≡ None = sym (ap (fault_from s before_link) r.whole ∙ fault-blanks s before_link refl a next r.all) ∙ h in
     elim (mark 60 next) [
       | inr m ↦
           let k = none_of (target_fault s m.0) (fault_from s in_target m.0) (sym (ap (fault_from s before_link) m.1 ∙ open_goes s m.0) ∙ g) in
@@ -232,7 +224,7 @@ links_from s (suc n) t lt h =
           let cut : m.0 ≡ u ++ 62 ∷ rest = sym (joined 62 m.0) ∙ ap (λ z. u ++ delimited 62 z) (sym o.1.1) in
           let begun : t ≡ a ++ 60 ∷ (u ++ 62 ∷ rest) = r.whole ∙ ap (λ l. a ++ l) (m.1 ∙ ap (λ l. 60 ∷ l) cut) in
           let short : length rest < length t = omega (arith, ap length begun, length-append a (60 ∷ (u ++ 62 ∷ rest)), length-append u (62 ∷ rest)) in
-          let p = params_in s (suc (length rest)) rest (omega arith) (λ y l. links_from s n y (omega (arith, l, short, lt))) (sym (target-goes s m.0 rest o.1.1) ∙ k.1) in
+          let p = params_in s (suc (length rest)) rest (omega arith) (λ y l. links_from s n y (omega (arith, l, short, lt))) (sym (ap (fault_from s in_target) cut ∙ ap (λ z. z.0) (target-given s u rest (before-lacks 62 m.0))) ∙ k.1) in
           let l : LinkValue = record { target = u; params = p.params } in
           let z = p.blanks ++ p.rest in
           let whole : t ≡ a ++ ((60 ∷ (u ++ 62 ∷ p.prefix)) ++ z) =
@@ -242,7 +234,7 @@ links_from s (suc n) t lt h =
       | inl other ↦ elim (mark 44 next) [
         | inr m ↦
             let short : length m.0 < length t = omega (arith, ap length r.whole, length-append a next, ap length m.1) in
-            let i = links_from s n m.0 (omega (arith, lt, short)) (sym (ap (fault_from s before_link) m.1 ∙ (after_comma s m.0).1) ∙ g) in
+            let i = links_from s n m.0 (omega (arith, lt, short)) (sym (ap (fault_from s before_link) m.1 ∙ ap (λ o. o.0) (comma-same s m.0).3) ∙ g) in
             record {
               links = i.links;
               field = subst (λ z. IsField z i.links) (sym (r.whole ∙ ap (λ l. a ++ l) m.1)) (more a m.0 [] i.links (no_element a r.all) i.field);
@@ -265,6 +257,6 @@ links_of_faultless s x h =
     (λ u.
     let w : field_fault s x ≡ place_in x (fault_from s before_link x) = rw u refl in
     let k = links_from s (suc (length x)) x (omega arith) (place_none x (fault_from s before_link x) (sym w ∙ h)) in
-    let e = sym (field-given x k.links k.field) in
+    let e = sym (field-given s x k.links k.field).0 in
     record { utf8 = IsUtf8-from_is_utf8 x u; field = subst (IsField x) e k.field; valid = subst (All (HasReference s)) e k.valid })
     (λ u. let w : field_fault s x ≡ Some (record { kind = NotUtf8; place = utf8_valid_len x }) = rw u refl in cc)

@@ -5,13 +5,12 @@ pub mod QuotedLemmas
 pub mod ParamLemmas
 pub mod TargetLemmas
 pub mod LinkLemmas
-pub mod NoFaultLemmas
 pub mod AnswerLemmas
 pub mod ReferenceLemmas
 pub mod Utf8Lemmas
 pub mod KeptLemmas
 pub mod WrittenLemmas
-pub mod OneListLemmas
+pub mod GrammarLemmas
 pub mod FieldLemmas
 pub mod EscapeLemmas
 pub mod WrittenTexts

@@ -75,7 +75,7 @@ module _ (s : Tests) (base : List ℕ) where
   kept_all text p t ls k e =
       let none = e.faultless s in record {
         faultless = k.goes ∙ none;
-        kept = sym (k.kept none ∙ (ap (all_kept ls) e.none_left ∙ (append-nil (grown ls []) ∙ grown-none ls)));
+        kept = sym (k.kept none ∙ (ap (all_kept ls) (e.none_left s) ∙ (append-nil (grown ls []) ∙ grown-none ls)));
       }
 
   -- a fault of what is left is the first

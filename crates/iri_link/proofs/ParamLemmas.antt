@@ -1,5 +1,5 @@
 -- Parameters, read piece by piece.
-use Rattle.iri_link.proofs.Common.{IsValue, token, quoted, in_token, in_quoted, unquoted, IsCutQuoted, ◌≡◌, ℕ, length, true, false, List, [], ◌∷◌, ◌++◌, Option, Some, None, refl, sym, ap, ◌∙◌, subst, append_assoc}
+use Rattle.iri_link.proofs.Common.{IsValue, token, quoted, unquoted, IsCutQuoted, ◌≡◌, ℕ, length, true, false, List, [], ◌∷◌, ◌++◌, Option, Some, None, refl, sym, ap, ◌∙◌, subst, append_assoc}
 use Rattle.iri_link.proofs.Common.{◌==◌, str_to_ascii_lowercase, Tests, by_test, is_blank, is_token_char, is_token}
 use Rattle.iri_link.proofs.Common.{bare, valued, param, Phase, after_param, after_semicolon, in_name, after_name}
 use Rattle.iri_link.proofs.Common.{after_equals, fault_from, first_passes, IsRun, ReadsValue}
@@ -7,8 +7,7 @@ use Rattle.iri_link.specs.inside.ReadParams.{ReadsEquals, ReadsParam}
 use Rattle.iri_link.specs.inside.Halts.{IsFault}
 use Rattle.iri_link.specs.declared.error.LinkKind.TheVariants.{NoParam, NoValue}
 use Rattle.iri_link.specs.declared.halt.Halt.{Halt}
-use Rattle.iri_link.proofs.PhaseLemmas.{ready-blanks, named-blanks, equals-blanks, name-run, name-equals}
-use Rattle.iri_link.proofs.PhaseLemmas.{name-ends, named-ends, equals-token, token-run, token-ends}
+use Rattle.iri_link.proofs.PhaseLemmas.{fault-blanks, name-given, name-equals, value-given, string-given}
 use Rattle.iri_link.proofs.QuotedLemmas.{unquoted-token}
 
 -- ---- `=`
@@ -21,15 +20,23 @@ equals_read t a next following b rest h e k = record {
   following = k.all;
   ends = k.ends;
   goes = λ s.
-      ap (fault_from s after_name) h.whole ∙ (named-blanks s a next h.all
-      ∙ (ap (fault_from s after_name) e ∙ (name-equals s following
-      ∙ (ap (fault_from s after_equals) k.whole ∙ equals-blanks s b rest k.all))));
+      ap (fault_from s after_name) h.whole ∙ (fault-blanks s after_name refl a next h.all
+      ∙ (ap (fault_from s after_name) e ∙ (ap (λ o. o.0) (name-equals s following)
+      ∙ (ap (fault_from s after_equals) k.whole ∙ fault-blanks s after_equals refl b rest k.all))));
 }
+
+-- where no `=` follows, a name ends a parameter
+named-ends : (s : Tests) (t : List ℕ) → first_passes is_blank t ≡ false → first_passes (λ c. c == 61) t ≡ false → fault_from s after_name t ≡ fault_from s after_param t
+unfolding fault_from
+named-ends s [] h k = refl
+named-ends s (c ∷ cs) h k =
+    by_test c 59 (λ b. (c == 59) ≡ b → fault_from s after_name (c ∷ cs) ≡ fault_from s after_param (c ∷ cs)) (λ _ e. rw (k, h, e) refl)
+    (λ _ e. by_test c 44 (λ b. (c == 44) ≡ b → fault_from s after_name (c ∷ cs) ≡ fault_from s after_param (c ∷ cs)) (λ _ f. rw (k, h, e, f) refl) (λ _ f. rw (k, h, e, f) refl) refl) refl
 
 pub no_equals : (s : Tests) (t a next : List ℕ) → IsRun is_blank t a next → first_passes (λ c. c == 61) next ≡ false → fault_from s after_name t ≡ fault_from s after_param t
 no_equals s t a next h e =
-    ap (fault_from s after_name) h.whole ∙ (named-blanks s a next h.all
-    ∙ (named-ends s next h.ends e ∙ (sym (ready-blanks s a next h.all) ∙ sym (ap (fault_from s after_param) h.whole))))
+    ap (fault_from s after_name) h.whole ∙ (fault-blanks s after_name refl a next h.all
+    ∙ (named-ends s next h.ends e ∙ (sym (fault-blanks s after_param refl a next h.all) ∙ sym (ap (fault_from s after_param) h.whole))))
 
 -- ---- one parameter
 token-from_run : (t run rest : List ℕ) → IsRun is_token_char t run rest → first_passes is_token_char t ≡ true → is_token run ≡ true
@@ -44,29 +51,28 @@ no_value s [] a b d = refl
 no_value s (c ∷ cs) a b d = rw (a, d, b) refl
 
 pub token_value : (t run rest : List ℕ) → IsRun is_token_char t run rest → first_passes is_token_char t ≡ true → ReadsValue t rest (unquoted run)
-token_value t run rest h b = record {
-  prefix = run;
-  whole = h.whole;
-  value = subst (IsValue run) (sym (unquoted-token run h.all)) (token run (token-from_run t run rest h b));
-  goes = λ s. equals-token s t b ∙ (ap (fault_from s in_token) h.whole ∙ (token-run s run rest h.all ∙ token-ends s rest h.ends));
-}
+token_value t run rest h b =
+    let is : IsValue run run = token run (token-from_run t run rest h b) in
+    record {
+      prefix = run;
+      whole = h.whole;
+      value = subst (IsValue run) (sym (unquoted-token run h.all)) is;
+      goes = λ s. ap (fault_from s after_equals) h.whole ∙ ap (λ o. o.0) (value-given s run run rest is h.ends);
+    }
 
 pub string_value : (t inner raw rest : List ℕ) → t ≡ 34 ∷ inner → IsCutQuoted inner raw rest → ReadsValue t rest (unquoted raw)
-unfolding fault_from
 string_value t inner raw rest e h =
+    let whole : t ≡ (34 ∷ (raw ++ 34 ∷ [])) ++ rest = e ∙ ap (λ l. 34 ∷ l) (h.whole ∙ sym (append_assoc raw (34 ∷ []) rest)) in
     record {
       prefix = 34 ∷ (raw ++ 34 ∷ []);
-      whole = e ∙ ap (λ l. 34 ∷ l) (h.whole ∙ sym (append_assoc raw (34 ∷ []) rest));
+      whole = whole;
       value = quoted raw (unquoted raw) h.text;
-      goes = λ s. ap (fault_from s after_equals) e ∙ (first s ∙ h.goes s);
+      goes = λ s. ap (fault_from s after_equals) whole ∙ ap (λ o. o.0) (string-given s raw (unquoted raw) rest h.text);
     }
-  where
-    first : (s : Tests) → fault_from s after_equals (34 ∷ inner) ≡ fault_from s in_quoted inner
-    first s = rw h.closes refl
 
 -- ---- names and values
 pub name_goes : (s : Tests) (t run rest : List ℕ) → IsRun is_token_char t run rest → fault_from s in_name t ≡ fault_from s after_name rest
-name_goes s t run rest h = ap (fault_from s in_name) h.whole ∙ (name-run s run rest h.all ∙ name-ends s rest h.ends)
+name_goes s t run rest h = ap (fault_from s in_name) h.whole ∙ ap (λ o. o.0) (name-given s run rest h.all h.ends)
 
 pub bare_read : (t run rest n : List ℕ) (v : Option (List ℕ)) → IsRun is_token_char t run rest → first_passes is_token_char t ≡ true → n ≡ str_to_ascii_lowercase run → v ≡ None
     → ((s : Tests) → fault_from s after_name rest ≡ fault_from s after_param rest) → ReadsParam t rest (record { name = n; value = v })
@@ -88,7 +94,12 @@ valued_read t run mid following rest n v o h b e f k r = record {
   goes = λ s. name_goes s t run mid h ∙ (k.goes s ∙ r.goes s);
 }
 
--- ---- what follows a parameter
+-- ---- what follows a parameter, and a name that begins
+pub semicolon_begun : (s : Tests) (t : List ℕ) → first_passes is_token_char t ≡ true → fault_from s after_semicolon t ≡ fault_from s in_name t
+unfolding fault_from
+semicolon_begun s [] h = cc
+semicolon_begun s (c ∷ cs) h = rw h refl
+
 pub semicolon_ready : (s : Tests) (t : List ℕ) → first_passes is_blank t ≡ false → first_passes is_token_char t ≡ false → fault_from s after_semicolon t ≡ fault_from s after_param t
 unfolding fault_from
 semicolon_ready s [] h k = refl

@@ -1,78 +1,213 @@
--- How a reading of a field value goes on over runs.
-use Rattle.iri_link.proofs.Common.{◌≡◌, ℕ, Bool, true, false, List, [], ◌∷◌, ◌++◌, None, refl, sym, ◌∙◌, ap, subst, ◌==◌, ◌||◌, list_all}
-use Rattle.iri_link.proofs.Common.{Tests, both, by_test, test_apart, is_blank, is_token_char, Phase, before_link, after_param}
-use Rattle.iri_link.proofs.Common.{after_semicolon, in_name, after_name, after_equals, in_token, next, fault_from, earlier, first_passes}
-use Rattle.iri_link.specs.Fault.{wrong}
+-- How the first fault of a text, and what it gives, go on over runs.
+use Rattle.iri_link.proofs.Common.{◌≡◌, ℕ, Bool, true, false, not, cond, ◌&&◌, List, [], ◌∷◌, ◌++◌, Option, None, Some, refl, sym, ◌∙◌, ap, subst, ◌==◌, ◌||◌, list_all}
+use Rattle.iri_link.proofs.Common.{Tests, both, by_test, test_apart, append_assoc, is_blank, is_token_char, is_pair_char, is_plain_char, lacks, Phase, before_link, in_target, after_param}
+use Rattle.iri_link.proofs.Common.{after_semicolon, in_name, after_name, after_equals, in_token, in_quoted, next, fault_from, closes_from, first_passes, str_to_ascii_lowercase}
+use Rattle.iri_link.proofs.Common.{IsQuoted, done, plain, pair, IsValue, token, quoted}
+use Rattle.iri_link.specs.Fault.{Fault}
+use Rattle.iri_link.specs.Phases.{in_pair}
+use Rattle.iri_link.specs.Readings.{Reading, of_links, of_params, of_value, more, param_end, reading}
 
--- bytes that are right and leave the phase as it is
-pub runs-on : (s : Tests) (p : Phase) (q : ℕ → Bool) → ((c : ℕ) (cs : List ℕ) → q c ≡ true → (wrong s p c cs ≡ None) × (next p c ≡ p))
-    → (xs r : List ℕ) → list_all q xs ≡ true → fault_from s p (xs ++ r) ≡ fault_from s p r
-unfolding fault_from
-runs-on s p q step [] r h = refl
-runs-on s p q step (c ∷ cs) r h =
-    let k = both (q c) (list_all q cs) h in
-    let e = step c (cs ++ r) k.0 in
-    ap (λ w. earlier w (fault_from s (next p c) (cs ++ r))) e.0 ∙ (ap (λ o. fault_from s o (cs ++ r)) e.1 ∙ runs-on s p q step cs r k.1)
+-- ---- what a text comes to
+-- the first fault of what is left, and what it gives
+abbrev pub outcome : Tests → Phase → List ℕ → Option Fault × Reading
+outcome s p t = (fault_from s p t, reading p t)
 
-pub by_blank : (c : ℕ) (P : ℕ → Type 0) → P 32 → P 9 → is_blank c ≡ true → P c
+-- the same fault, and what is made of what is given
+abbrev pub giving : (Reading → Reading) → Option Fault × Reading → Option Fault × Reading
+giving f x = (x.0, f x.1)
+
+-- the rest of a target or of a value, and of a name
+abbrev pub with_text : List ℕ → Reading → Reading
+with_text t r = record { text = t; value = None; params = r.params; links = r.links }
+
+abbrev pub with_name : List ℕ → Reading → Reading
+with_name n r = record { text = n; value = r.value; params = r.params; links = r.links }
+
+end_form : (c : ℕ) (r : Reading) → with_text [] (param_end c r) ≡ param_end c r
+end_form c r =
+    by_test c 44 (λ b. with_text [] (cond b (of_links r.links) (of_params r.params r.links)) ≡ cond b (of_links r.links) (of_params r.params r.links)) (λ _. refl) (λ _. refl)
+
+ready_form : (t : List ℕ) → with_text [] (reading after_param t) ≡ reading after_param t
+unfolding reading
+ready_form [] = refl
+ready_form (c ∷ cs) = end_form c (reading (next after_param c) cs)
+
+semicolon_form : (t : List ℕ) → with_text [] (reading after_semicolon t) ≡ reading after_semicolon t
+unfolding reading
+semicolon_form [] = refl
+semicolon_form (c ∷ cs) = at_token (is_token_char c) c (reading (next after_semicolon c) cs)
+  where
+    at_token : (b : Bool) (c : ℕ) (r : Reading)
+        → with_text [] (cond b (of_params (record { name = str_to_ascii_lowercase (c ∷ r.text); value = r.value } ∷ r.params) r.links) (param_end c r))
+        ≡ cond b (of_params (record { name = str_to_ascii_lowercase (c ∷ r.text); value = r.value } ∷ r.params) r.links) (param_end c r)
+    at_token true c r = refl
+    at_token false c r = end_form c r
+
+start_form : (t : List ℕ) → of_links (reading before_link t).links ≡ reading before_link t
+unfolding reading
+start_form [] = refl
+start_form (c ∷ cs) = at_open (c == 60) (reading (next before_link c) cs)
+  where
+    at_open : (b : Bool) (r : Reading) → of_links (cond b (of_links (record { target = r.text; params = r.params } ∷ r.links)) (of_links r.links)).links
+        ≡ cond b (of_links (record { target = r.text; params = r.params } ∷ r.links)) (of_links r.links)
+    at_open true r = refl
+    at_open false r = refl
+
+name_form : (t : List ℕ) → with_name [] (reading after_name t) ≡ reading after_name t
+unfolding reading
+name_form [] = refl
+name_form (c ∷ cs) = at_end (c == 61) (c == 59 || c == 44) c (reading (next after_name c) cs)
+  where
+    at_end : (a b : Bool) (c : ℕ) (r : Reading) → with_name [] (cond a (of_value (Some r.text) r) (cond b (param_end c r) (of_value r.value r)))
+        ≡ cond a (of_value (Some r.text) r) (cond b (param_end c r) (of_value r.value r))
+    at_end true b c r = refl
+    at_end false true c r =
+        by_test c 44 (λ b. with_name [] (cond b (of_links r.links) (of_params r.params r.links)) ≡ cond b (of_links r.links) (of_params r.params r.links)) (λ _. refl) (λ _. refl)
+    at_end false false c r = refl
+
+pub ready : (s : Tests) (t : List ℕ) → outcome s after_param t ≡ giving (with_text []) (outcome s after_param t)
+ready s t = ap (λ r. (fault_from s after_param t, r)) (sym (ready_form t))
+
+-- ---- blanks
+by_blank : (c : ℕ) (P : ℕ → Type 0) → P 32 → P 9 → is_blank c ≡ true → P c
 by_blank c P a b h =
     by_test c 32 (λ t. (t || c == 9) ≡ true → P c) (λ e _. subst P (sym e) a)
     (λ _ k. by_test c 9 (λ t. t ≡ true → P c) (λ e _. subst P (sym e) b) (λ _ l. cc) k) h
 
+abbrev skips : Phase → Bool
+skips before_link = true
+skips after_param = true
+skips after_semicolon = true
+skips after_name = true
+skips after_equals = true
+skips _ = false
+
+blank_step : (s : Tests) (p : Phase) → skips p ≡ true → (c : ℕ) (cs : List ℕ) → is_blank c ≡ true → outcome s p (c ∷ cs) ≡ outcome s p cs
+unfolding fault_from reading
+blank_step s before_link k c cs h =
+    let e = ap (λ r. (fault_from s before_link cs, r)) (start_form cs) in by_blank c (λ d. outcome s before_link (d ∷ cs) ≡ outcome s before_link cs) e e h
+blank_step s after_param k c cs h =
+    let e = ap (λ r. (fault_from s after_param cs, r)) (ready_form cs) in by_blank c (λ d. outcome s after_param (d ∷ cs) ≡ outcome s after_param cs) e e h
+blank_step s after_semicolon k c cs h =
+    let e = ap (λ r. (fault_from s after_semicolon cs, r)) (semicolon_form cs) in by_blank c (λ d. outcome s after_semicolon (d ∷ cs) ≡ outcome s after_semicolon cs) e e h
+blank_step s after_name k c cs h =
+    let e = ap (λ r. (fault_from s after_name cs, r)) (name_form cs) in by_blank c (λ d. outcome s after_name (d ∷ cs) ≡ outcome s after_name cs) e e h
+blank_step s after_equals k c cs h = by_blank c (λ d. outcome s after_equals (d ∷ cs) ≡ outcome s after_equals cs) refl refl h
+blank_step s in_target k c cs h = cc
+blank_step s in_name k c cs h = cc
+blank_step s in_token k c cs h = cc
+blank_step s in_quoted k c cs h = cc
+blank_step s in_pair k c cs h = cc
+
 -- blanks change nothing
-pub start-blanks : (s : Tests) (xs r : List ℕ) → list_all is_blank xs ≡ true → fault_from s before_link (xs ++ r) ≡ fault_from s before_link r
-start-blanks s = runs-on s before_link is_blank (λ c cs. by_blank c (λ d. (wrong s before_link d cs ≡ None) × (next before_link d ≡ before_link)) (refl, refl) (refl, refl))
+pub blanks : (s : Tests) (p : Phase) → skips p ≡ true → (a y : List ℕ) → list_all is_blank a ≡ true → outcome s p (a ++ y) ≡ outcome s p y
+blanks s p k [] y h = refl
+blanks s p k (c ∷ cs) y h = let b = both (is_blank c) (list_all is_blank cs) h in blank_step s p k c (cs ++ y) b.0 ∙ blanks s p k cs y b.1
 
-pub ready-blanks : (s : Tests) (xs r : List ℕ) → list_all is_blank xs ≡ true → fault_from s after_param (xs ++ r) ≡ fault_from s after_param r
-ready-blanks s = runs-on s after_param is_blank (λ c cs. by_blank c (λ d. (wrong s after_param d cs ≡ None) × (next after_param d ≡ after_param)) (refl, refl) (refl, refl))
+pub fault-blanks : (s : Tests) (p : Phase) → skips p ≡ true → (a y : List ℕ) → list_all is_blank a ≡ true → fault_from s p (a ++ y) ≡ fault_from s p y
+fault-blanks s p k a y h = ap (λ x. x.0) (blanks s p k a y h)
 
-pub semicolon-blanks : (s : Tests) (xs r : List ℕ) → list_all is_blank xs ≡ true → fault_from s after_semicolon (xs ++ r) ≡ fault_from s after_semicolon r
-semicolon-blanks s = runs-on s after_semicolon is_blank (λ c cs. by_blank c (λ d. (wrong s after_semicolon d cs ≡ None) × (next after_semicolon d ≡ after_semicolon)) (refl, refl) (refl, refl))
+pub blank_no_token : (a y : List ℕ) → list_all is_blank a ≡ true → first_passes is_token_char y ≡ false → first_passes is_token_char (a ++ y) ≡ false
+blank_no_token [] y h e = e
+blank_no_token (c ∷ cs) y h e = by_blank c (λ d. is_token_char d ≡ false) refl refl (both (is_blank c) (list_all is_blank cs) h).0
 
-pub named-blanks : (s : Tests) (xs r : List ℕ) → list_all is_blank xs ≡ true → fault_from s after_name (xs ++ r) ≡ fault_from s after_name r
-named-blanks s = runs-on s after_name is_blank (λ c cs. by_blank c (λ d. (wrong s after_name d cs ≡ None) × (next after_name d ≡ after_name)) (refl, refl) (refl, refl))
+-- ---- targets
+un-not : (b : Bool) → not b ≡ true → b ≡ false
+un-not true h = cc
+un-not false h = refl
 
-pub equals-blanks : (s : Tests) (xs r : List ℕ) → list_all is_blank xs ≡ true → fault_from s after_equals (xs ++ r) ≡ fault_from s after_equals r
-equals-blanks s = runs-on s after_equals is_blank (λ c cs. by_blank c (λ d. (wrong s after_equals d cs ≡ None) × (next after_equals d ≡ after_equals)) (refl, refl) (refl, refl))
+pub target-given : (s : Tests) (t y : List ℕ) → lacks 62 t ≡ true → outcome s in_target (t ++ 62 ∷ y) ≡ giving (with_text t) (outcome s after_param y)
+unfolding fault_from reading
+target-given s [] y h = refl
+target-given s (c ∷ cs) y h =
+    let k = both (not (c == 62)) (lacks 62 cs) h in
+    rw (un-not (c == 62) k.0) (ap (giving (more c)) (target-given s cs y k.1))
 
--- so do the characters of a token
-pub name-run : (s : Tests) (xs r : List ℕ) → list_all is_token_char xs ≡ true → fault_from s in_name (xs ++ r) ≡ fault_from s in_name r
-name-run s = runs-on s in_name is_token_char (λ c cs h. (rw h refl, rw h refl))
+-- ---- values
+quoted-given : (s : Tests) (t v z : List ℕ) → IsQuoted t v
+    → (closes_from false (t ++ 34 ∷ z) ≡ true) × (outcome s in_quoted (t ++ 34 ∷ z) ≡ giving (with_text v) (outcome s after_param z))
+unfolding closes_from fault_from reading
+quoted-given s t v z done = (refl, refl)
+quoted-given s t v z (plain c u w h r) =
+    let a = test_apart is_plain_char 34 c refl h in
+    let b = test_apart is_plain_char 92 c refl h in
+    let k = both (is_pair_char c) (not (c == 34) && not (c == 92)) h in
+    let q = quoted-given s u w z r in
+    (rw (a, b, k.0) q.0, rw (a, b) (ap (giving (more c)) q.1))
+quoted-given s t v z (pair c u w h r) = let q = quoted-given s u w z r in (rw h q.0, ap (giving (more c)) q.1)
 
-pub token-run : (s : Tests) (xs r : List ℕ) → list_all is_token_char xs ≡ true → fault_from s in_token (xs ++ r) ≡ fault_from s in_token r
-token-run s = runs-on s in_token is_token_char (λ c cs h. (rw h refl, rw h refl))
+equals-quoted : (s : Tests) (y : List ℕ) → closes_from false y ≡ true → outcome s after_equals (34 ∷ y) ≡ outcome s in_quoted y
+unfolding fault_from reading
+equals-quoted s y h = rw h refl
 
--- a token begins
-pub semicolon-name : (s : Tests) (t : List ℕ) → first_passes is_token_char t ≡ true → fault_from s after_semicolon t ≡ fault_from s in_name t
-unfolding fault_from
-semicolon-name s [] h = cc
-semicolon-name s (c ∷ cs) h = rw h refl
+pub string-given : (s : Tests) (u v z : List ℕ) → IsQuoted u v → outcome s after_equals ((34 ∷ (u ++ 34 ∷ [])) ++ z) ≡ giving (with_text v) (outcome s after_param z)
+string-given s u v z q =
+    let k = quoted-given s u v z q in
+    ap (λ l. outcome s after_equals (34 ∷ l)) (append_assoc u (34 ∷ []) z) ∙ (equals-quoted s (u ++ 34 ∷ z) k.0 ∙ k.1)
 
-pub equals-token : (s : Tests) (t : List ℕ) → first_passes is_token_char t ≡ true → fault_from s after_equals t ≡ fault_from s in_token t
-unfolding fault_from
-equals-token s [] h = cc
-equals-token s (c ∷ cs) h = rw (test_apart is_token_char 34 c refl h, h) refl
+token-ends : (s : Tests) (z : List ℕ) → first_passes is_token_char z ≡ false → outcome s in_token z ≡ outcome s after_param z
+unfolding fault_from reading
+token-ends s [] e = refl
+token-ends s (c ∷ cs) e = rw e refl
 
--- a `=` after a name
-pub name-equals : (s : Tests) (t : List ℕ) → fault_from s after_name (61 ∷ t) ≡ fault_from s after_equals t
-unfolding fault_from
-name-equals s t = refl
+token-given : (s : Tests) (t z : List ℕ) → list_all is_token_char t ≡ true → first_passes is_token_char z ≡ false
+    → outcome s in_token (t ++ z) ≡ giving (with_text t) (outcome s after_param z)
+unfolding fault_from reading
+token-given s [] z h e = token-ends s z e ∙ ready s z
+token-given s (c ∷ cs) z h e =
+    let k = both (is_token_char c) (list_all is_token_char cs) h in rw k.0 (ap (giving (more c)) (token-given s cs z k.1 e))
 
--- a token ends
-pub token-ends : (s : Tests) (t : List ℕ) → first_passes is_token_char t ≡ false → fault_from s in_token t ≡ fault_from s after_param t
-unfolding fault_from
-token-ends s [] h = refl
-token-ends s (c ∷ cs) h = rw h refl
+equals-token : (s : Tests) (c : ℕ) (cs : List ℕ) → is_token_char c ≡ true → outcome s after_equals (c ∷ cs) ≡ giving (more c) (outcome s in_token cs)
+unfolding fault_from reading
+equals-token s c cs h = rw (test_apart is_token_char 34 c refl h, h) refl
 
-pub name-ends : (s : Tests) (t : List ℕ) → first_passes is_token_char t ≡ false → fault_from s in_name t ≡ fault_from s after_name t
-unfolding fault_from
-name-ends s [] h = refl
-name-ends s (c ∷ cs) h = rw h refl
+-- after a value nothing that a token has may stand
+pub value-given : (s : Tests) (t v z : List ℕ) → IsValue t v → first_passes is_token_char z ≡ false → outcome s after_equals (t ++ z) ≡ giving (with_text v) (outcome s after_param z)
+value-given s t v z (token [] h) e = cc
+value-given s t v z (token (c ∷ cs) h) e =
+    let k = both (is_token_char c) (list_all is_token_char cs) h in
+    equals-token s c (cs ++ z) k.0 ∙ ap (giving (more c)) (token-given s cs z k.1 e)
+value-given s t v z (quoted u w q) e = string-given s u w z q
 
--- where no `=` follows, a name ends a parameter
-pub named-ends : (s : Tests) (t : List ℕ) → first_passes is_blank t ≡ false → first_passes (λ c. c == 61) t ≡ false → fault_from s after_name t ≡ fault_from s after_param t
-unfolding fault_from
-named-ends s [] h k = refl
-named-ends s (c ∷ cs) h k =
-    by_test c 59 (λ b. (c == 59) ≡ b → fault_from s after_name (c ∷ cs) ≡ fault_from s after_param (c ∷ cs)) (λ _ e. rw (k, h, e) refl)
-    (λ _ e. by_test c 44 (λ b. (c == 44) ≡ b → fault_from s after_name (c ∷ cs) ≡ fault_from s after_param (c ∷ cs)) (λ _ f. rw (k, h, e, f) refl) (λ _ f. rw (k, h, e, f) refl) refl) refl
+-- ---- names
+name-ends : (s : Tests) (y : List ℕ) → first_passes is_token_char y ≡ false → outcome s in_name y ≡ outcome s after_name y
+unfolding fault_from reading
+name-ends s [] e = refl
+name-ends s (c ∷ cs) e = rw e refl
+
+pub name-given : (s : Tests) (n y : List ℕ) → list_all is_token_char n ≡ true → first_passes is_token_char y ≡ false
+    → outcome s in_name (n ++ y) ≡ giving (with_name n) (outcome s after_name y)
+unfolding fault_from reading
+name-given s [] y h e = name-ends s y e ∙ ap (λ r. (fault_from s after_name y, r)) (sym (name_form y))
+name-given s (c ∷ cs) y h e =
+    let k = both (is_token_char c) (list_all is_token_char cs) h in rw k.0 (ap (giving (more c)) (name-given s cs y k.1 e))
+
+-- a parameter begins
+abbrev pub begun : ℕ → Reading → Reading
+begun c r = of_params (record { name = str_to_ascii_lowercase (c ∷ r.text); value = r.value } ∷ r.params) r.links
+
+pub semicolon-name : (s : Tests) (c : ℕ) (cs : List ℕ) → is_token_char c ≡ true → outcome s after_semicolon (c ∷ cs) ≡ giving (begun c) (outcome s in_name cs)
+unfolding fault_from reading
+semicolon-name s c cs h = rw h refl
+
+pub name-equals : (s : Tests) (y : List ℕ) → outcome s after_name (61 ∷ y) ≡ giving (λ r. of_value (Some r.text) r) (outcome s after_equals y)
+unfolding fault_from reading
+name-equals s y = refl
+
+-- ---- `;`, `,` and the end
+pub semicolon-same : (s : Tests) (y : List ℕ) → (outcome s after_name (59 ∷ y) ≡ outcome s after_semicolon y) × (outcome s after_param (59 ∷ y) ≡ outcome s after_semicolon y)
+    × (outcome s after_semicolon (59 ∷ y) ≡ outcome s after_semicolon y)
+unfolding fault_from reading
+semicolon-same s y = let e = ap (λ r. (fault_from s after_semicolon y, r)) (semicolon_form y) in (e, e, e)
+
+-- the same after a name, a parameter and a semicolon and before a link-value
+abbrev pub AllSame : Tests → List ℕ → Option Fault × Reading → Type 0
+AllSame s y x = (outcome s after_name y ≡ x) × (outcome s after_param y ≡ x) × (outcome s after_semicolon y ≡ x) × (outcome s before_link y ≡ x)
+
+pub comma-same : (s : Tests) (y : List ℕ) → AllSame s (44 ∷ y) (fault_from s before_link y, of_links (reading before_link y).links)
+unfolding fault_from reading
+comma-same s y = (refl, refl, refl, refl)
+
+pub end-same : (s : Tests) → AllSame s [] (None, of_links [])
+unfolding fault_from reading
+end-same s = (refl, refl, refl, refl)

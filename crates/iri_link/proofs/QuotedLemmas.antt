@@ -1,9 +1,8 @@
 -- The end and the value of a quoted string.
 use Rattle.iri_link.proofs.Common.{IsCutQuoted, ◌≡◌, ℕ, suc, ◌<◌, ◌≤◌, ◌+◌, Bool, true, false, cond, not, ◌&&◌, List, [], ◌∷◌, ◌++◌, Option, Some, None}
 use Rattle.iri_link.proofs.Common.{length, take, drop, get_or, refl, sym, ◌∙◌, ap, subst, arith, drop-cons, drop_all, ◌==◌, slice_index}
-use Rattle.iri_link.proofs.Common.{Tests, before, after, both, by_test, is_pair_char, is_plain_char, IsQuoted, done, plain, pair, Phase}
-use Rattle.iri_link.proofs.Common.{list_all, test_apart, is_token_char, in_quoted, after_param, closes_from, fault_from, quoted_len, unquoted, unquoted_from, first_passes}
-use Rattle.iri_link.specs.Phases.{in_pair as escape}
+use Rattle.iri_link.proofs.Common.{before, after, both, by_test, is_pair_char, is_plain_char, IsQuoted, done, plain, pair}
+use Rattle.iri_link.proofs.Common.{list_all, test_apart, is_token_char, closes_from, quoted_len, unquoted, unquoted_from, first_passes}
 
 -- ---- where it ends
 at_delimiter : (e : Bool) (c : ℕ) (cs : List ℕ) → (not e && c == 34) ≡ true → (closes_from e (c ∷ cs) ≡ true) × (quoted_len e (c ∷ cs) ≡ 0)
@@ -86,32 +85,13 @@ is_quoted (c ∷ d ∷ cs) h =
     (λ e h3. let k = both (is_pair_char d) (closes_from false cs) h3 in subst (λ n. IsQuoted (n ∷ rest true) (unquoted_from true (rest true))) (sym e) (pair d (take (quoted_len false cs) cs) (unquoted (take (quoted_len false cs) cs)) k.0 (is_quoted cs k.1)))
     (λ _ h3. let k = both (is_plain_char c) (closes_from false (d ∷ cs)) h3 in plain c (rest false) (unquoted (rest false)) k.0 (is_quoted (d ∷ cs) k.1)) h2) h
 
-phase_of : Bool → Phase
-phase_of true = escape
-phase_of false = in_quoted
-
-goes_from : (s : Tests) (e : Bool) (t : List ℕ) → closes_from e t ≡ true → fault_from s (phase_of e) t ≡ fault_from s after_param (drop (suc (quoted_len e t)) t)
-unfolding closes_from quoted_len fault_from phase_of
-goes_from s e [] h = cc
-goes_from s true (c ∷ cs) h = goes_from s false cs (both (is_pair_char c) (closes_from false cs) h).1
-goes_from s false (c ∷ cs) h =
-    by_test c 34 (λ b. cond b true (cond (c == 92) (closes_from true cs) (is_plain_char c && closes_from false cs)) ≡ true → fault_from s (cond b after_param (cond (c == 92) escape in_quoted)) cs ≡ fault_from s after_param (drop (cond b 0 (suc (quoted_len (c == 92) cs))) cs))
-    (λ _ _. refl)
-    (λ _ h2. by_test c 92 (λ b. cond b (closes_from true cs) (is_plain_char c && closes_from false cs) ≡ true → fault_from s (cond b escape in_quoted) cs ≡ fault_from s after_param (drop (suc (quoted_len b cs)) cs))
-    (λ _ h3. goes_from s true cs h3)
-    (λ _ h3. goes_from s false cs (both (is_plain_char c) (closes_from false cs) h3).1) h2) h
-
-quoted-goes : (s : Tests) (t : List ℕ) → closes_from false t ≡ true → fault_from s in_quoted t ≡ fault_from s after_param (drop (suc (quoted_len false t)) t)
-unfolding phase_of
-quoted-goes s t h = goes_from s false t h
-
 pub cut_at : (t raw rest : List ℕ) (n : ℕ) → closes_from false t ≡ true → n ≡ quoted_len false t → raw ≡ take n t → rest ≡ drop (n + 1) t → IsCutQuoted t raw rest
 cut_at t raw rest n h e prefix back =
     let m = quoted_len false t in
     let f : raw ≡ take m t = prefix ∙ ap (λ i. take i t) e in
     let s : n + 1 ≡ suc m = omega (arith, e) in
     let b : rest ≡ drop (suc m) t = back ∙ ap (λ i. drop i t) s in
-    rw (f, b) (record { whole = (closed false t h).whole; text = is_quoted t h; closes = h; goes = λ s. quoted-goes s t h })
+    rw (f, b) (record { whole = (closed false t h).whole; text = is_quoted t h })
 
 -- ---- the value
 abbrev pub after_pair : Option (List ℕ) → List ℕ

@@ -115,7 +115,7 @@ module _ (s : Tests) (base : List ℕ) where
   -- nothing is left at the end
   pub none_left_at : (p : Bool) (t between done all : List ℕ) → Ends p t → all ≡ done ++ written_left between (left_at p t) → done ≡ all
   unfolding written_left
-  none_left_at p t between done all e same = sym (same ∙ (ap (λ l. done ++ written_left between l) e.none_left ∙ append-nil done))
+  none_left_at p t between done all e same = sym (same ∙ (ap (λ l. done ++ written_left between l) (e.none_left s) ∙ append-nil done))
 
   -- a walk over a text without a fault isn't refused
   pub never_wrong : (e : Halt) (p : Bool) (t : List ℕ) → IsFault e (fault_from s (phase_at p) t) → fault_from s (phase_at p) t ≡ None → ⊥

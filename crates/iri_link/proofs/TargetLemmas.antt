@@ -4,6 +4,7 @@ use Rattle.iri_link.proofs.Common.{after, lacks, reference_fault, fault_from, ta
 use Rattle.iri_grammar.specs.declared.error.ErrorKind.{ErrorKind}
 use Rattle.iri_link.specs.Fault.{told_target}
 use Rattle.iri_link.specs.declared.error.LinkKind.TheVariants.{NoTarget, OpenTarget}
+use Rattle.iri_link.proofs.PhaseLemmas.{target-given}
 use Rattle.iri_grammar.proofs.splits.CutLaws.{by_test, before-delimited, after-delimited}
 
 pub some-lacks : (c : ℕ) (t b : List ℕ) → Some b ≡ after c t → lacks c t ≡ false
@@ -13,13 +14,6 @@ some-lacks c (x ∷ xs) b h = by_test x c (λ v. Some b ≡ cond v (Some xs) (af
 pub none-lacks : (c : ℕ) (t : List ℕ) → None ≡ after c t → lacks c t ≡ true
 none-lacks c [] h = refl
 none-lacks c (x ∷ xs) h = by_test x c (λ v. None ≡ cond v (Some xs) (after c xs) → (not v && lacks c xs) ≡ true) (λ _ k. cc) (λ _ k. none-lacks c xs k) h
-
-pub target-goes : (s : Tests) (t b : List ℕ) → Some b ≡ after 62 t → fault_from s in_target t ≡ fault_from s after_param b
-unfolding fault_from
-target-goes s [] b h = cc
-target-goes s (x ∷ xs) b h =
-    by_test x 62 (λ v. Some b ≡ cond v (Some xs) (after 62 xs) → fault_from s (cond v after_param in_target) xs ≡ fault_from s after_param b)
-    (λ _ k. let e : xs ≡ b = cc in ap (fault_from s after_param) e) (λ _ k. target-goes s xs b k) h
 
 pub open_goes : (s : Tests) (t : List ℕ) → fault_from s before_link (60 ∷ t) ≡ earlier (target_fault s t) (fault_from s in_target t)
 unfolding fault_from
@@ -34,7 +28,7 @@ closed_goes s t rest closed valid =
     let has = some-lacks 62 text rest h in
     let none : reference_fault s (before 62 text) ≡ None = ap (reference_fault s) (before-delimited 62 t (Some rest) closed) ∙ valid in
     let right : target_fault s text ≡ None = rw (has, none) refl in
-    open_goes s text ∙ (ap (λ o. earlier o (fault_from s in_target text)) right ∙ target-goes s text rest h)
+    open_goes s text ∙ (ap (λ o. earlier o (fault_from s in_target text)) right ∙ ap (λ o. o.0) (target-given s t rest closed))
 
 pub target_none : (r : List ℕ) (o : Option ErrorKind) → told_target o r ≡ None → o ≡ None
 target_none r None h = refl

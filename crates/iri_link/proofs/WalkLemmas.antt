@@ -1,5 +1,5 @@
 -- What each piece of a walk over a field value leaves.
-use Rattle.iri_link.proofs.Common.{◌≡◌, ℕ, ◌<◌, Bool, true, false, List, [], ◌∷◌, ◌++◌, Some, None, length, refl, sym, ap, ◌∙◌}
+use Rattle.iri_link.proofs.Common.{Option, ◌≡◌, ℕ, ◌<◌, Bool, true, false, List, [], ◌∷◌, ◌++◌, Some, None, length, refl, sym, ap, ◌∙◌}
 use Rattle.iri_link.proofs.Common.{list_all, subst, arith, append_assoc, append-nil, both, is_blanks, ◌==◌, ◌||◌, eqb-true, Tests, before, after, delimited, lacks, reference_fault}
 use Rattle.iri_link.proofs.Common.{is_blank, is_token_char, LinkParam, LinkValue, before_link, in_target, after_param, after_semicolon, in_name}
 use Rattle.iri_link.proofs.Common.{next, fault_from, target_fault, earlier, first_passes, IsRun, by_test}
@@ -8,25 +8,23 @@ use Rattle.std.proofs.lemmas.List.{nil_from_length}
 use denote.Bor.{Bor}
 use Rattle.iri_grammar.proofs.splits.CutLaws.{joined}
 use Rattle.iri_grammar.proofs.faults.Scans.{before-lacks}
-use Rattle.iri_link.specs.Fault.{unless, told_target}
+use Rattle.iri_link.specs.Fault.{Fault, unless, told_target}
 use Rattle.iri_link.specs.Phases.{may_follow}
 use Rattle.iri_link.specs.Refusals.{KeepsTarget}
-use Rattle.iri_link.specs.Readings.{Reading, reading, links_in}
+use Rattle.iri_link.specs.Readings.{Reading, links_in}
 use Rattle.iri_link.specs.declared.error.LinkKind.TheVariants.{NoTarget, OpenTarget, NoParam}
 use Rattle.iri_link.specs.declared.halt.Halt.{Halt}
 use Rattle.iri_link.specs.declared.param_text.ParamText.{ParamText}
 use Rattle.iri_link.specs.declared.piece.Piece.{Piece}
 use Rattle.iri_link.specs.declared.piece.Piece.TheVariants.{Target, Param, NoParam as NoneThere, Comma}
 use Rattle.iri_link.specs.inside.Halts.{IsFault}
-use Rattle.iri_link.specs.inside.Pieces.{Comes, Ends, Left, left_at, param_said}
+use Rattle.iri_link.specs.inside.Pieces.{Comes, Ends, Left, param_said}
 use Rattle.iri_link.specs.inside.ReadParams.{ReadsParam}
-use Rattle.iri_link.proofs.NoFaultLemmas.{comma_same, end_same}
-use Rattle.iri_link.proofs.OneListLemmas.{Same, IsStop, param-blanks, semicolon-blanks, start-blanks, at_semicolon, at_comma, at_end, stops}
-use Rattle.iri_link.proofs.OneListLemmas.{param-given, link-open, target-given}
-use Rattle.iri_link.proofs.ParamLemmas.{no_param, ready_semicolon, semicolon_ready}
-use Rattle.iri_link.proofs.PhaseLemmas.{by_blank, start-blanks as blanks_before, ready-blanks, semicolon-blanks as blanks_after, semicolon-name}
+use Rattle.iri_link.proofs.GrammarLemmas.{IsStop, stop_after, param-given, link-open}
+use Rattle.iri_link.proofs.ParamLemmas.{no_param, semicolon_ready, semicolon_begun}
+use Rattle.iri_link.proofs.PhaseLemmas.{outcome, giving, with_text, blanks, target-given, semicolon-same, comma-same, end-same}
 use Rattle.iri_link.proofs.QuotedLemmas.{after-shorter}
-use Rattle.iri_link.proofs.TargetLemmas.{some-lacks, target-goes, open_goes, no_target, target_open, target_none}
+use Rattle.iri_link.proofs.TargetLemmas.{some-lacks, open_goes, no_target, target_open, target_none}
 
 -- ---- what may follow a parameter of a text without a fault
 follows : (s : Tests) (c : ℕ) (cs : List ℕ) → fault_from s after_param (c ∷ cs) ≡ None
@@ -39,22 +37,18 @@ follows s c cs h =
       | false ↦ λ k. cc
     ] h
 
-blank_stop : (c : ℕ) (cs : List ℕ) → is_blank c ≡ true → IsStop cs → IsStop (c ∷ cs)
-blank_stop c cs h k =
-    by_blank c (λ d. IsStop (d ∷ cs))
-    (stops (32 ∷ []) cs (reading after_param cs) refl k.token_ends k.name_ends (record { params = refl; links = refl }) k.semicolon_ends).0
-    (stops (9 ∷ []) cs (reading after_param cs) refl k.token_ends k.name_ends (record { params = refl; links = refl }) k.semicolon_ends).0 h
-
-pub valid_stop : (s : Tests) (z : List ℕ) → fault_from s after_param z ≡ None → IsStop z
-valid_stop s [] h = (stops [] [] _ refl refl at_end.0 at_end.1 at_end.2).0
+pub valid_stop : (s : Tests) (z : List ℕ) → fault_from s after_param z ≡ None → IsStop s z
+valid_stop s [] h = let k = end-same s in (stop_after s [] [] _ refl refl (k.0, k.1, k.2)).0
 valid_stop s (c ∷ cs) h =
     let f = follows s c cs h in
-    by_test c 59 (λ b. (c == 59) ≡ b → IsStop (c ∷ cs))
-    (λ e _. let k = at_semicolon cs in subst (λ d. IsStop (d ∷ cs)) (sym e) (stops [] (59 ∷ cs) _ refl refl k.0 k.1 k.2).0)
-    (λ _ n. by_test c 44 (λ b. (c == 44) ≡ b → IsStop (c ∷ cs))
-    (λ e _. let k = at_comma cs in subst (λ d. IsStop (d ∷ cs)) (sym e) (stops [] (44 ∷ cs) _ refl refl k.0 k.1 k.2).0)
-    (λ _ m. let blank : is_blank c ≡ true = blank_left (is_blank c) (c == 59) (c == 44) n m f.0 in
-    blank_stop c cs blank (valid_stop s cs (subst (λ p. fault_from s p cs ≡ None) (stays n m) f.1))) refl) refl
+    by_test c 59 (λ b. (c == 59) ≡ b → IsStop s (c ∷ cs))
+    (λ e _. subst (λ d. IsStop s (d ∷ cs)) (sym e) (stop_after s [] (59 ∷ cs) _ refl refl (semicolon-same s cs)).0)
+    (λ _ n. by_test c 44 (λ b. (c == 44) ≡ b → IsStop s (c ∷ cs))
+    (λ e _. let k = comma-same s cs in subst (λ d. IsStop s (d ∷ cs)) (sym e) (stop_after s [] (44 ∷ cs) _ refl refl (k.0, k.1, k.2)).0)
+    (λ _ m.
+    let blank : is_blank c ≡ true = blank_left (is_blank c) (c == 59) (c == 44) n m f.0 in
+    let k = valid_stop s cs (subst (λ p. fault_from s p cs ≡ None) (stays n m) f.1) in
+    (stop_after s (c ∷ []) cs (outcome s after_param cs) (rw blank refl) k.token_ends (k.named_ends, refl, k.semicolon_ends)).0) refl) refl
   where
     blank_left : (a b d : Bool) → b ≡ false → d ≡ false → (a || (b || d)) ≡ true → a ≡ true
     blank_left true b d n m h = refl
@@ -70,9 +64,12 @@ shorter t a next rest c e f = omega (arith, ap length e, ap length f, length-app
 abbrev left_of : List LinkParam → List LinkValue → Left
 left_of ps ls = record { params = ps; links = ls }
 
--- the same parameters and link-values are left
-left_same : {r z : Reading} → Same r z → left_of r.params r.links ≡ left_of z.params z.links
-left_same {r} {z} k = ap (λ p. left_of p r.links) k.params ∙ ap (left_of z.params) k.links
+-- what is left, after a target or a parameter and before a link-value
+abbrev left_inside : Option Fault × Reading → Left
+left_inside o = left_of o.1.params o.1.links
+
+abbrev left_before : Option Fault × Reading → Left
+left_before o = left_of [] o.1.links
 
 -- ---- a target that is kept
 skipped_blanks : (a y : List ℕ) → is_blanks a ≡ true → list_all (λ c. is_blank c || c == 44) y ≡ true
@@ -81,7 +78,7 @@ skipped_blanks [] y h k = k
 skipped_blanks (c ∷ cs) y h k =
     let b = both (is_blank c) (list_all is_blank cs) h in
     let rest = skipped_blanks cs y b.1 k in
-    by_blank c (λ d. list_all (λ c. is_blank c || c == 44) (d ∷ (cs ++ y)) ≡ true) rest rest b.0
+    rw b.0 rest
 
 kept_past_comma : (s : Tests) (t a rest : List ℕ) → t ≡ a ++ 44 ∷ rest → is_blanks a ≡ true → KeepsTarget s rest → KeepsTarget s t
 kept_past_comma s t a rest e h k = record {
@@ -96,16 +93,16 @@ kept_past_comma s t a rest e h k = record {
 
 -- ---- before a link-value, over blanks
 module _ (t a next : List ℕ) (h : IsRun is_blank t a next) where
-  goes_before : (s : Tests) → fault_from s before_link t ≡ fault_from s before_link next
-  goes_before s = ap (fault_from s before_link) h.whole ∙ blanks_before s a next h.all
+  over_before : (s : Tests) → outcome s before_link t ≡ outcome s before_link next
+  over_before s = ap (outcome s before_link) h.whole ∙ blanks s before_link refl a next h.all
 
-  links_before : links_in t ≡ links_in next
-  links_before = ap links_in h.whole ∙ start-blanks a next h.all
+  goes_before : (s : Tests) → fault_from s before_link t ≡ fault_from s before_link next
+  goes_before s = ap (λ o. o.0) (over_before s)
 
   pub comma_before : (rest : List ℕ) → next ≡ 44 ∷ rest → Comes false t Comma rest
   comma_before rest e = record {
-    goes = λ s. goes_before s ∙ (ap (fault_from s before_link) e ∙ (comma_same s rest).3);
-    reads = λ s _. ap (left_of []) (links_before ∙ (ap links_in e ∙ (at_comma rest).3));
+    goes = λ s. ap (λ o. o.0) (over_before s ∙ (ap (outcome s before_link) e ∙ (comma-same s rest).3));
+    reads = λ s _. ap left_before (over_before s ∙ (ap (outcome s before_link) e ∙ (comma-same s rest).3));
     keeps = λ s _ _. kept_past_comma s t a rest (h.whole ∙ ap (λ l. a ++ l) e) h.all;
     named = tt;
     shorter = shorter t a next rest 44 h.whole e;
@@ -114,8 +111,8 @@ module _ (t a next : List ℕ) (h : IsRun is_blank t a next) where
   pub end_before : (length next == 0) ≡ true → Ends false t
   end_before e =
       let n = nil_from_length next (eqb-true (length next) 0 e) in record {
-        faultless = λ s. goes_before s ∙ (ap (fault_from s before_link) n ∙ (end_same s).3);
-        none_left = ap (left_of []) (links_before ∙ (ap links_in n ∙ at_end.3));
+        faultless = λ s. ap (λ o. o.0) (over_before s ∙ (ap (outcome s before_link) n ∙ (end-same s).3));
+        none_left = λ s. ap left_before (over_before s ∙ (ap (outcome s before_link) n ∙ (end-same s).3));
       }
 
   pub no_target_before : first_passes (λ c. c == 60) next ≡ false → first_passes (λ c. c == 44) next ≡ false → (length next == 0) ≡ false
@@ -133,6 +130,8 @@ module _ (t a next : List ℕ) (h : IsRun is_blank t a next) where
       let whole : inner.now ≡ u.now ++ 62 ∷ rest =
       sym (joined 62 inner.now) ∙ (ap (λ o. before 62 inner.now ++ delimited 62 o) (sym r) ∙ ap (λ l. l ++ 62 ∷ rest) (sym is)) in
       let closed : lacks 62 u.now ≡ true = ap (lacks 62) is ∙ before-lacks 62 inner.now in
+      let given : (s : Tests) → outcome s in_target inner.now ≡ giving (with_text u.now) (outcome s after_param rest) =
+      λ s. ap (outcome s in_target) whole ∙ target-given s u.now rest closed in
       record {
         goes = λ s.
             let there : target_fault s inner.now ≡ told_target (reference_fault s (before 62 inner.now)) inner.now = rw has refl in
@@ -140,8 +139,10 @@ module _ (t a next : List ℕ) (h : IsRun is_blank t a next) where
             there ∙ ap (λ z. told_target (reference_fault s z) inner.now) (sym is) in
             goes_before s ∙ (ap (fault_from s before_link) e ∙ (open_goes s inner.now
             ∙ (ap (λ o. earlier o (fault_from s in_target inner.now)) right
-            ∙ ap (earlier (told_target (reference_fault s u.now) inner.now)) (target-goes s inner.now rest r))));
-        reads = λ s _. ap (left_of []) (links_before ∙ (ap links_in e ∙ (ap (λ z. links_in (60 ∷ z)) whole ∙ opened u.now rest closed)));
+            ∙ ap (earlier (told_target (reference_fault s u.now) inner.now)) (ap (λ o. o.0) (given s)))));
+        reads = λ s _.
+            ap left_before (over_before s) ∙ (ap (λ z. left_of [] (links_in z)) e ∙ (ap (left_of []) (link-open inner.now)
+            ∙ ap (λ o. left_of [] (record { target = o.1.text; params = o.1.params } ∷ o.1.links)) (given s)));
         keeps = λ s _ valid. record {
           prefix = a;
           target = u.now;
@@ -154,30 +155,19 @@ module _ (t a next : List ℕ) (h : IsRun is_blank t a next) where
         named = tt;
         shorter = omega (arith, shorter t a next inner.now 60 h.whole e, after-shorter 62 inner.now rest r);
       }
-    where
-      opened : (v y : List ℕ) → lacks 62 v ≡ true
-          → links_in (60 ∷ (v ++ 62 ∷ y)) ≡ record { target = v; params = (reading after_param y).params } ∷ (reading after_param y).links
-      opened v y closed =
-          let R = reading in_target (v ++ 62 ∷ y) in
-          let z = reading after_param y in
-          let g = target-given v y closed in
-          link-open (v ++ 62 ∷ y)
-          ∙ (ap (λ w. record { target = w; params = R.params } ∷ R.links) g.text
-          ∙ (ap (λ w. record { target = v; params = w } ∷ R.links) g.params
-          ∙ ap (λ w. record { target = v; params = z.params } ∷ w) g.links))
 
 -- ---- after a target or a parameter, over blanks
 module _ (t a next : List ℕ) (h : IsRun is_blank t a next) where
-  goes_inside : (s : Tests) → fault_from s after_param t ≡ fault_from s after_param next
-  goes_inside s = ap (fault_from s after_param) h.whole ∙ ready-blanks s a next h.all
+  over_inside : (s : Tests) → outcome s after_param t ≡ outcome s after_param next
+  over_inside s = ap (outcome s after_param) h.whole ∙ blanks s after_param refl a next h.all
 
-  left_inside : left_at true t ≡ left_at true next
-  left_inside = ap (left_at true) h.whole ∙ left_same (param-blanks a next h.all)
+  goes_inside : (s : Tests) → fault_from s after_param t ≡ fault_from s after_param next
+  goes_inside s = ap (λ o. o.0) (over_inside s)
 
   pub comma_inside : (rest : List ℕ) → next ≡ 44 ∷ rest → Comes true t Comma rest
   comma_inside rest e = record {
-    goes = λ s. goes_inside s ∙ (ap (fault_from s after_param) e ∙ (comma_same s rest).1);
-    reads = λ s _. left_inside ∙ (ap (left_at true) e ∙ left_same (at_comma rest).1);
+    goes = λ s. ap (λ o. o.0) (over_inside s ∙ (ap (outcome s after_param) e ∙ (comma-same s rest).1));
+    reads = λ s _. ap left_inside (over_inside s ∙ (ap (outcome s after_param) e ∙ (comma-same s rest).1));
     keeps = λ s f. cc;
     named = tt;
     shorter = shorter t a next rest 44 h.whole e;
@@ -186,8 +176,8 @@ module _ (t a next : List ℕ) (h : IsRun is_blank t a next) where
   pub end_inside : (length next == 0) ≡ true → Ends true t
   end_inside e =
       let n = nil_from_length next (eqb-true (length next) 0 e) in record {
-        faultless = λ s. goes_inside s ∙ (ap (fault_from s after_param) n ∙ (end_same s).1);
-        none_left = left_inside ∙ (ap (left_at true) n ∙ left_same at_end.1);
+        faultless = λ s. ap (λ o. o.0) (over_inside s ∙ (ap (outcome s after_param) n ∙ (end-same s).1));
+        none_left = λ s. ap left_inside (over_inside s ∙ (ap (outcome s after_param) n ∙ (end-same s).1));
       }
 
   pub no_param_inside : first_passes (λ c. c == 59) next ≡ false → first_passes (λ c. c == 44) next ≡ false → (length next == 0) ≡ false
@@ -200,7 +190,7 @@ module _ (t a next : List ℕ) (h : IsRun is_blank t a next) where
   pub piece_inside : (x : Piece) (rest : List ℕ) → Comes true next x rest → Comes true t x rest
   piece_inside x rest k = record {
     goes = λ s. goes_inside s ∙ k.goes s;
-    reads = λ s v. left_inside ∙ k.reads s v;
+    reads = λ s v. ap left_inside (over_inside s) ∙ k.reads s v;
     keeps = λ s f. cc;
     named = k.named;
     shorter = omega (arith, k.shorter, ap length h.whole, length-append a next);
@@ -208,20 +198,18 @@ module _ (t a next : List ℕ) (h : IsRun is_blank t a next) where
 
 -- ---- after a semicolon, over blanks
 module _ (whole following b next : List ℕ) (e : whole ≡ 59 ∷ following) (h : IsRun is_blank following b next) where
-  goes_after : (s : Tests) → fault_from s after_param whole ≡ fault_from s after_semicolon next
-  goes_after s =
-      ap (fault_from s after_param) e ∙ (ready_semicolon s following
-      ∙ (ap (fault_from s after_semicolon) h.whole ∙ blanks_after s b next h.all))
+  past : (s : Tests) → outcome s after_param whole ≡ outcome s after_semicolon next
+  past s =
+      ap (outcome s after_param) e ∙ ((semicolon-same s following).1
+      ∙ (ap (outcome s after_semicolon) h.whole ∙ blanks s after_semicolon refl b next h.all))
 
-  left_after : left_at true whole ≡ left_of (reading after_semicolon next).params (reading after_semicolon next).links
-  left_after =
-      ap (left_at true) e ∙ (left_same (at_semicolon following).1
-      ∙ (ap (λ z. left_of (reading after_semicolon z).params (reading after_semicolon z).links) h.whole ∙ left_same (semicolon-blanks b next h.all)))
+  goes_after : (s : Tests) → fault_from s after_param whole ≡ fault_from s after_semicolon next
+  goes_after s = ap (λ o. o.0) (past s)
 
   pub none_after : first_passes is_token_char next ≡ false → Comes true whole NoneThere next
   none_after none = record {
     goes = λ s. goes_after s ∙ semicolon_ready s next h.ends none;
-    reads = λ s v. left_after ∙ left_same (valid_stop s next v).semicolon_ends;
+    reads = λ s v. ap left_inside (past s ∙ (valid_stop s next v).semicolon_ends);
     keeps = λ s f. cc;
     named = tt;
     shorter = omega (arith, ap length e, ap length h.whole, length-append b next);
@@ -230,14 +218,9 @@ module _ (whole following b next : List ℕ) (e : whole ≡ 59 ∷ following) (h
   pub param_after : (p : ParamText) (rest : List ℕ) → first_passes is_token_char next ≡ true → ReadsParam next rest (param_said p)
       → list_all is_token_char p.name.now ≡ true → Comes true whole (Param p) rest
   param_after p rest begun r named = record {
-    goes = λ s. goes_after s ∙ (semicolon-name s next begun ∙ r.goes s);
+    goes = λ s. goes_after s ∙ (semicolon_begun s next begun ∙ r.goes s);
     reads = λ s v.
-        let q = param_said p in
-        let z = reading after_param rest in
-        let R = reading after_semicolon (r.prefix ++ rest) in
-        let d = param-given r.prefix rest q r.param (valid_stop s rest v) in
-        left_after ∙ (ap (λ x. left_of (reading after_semicolon x).params (reading after_semicolon x).links) r.whole
-        ∙ (ap (λ ps. left_of ps R.links) d.params ∙ ap (left_of (q ∷ z.params)) d.links));
+        ap left_inside (past s ∙ (ap (outcome s after_semicolon) r.whole ∙ param-given s r.prefix rest (param_said p) r.param (valid_stop s rest v)));
     keeps = λ s f. cc;
     named = named;
     shorter = omega (arith, ap length e, ap length h.whole, length-append b next, ap length r.whole, length-append r.prefix rest);
@@ -245,4 +228,4 @@ module _ (whole following b next : List ℕ) (e : whole ≡ 59 ∷ following) (h
 
   pub fault_after : (k : Halt) (s : Tests) → first_passes is_token_char next ≡ true → IsFault k (fault_from s in_name next)
       → IsFault k (fault_from s after_param whole)
-  fault_after k s begun is = subst (IsFault k) (sym (goes_after s ∙ semicolon-name s next begun)) is
+  fault_after k s begun is = subst (IsFault k) (sym (goes_after s ∙ semicolon_begun s next begun)) is

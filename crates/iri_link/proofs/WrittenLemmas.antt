@@ -10,7 +10,7 @@ use Rattle.iri_grammar.proofs.authorities.AuthorityTexts.{one_byte-utf8}
 use Rattle.iri_grammar.proofs.faults.FaultLaws.{reference-law, reference-utf8}
 use Rattle.iri_normal.specs.NormalForm.{canonical}
 use Rattle.iri_normal.proofs.canonical_texts.CanonicalTexts.{canonical-iri, canonical-own}
-use Rattle.iri_link.proofs.OneListLemmas.{one_list}
+use Rattle.iri_link.proofs.GrammarLemmas.{one_list}
 use Rattle.iri_link.proofs.ReferenceLemmas.{reference-closed}
 use Rattle.iri_link.proofs.Utf8Lemmas.{escaped-utf8}
 use Rattle.iri_link.specs.Written.{written_value}
@@ -55,7 +55,7 @@ blank_field x ls (more y z ms ns h k) = more (32 ∷ y) z ms ns (blank_element y
 -- what is kept of a field value is one list
 pub one_kept : (s : Tests) (base x : List ℕ) (kept others : List LinkValue) → IsRead s base x kept → IsRead s base x others → kept ≡ others
 one_kept s base x kept others a b =
-    a.resolves ∙ (ap (map (resolved s base)) (one_list x a.links b.links a.has.field b.has.field) ∙ sym b.resolves)
+    a.resolves ∙ (ap (map (resolved s base)) (one_list s x a.links b.links a.has.field b.has.field) ∙ sym b.resolves)
 
 -- link-values whose targets are references, and whose parameters are those of a field value
 pub record AreKept (s : Tests) (ls : List LinkValue) : Type 0 where

@@ -76,7 +76,7 @@ pub record Comes (inside : Bool) (t : List ℕ) (x : Piece) (rest : List ℕ) : 
 -- nothing comes in t
 pub record Ends (inside : Bool) (t : List ℕ) : Type 0 where
   pub faultless : (s : Tests) → fault_from s (phase_at inside) t ≡ None
-  pub none_left : left_at inside t ≡ record { params = []; links = [] }
+  pub none_left : (s : Tests) → left_at inside t ≡ record { params = []; links = [] }
 
 -- what is shown of a piece, before which this stands where it is a target
 abbrev pub piece_text : Tests → (base between : List ℕ) → Piece → List ℕ

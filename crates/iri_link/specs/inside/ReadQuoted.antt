@@ -1,9 +1,6 @@
 -- The end and the value of a quoted string.
 use Rattle.std.specs.Prelude.{◌≡◌, ℕ, suc, Bool, true, false, cond, ◌==◌, List, [], ◌∷◌, ◌++◌}
-use Rattle.iri_grammar.specs.Classes.{Tests}
 use Rattle.iri_link.specs.Characters.{backslash, quotation_mark}
-use Rattle.iri_link.specs.Fault.{closes_from, fault_from}
-use Rattle.iri_link.specs.Phases.{in_quoted, after_param}
 use Rattle.iri_link.specs.Token.{IsQuoted}
 
 -- how many bytes stand before the delimiter that ends it
@@ -25,5 +22,3 @@ unquoted t = unquoted_from false t
 pub record IsCutQuoted (t raw rest : List ℕ) : Type 0 where
   pub whole : t ≡ raw ++ quotation_mark ∷ rest
   pub text : IsQuoted raw (unquoted raw)
-  pub closes : closes_from false t ≡ true
-  pub goes : (s : Tests) → fault_from s in_quoted t ≡ fault_from s after_param rest

@@ -1,6 +1,6 @@
 use Rattle.iri_link.specs.Readings.{links_in}
 use Rattle.iri_link.proofs.FieldLemmas.{links_of_faultless}
-use Rattle.iri_link.proofs.NoFaultLemmas.{links_without_fault}
+use Rattle.iri_link.proofs.GrammarLemmas.{links_without_fault}
 use Rattle.iri_link.proofs.laws.no_fault_of_field_values.Goals as goal
 
 pub returns-clause-fields : goal.returns-clause-fields
