@@ -1,12 +1,12 @@
 -- A text without a fault is a field value: that of the link-values that a reading gives.
 use Rattle.iri_link.proofs.Common.{◌≡◌, ℕ, zero, suc, ◌+◌, ◌<◌, Bool, true, false, List, [], ◌∷◌, ◌++◌, Option, Some, None, inl, inr, refl, sym, ap}
 use Rattle.iri_link.proofs.Common.{◌∙◌, subst, append_assoc, ◌==◌, All, str_to_ascii_lowercase, is_utf8, append-nil, All-cons, arith, length, take, drop}
-use Rattle.iri_link.proofs.Common.{All-nil, IsUtf8-from_is_utf8, Tests, before, after, delimited, reference_fault, by_test, is_blank, run_of, first_passes}
+use Rattle.iri_link.proofs.Common.{All-nil, IsUtf8-from_is_utf8, Tests, before, after, delimited, reference_fault, is_blank, run_of, first_passes}
 use Rattle.iri_link.proofs.Common.{is_blanks, is_token_char, LinkParam, unquoted}
 use Rattle.iri_link.proofs.Common.{LinkValue, IsParams, none, empty, param, IsLink, link}
 use Rattle.iri_link.proofs.Common.{no_element, element, IsField, last, more, HasReference, HasLinks, before_link}
 use Rattle.iri_link.proofs.Common.{in_target, after_param, after_semicolon, in_name, after_equals, fault_from, closes_from, quoted_len, target_fault, earlier, place_in, field_fault, ReadsValue}
-use Rattle.std.proofs.Common.{◌⊎◌, length-append}
+use Rattle.std.proofs.Common.{length-append}
 use Rattle.std.specs.Str.Lossy.{utf8_valid_len}
 use Rattle.iri_grammar.proofs.splits.CutLaws.{joined}
 use Rattle.iri_grammar.proofs.faults.Scans.{before-lacks}
@@ -17,21 +17,13 @@ use Rattle.iri_link.proofs.ParamLemmas.{no_value, token_value, string_value, nam
 use Rattle.iri_link.proofs.GrammarLemmas.{element-parts, field-given, params-parts}
 use Rattle.iri_link.proofs.PhaseLemmas.{fault-blanks, comma-same, target-given}
 use Rattle.iri_link.proofs.QuotedLemmas.{cut_at}
-use Rattle.iri_link.proofs.RunLemmas.{run-is}
+use Rattle.iri_link.proofs.RunLemmas.{run-is, mark}
 use Rattle.iri_link.proofs.TargetLemmas.{some-lacks, none-lacks, open_goes, target_none}
 use Rattle.iri_link.specs.Readings.{links_in}
 
 -- ---- tests
-at_char : (c d : ℕ) (P : ℕ → Type 0) → P d → ((c == d) ≡ false → P c) → P c
-at_char c d P a b = by_test c d (λ t. (c == d) ≡ t → P c) (λ e _. subst P (sym e) a) (λ _ e. b e) refl
-
 when : (b : Bool) (P : Type 0) → (b ≡ true → P) → (b ≡ false → P) → P
 when b P on off = elim b as (λ v. b ≡ v → P) [ true ↦ on | false ↦ off ] refl
-
--- whether m comes first
-mark : (m : ℕ) (t : List ℕ) → (first_passes (λ c. c == m) t ≡ false) ⊎ ((r : List ℕ) × (t ≡ m ∷ r))
-mark m [] = inl refl
-mark m (c ∷ cs) = at_char c m (λ d. (first_passes (λ x. x == m) (d ∷ cs) ≡ false) ⊎ ((r : List ℕ) × (d ∷ cs ≡ m ∷ r))) (inr (cs, refl)) (λ e. inl e)
 
 pub none_of : (a b : Option Fault) → earlier a b ≡ None → (a ≡ None) × (b ≡ None)
 none_of None b h = (refl, h)

@@ -1,10 +1,15 @@
 -- The values of quoted strings, and their written form, are texts.
-use Rattle.iri_link.proofs.Common.{◌≡◌, ℕ, ◌<◌, ◌≤◌, true, false, cond, not, List, [], ◌∷◌, ◌++◌, refl, sym, ap, ◌∙◌, subst, arith, inl}
+use Rattle.iri_link.proofs.Common.{zero, suc, ◌+◌, length, Option, Some, None, before, after, delimited, test_apart, is_plain_char, unquoted, unquoted_from, first_passes, ◌≡◌, ℕ, ◌<◌, ◌≤◌, true, false, cond, not, List, [], ◌∷◌, ◌++◌, refl, sym, ap, ◌∙◌, subst, arith, inl}
 use Rattle.iri_link.proofs.Common.{inr, ◌==◌, ◌||◌, IsUtf8, nat_tests, both, cases_lt, append-nil, IsUtf8-append, IsUtf8-nil, lacks}
 use Rattle.iri_link.proofs.Common.{delimited-utf8, by_test, IsQuoted, done, plain, pair, escaped}
-use Rattle.std.proofs.lemmas.Bool.{not-true}
 use Rattle.std.proofs.lemmas.Str.{IsUtf8-encode, encode_ascii}
 use lib.Utf8.{encode, encodes, scalar, scalars}
+use Rattle.std.proofs.Common.{◌⊎◌}
+use Rattle.iri_grammar.proofs.splits.CharBoundaries.{text_after_delimiter, text_before_delimiter}
+use Rattle.iri_grammar.proofs.splits.CutLaws.{joined}
+use Rattle.iri_grammar.proofs.units.FirstUnits.{text_after_ascii}
+use Rattle.iri_link.proofs.QuotedLemmas.{after_pair, unquoted-chunk, after_pair-plain, after-shorter}
+use Rattle.iri_link.proofs.RunLemmas.{mark}
 use Rattle.iri_grammar.proofs.units.LackedBytes.{lacks-encodes}
 
 -- ---- characters
@@ -16,116 +21,38 @@ high_lacks c x l h =
     let other : (x == c) ≡ false = grind (arith, nat_tests) in
     subst (λ z. lacks c z ≡ true) (append-nil (encode x)) (lacks-encodes c (x ∷ []) l (rw other refl))
 
--- ---- quoted strings
--- the first byte of a quoted text is none, a character, or a `\`
-record FirstPlain (c : ℕ) (cs v : List ℕ) : Type 0 where
-  rest : List ℕ
-  whole : v ≡ c ∷ rest
-  quoted : IsQuoted cs rest
+-- ---- the value of a quoted string
+quoted-value : (t v : List ℕ) → IsQuoted t v → v ≡ unquoted t
+unfolding unquoted_from
+quoted-value t v done = refl
+quoted-value t v (plain c u w h r) = rw (test_apart is_plain_char 92 c refl h) (ap (λ l. c ∷ l) (quoted-value u w r))
+quoted-value t v (pair c u w h r) = ap (λ l. c ∷ l) (quoted-value u w r)
 
-record FirstPair (cs v : List ℕ) : Type 0 where
-  char : ℕ
-  text : List ℕ
-  rest : List ℕ
-  begins : cs ≡ char ∷ text
-  whole : v ≡ char ∷ rest
-  quoted : IsQuoted text rest
+after-pair : (t b : List ℕ) → Some b ≡ after 92 t → (first_passes (λ c. c == 92) b ≡ false) ⊎ ((r : List ℕ) × (b ≡ 92 ∷ r))
+    → ((y : List ℕ) → length y < length t → IsUtf8 y → IsUtf8 (unquoted y)) → IsUtf8 b → IsUtf8 (unquoted_from true b)
+unfolding unquoted_from
+after-pair t b e (inl other) again u = subst IsUtf8 (sym (after_pair-plain b other)) (again b (after-shorter 92 t b e) u)
+after-pair t b e (inr m) again u =
+    let short : length m.0 < length t = omega (arith, after-shorter 92 t b e, ap length m.1) in
+    subst (λ z. IsUtf8 (unquoted_from true z)) (sym m.1)
+    (delimited-utf8 92 (unquoted m.0) (omega arith) (again m.0 short (text_after_ascii 92 m.0 (subst IsUtf8 m.1 u) (omega arith))))
 
-first_plain : (t v : List ℕ) → IsQuoted t v → (c : ℕ) (cs : List ℕ) → t ≡ c ∷ cs → (c == 92) ≡ false → FirstPlain c cs v
-first_plain t v done c cs e n = cc
-first_plain t v (plain d u w h r) c cs e n =
-    let same : d ≡ c = cc in
-    let rest : u ≡ cs = cc in
-    record { rest = w; whole = ap (λ x. x ∷ w) same; quoted = subst (λ z. IsQuoted z w) rest r }
-first_plain t v (pair d u w h r) c cs e n = let same : 92 ≡ c = cc in let yes : (c == 92) ≡ true = ap (λ x. x == 92) (sym same) in cc
-
-first_pair : (t v : List ℕ) → IsQuoted t v → (cs : List ℕ) → t ≡ 92 ∷ cs → FirstPair cs v
-first_pair t v done cs e = cc
-first_pair t v (plain d u w h r) cs e =
-    let same : d ≡ 92 = cc in absurd (not_plain d same h)
+unquoted-utf8 : (n : ℕ) (t : List ℕ) → length t < n → IsUtf8 t → IsUtf8 (unquoted t)
+unquoted-utf8 zero t lt u = absurd (omega (arith, lt))
+unquoted-utf8 (suc n) t lt u =
+    elim (after 92 t) as (λ o. o ≡ after 92 t → IsUtf8 (unquoted t)) [
+      | None ↦ λ e. subst IsUtf8 (sym (joined 92 t) ∙ (ap (λ o. before 92 t ++ delimited 92 o) (sym e) ∙ sym (chunk None e))) u
+      | Some b ↦ λ e.
+          let whole : IsUtf8 (before 92 t ++ 92 ∷ b) = subst IsUtf8 (sym (joined 92 t) ∙ ap (λ o. before 92 t ++ delimited 92 o) (sym e)) u in
+          let rest = after-pair t b e (mark 92 b) (λ y l. unquoted-utf8 n y (omega (arith, l, lt))) (text_after_delimiter 92 (before 92 t) b (omega arith) whole) in
+          subst IsUtf8 (sym (chunk (Some b) e)) (IsUtf8-append (before 92 t) (unquoted_from true b) (text_before_delimiter 92 (before 92 t) b (omega arith) whole) rest)
+    ] refl
   where
-    not_plain : (x : ℕ) → x ≡ 92 → Rattle.iri_link.specs.Token.is_plain_char x ≡ true → ⊥
-    not_plain x e h = let k : Rattle.iri_link.specs.Token.is_plain_char x ≡ false = ap Rattle.iri_link.specs.Token.is_plain_char e in cc
-first_pair t v (pair d u w h r) cs e = record { char = d; text = u; rest = w; begins = cc; whole = refl; quoted = r }
-
-record FirstBytes (m rest v : List ℕ) : Type 0 where
-  value : List ℕ
-  whole : v ≡ m ++ value
-  quoted : IsQuoted rest value
-
--- bytes without a `\` stay
-first_bytes : (m rest v : List ℕ) → lacks 92 m ≡ true → IsQuoted (m ++ rest) v → FirstBytes m rest v
-first_bytes [] rest v h q = record { value = v; whole = refl; quoted = q }
-first_bytes (b ∷ m) rest v h q =
-    let k = both (not (b == 92)) (lacks 92 m) h in
-    let n : (b == 92) ≡ false = not-true (b == 92) k.0 in
-    let f = first_plain ((b ∷ m) ++ rest) v q b (m ++ rest) refl n in
-    let i = first_bytes m rest f.rest k.1 f.quoted in
-    record { value = i.value; whole = f.whole ∙ ap (λ l. b ∷ l) i.whole; quoted = i.quoted }
-
--- the value of quoted characters, and of those after a `\`
-record ValuesAreTexts (xs : List ℕ) : Type 0 where
-  all : (v : List ℕ) → IsQuoted (encodes xs) v → IsUtf8 v
-  paired : (c : ℕ) (u w : List ℕ) → encodes xs ≡ c ∷ u → IsQuoted u w → IsUtf8 (c ∷ w)
-
-nothing_quoted : (v : List ℕ) → (t : List ℕ) → t ≡ [] → IsQuoted t v → v ≡ []
-nothing_quoted v t e done = refl
-nothing_quoted v t e (plain d u w h r) = cc
-nothing_quoted v t e (pair d u w h r) = cc
-
-low_values : (x : ℕ) (xs : List ℕ) → x < 128 → ValuesAreTexts xs → ValuesAreTexts (x ∷ xs)
-low_values x xs l i =
-    let e : encode x ++ encodes xs ≡ x ∷ encodes xs = ap (λ z. z ++ encodes xs) (low_encoded x l) in
-    record {
-      all = λ v q. whole v (subst (λ z. IsQuoted z v) e q);
-      paired = λ c u w same q.
-          let k : x ∷ encodes xs ≡ c ∷ u = sym e ∙ same in
-          let first : x ≡ c = cc in
-          let rest : u ≡ encodes xs = cc in
-          subst (λ z. IsUtf8 (z ∷ w)) first (delimited-utf8 x w l (i.all w (subst (λ z. IsQuoted z w) rest q)));
-    }
-  where
-    whole : (v : List ℕ) → IsQuoted (x ∷ encodes xs) v → IsUtf8 v
-    whole v q =
-        elim (x == 92) as (λ b. (x == 92) ≡ b → IsUtf8 v) [
-          | true ↦ λ e.
-              let same : x ≡ 92 = grind (arith, nat_tests) in
-              let f = first_pair (x ∷ encodes xs) v q (encodes xs) (ap (λ z. z ∷ encodes xs) same) in
-              rw f.whole (i.paired f.char f.text f.rest f.begins f.quoted)
-          | false ↦ λ e.
-              let f = first_plain (x ∷ encodes xs) v q x (encodes xs) refl e in
-              rw f.whole (delimited-utf8 x f.rest l (i.all f.rest f.quoted))
-        ] refl
-
-high_values : (x : ℕ) (xs : List ℕ) → 128 ≤ x → scalar x ≡ true → ValuesAreTexts xs → ValuesAreTexts (x ∷ xs)
-high_values x xs h s i = record {
-  all = λ v q.
-      let f = first_bytes (encode x) (encodes xs) v (high_lacks 92 x (omega arith) h) q in
-      rw f.whole (IsUtf8-append (encode x) f.value (IsUtf8-encode x s) (i.all f.value f.quoted));
-  paired = λ c u w same q. after (encode x) (high_lacks 92 x (omega arith) h) (IsUtf8-encode x s) same q;
-}
-  where
-    after : (m : List ℕ) → lacks 92 m ≡ true → IsUtf8 m → {c : ℕ} {u w : List ℕ} → m ++ encodes xs ≡ c ∷ u → IsQuoted u w → IsUtf8 (c ∷ w)
-    after [] n t {c} {u} {w} same q = i.paired c u w same q
-    after (b ∷ m) n t {c} {u} {w} same q =
-        let k = both (not (b == 92)) (lacks 92 m) n in
-        let first : b ≡ c = cc in
-        let rest : u ≡ m ++ encodes xs = cc in
-        let f = first_bytes m (encodes xs) w k.1 (subst (λ z. IsQuoted z w) rest q) in
-        rw f.whole (subst (λ z. IsUtf8 (z ∷ (m ++ f.value))) first (IsUtf8-append (b ∷ m) f.value t (i.all f.value f.quoted)))
-
-values_are_texts : (xs : List ℕ) → scalars xs ≡ true → ValuesAreTexts xs
-values_are_texts [] h = record {
-  all = λ v q. rw (nothing_quoted v [] refl q) IsUtf8-nil;
-  paired = λ c u w same q. cc;
-}
-values_are_texts (x ∷ xs) h =
-    let k = both (scalar x) (scalars xs) h in
-    let i = values_are_texts xs k.1 in
-    elim (cases_lt x 128) [ inl l ↦ low_values x xs l i | inr ge ↦ high_values x xs ge k.0 i ]
+    chunk : (o : Option (List ℕ)) → o ≡ after 92 t → unquoted t ≡ before 92 t ++ after_pair o
+    chunk o e = unquoted-chunk t ∙ ap (λ z. before 92 t ++ after_pair z) (sym e)
 
 pub value-utf8 : (t v : List ℕ) → IsUtf8 t → IsQuoted t v → IsUtf8 v
-value-utf8 t v u q = (values_are_texts u.0 u.1.0).all v (subst (λ z. IsQuoted z v) (sym u.1.1) q)
+value-utf8 t v u q = subst IsUtf8 (sym (quoted-value t v q)) (unquoted-utf8 (suc (length t)) t (omega arith) u)
 
 -- ---- the written form of a value
 pub escaped-append : (a b : List ℕ) → escaped (a ++ b) ≡ escaped a ++ escaped b
