@@ -1,5 +1,5 @@
 -- The base line.
-use Rattle.iri_cli.proofs.Common.{◌≡◌, ◌≢◌, ◌⊎◌, ℕ, ◌≤◌, List, [], ◌∷◌, ◌++◌, length, true, false, Option, None, Some, Ok, Err, refl, sym}
+use Rattle.iri_cli.proofs.Common.{◌≡◌, ◌≢◌, ◌⊎◌, ℕ, ◌≤◌, List, [], ◌∷◌, ◌++◌, length, Bool, cond, true, false, Option, None, Some, Ok, Err, refl, sym}
 use Rattle.iri_cli.proofs.Common.{◌∙◌, ap, subst, arith, inl, inr, ⊎_elim, append_assoc, append-nil, Rose, Consumes, IsAtEnd, Appends}
 use Rattle.iri_cli.proofs.Common.{KeepsRoom, SinkState, LineState, Advances, Source, FaultLineTooLong, FaultInputTooLong, Appends-none}
 use Rattle.iri_cli.proofs.Common.{room-same, Rules, Ending, Passed, unless_refused, first_passed, completed, completed_lines, stopped}
@@ -8,7 +8,7 @@ use Rattle.iri_cli.proofs.Common.{Decides, StopsShort, RanTo, Ran, End, BadBase}
 use Rattle.iri_text.specs.declared.streams.reader.LineFault.{LineFault}
 use Rattle.iri_cli.specs.run.Ending.{base_line}
 use Rattle.iri_cli.specs.run.Buffers.{IsNew}
-use Rattle.iri_cli.specs.inside.Steps.{end_at, GivesBase, ReadsBase}
+use Rattle.iri_cli.specs.inside.Steps.{end_at, GivesBase}
 use Rattle.iri_cli.specs.inside.Answering.{RefusesBase}
 use Rattle.iri_cli.specs.declared.run.end.End.TheVariants.{SinkFailed}
 use Rattle.iri_cli.proofs.Reading.{left_is, read_none, reads_line, reads_all, reads_some, reads_long, reads_over, goes_on}
@@ -37,9 +37,10 @@ module _ (rules : Rules) where
     before : HasRead rules lo lo old []
     before = read_none rules lo old is.held is.taken is.ended
 
-    -- The base line was given.
-    pub gives_line : (base : List ℕ) → Advances old new lo ln fo fn (Ok true) → base ≡ new.line → ReadsBase rules lo ln fo fn new base (Ok tt)
-    gives_line base a line_is = (
+    -- The first line was given, or there is none.
+    pub gives_base : (found : Bool) (base : List ℕ) → Advances old new lo ln fo fn (Ok found) → base ≡ cond found new.line []
+        → GivesBase rules lo ln new base × (length base ≤ rules.line_limit) × (fo ≤ fn)
+    gives_base true base a line_is = (
       inl (
         subst (λ (l : List ℕ). HasRead rules lo ln new (l ∷ [])) (sym line_is)
             (reads_line rules lo lo ln fo fn old new [] (new_going old is) before a),
@@ -48,19 +49,16 @@ module _ (rules : Rules) where
       omega (arith, ap length line_is, is.line_limit, line_short lo ln fo fn old new a),
       a.later,
     )
-
-    -- There is no line.
-    pub gives_none : (base : List ℕ) → Advances old new lo ln fo fn (Ok false) → base ≡ [] → ReadsBase rules lo ln fo fn new base (Ok tt)
-    gives_none base a none = (
+    gives_base false base a none = (
       inr (reads_all rules lo lo ln fo fn old new [] (new_going old is) before a, none),
       omega (arith, ap length none),
       a.later,
     )
 
     -- The reader answered a fault.
-    pub gives_fault : (base : List ℕ) (fault : LineFault) → Advances old new lo ln fo fn (Err fault)
-        → ReadsBase rules lo ln fo fn new base (Err fault)
-    gives_fault base fault a sink = ran_by [] (by_fault fault a) (λ x known. (_, refl)) (whole_prefix (Appends-none sink.written))
+    pub gives_fault : (fault : LineFault) → Advances old new lo ln fo fn (Err fault)
+        → (sink : SinkState) → Ran rules (outside lo fo sink) (outside ln fn sink) (end_at fault)
+    gives_fault fault a sink = ran_by [] (by_fault fault a) (λ x known. (_, refl)) (whole_prefix (Appends-none sink.written))
         (room-same sink.room_left [] (λ _. not_sink fault)) a.later (omega arith)
       where
         decided : (status : ℕ) → ReadsPast rules status lo ln [] → Decides rules status (outside lo fo sink) (outside ln fn sink)

@@ -1,14 +1,12 @@
 -- The answers of `canon`.
 use Rattle.iri_cli.proofs.Common.{◌≡◌, ◌≢◌, ℕ, ◌+◌, ◌≤◌, Bool, true, false, List, [], length, None, Result, Ok, Err, refl, sym, ap, subst, arith}
 use Rattle.iri_cli.proofs.Common.{◌∙◌, Tests, IsSpec, bytes_fault, reference_fault, PutsAll, KeepsRoom, SinkState, room-so, Failed}
-use Rattle.iri_cli.proofs.Common.{CanonMode, canonical_in, longest_line, answer_room, refusal, answer_in, Answering, AnswersLine}
-use Rattle.iri_cli.proofs.Common.{PutsAnswer, canon_rules_in, is_ok, AnswerError, SinkFailed, Rules, begun, OnOk}
+use Rattle.iri_cli.proofs.Common.{CanonMode, canonical_in, refusal, answer_in, Answering, AnswersLine}
+use Rattle.iri_cli.proofs.Common.{PutsAnswer, is_ok, AnswerError, SinkFailed, Rules, OnOk}
 use Rattle.iri_normal.proofs.normal_forms.Lengths.{length-canonical_in}
 use Rattle.iri_cli.specs.inside.Puts.{said_good, IsCanonAt}
 use Rattle.iri_cli.specs.inside.SinkTexts.{puts_nothing}
 use Rattle.iri_cli.specs.declared.run.answers.AnswerError.TheVariants.{Memory}
-use Rattle.iri_cli.specs.canon.Prepared.{prepared}
-use Rattle.iri_cli.proofs.PreparedLaws.{same_answer, prepared_taken}
 use Rattle.iri_cli.proofs.BytesLemmas.{base_absolute, line_reference}
 
 -- a command that writes nothing after all answers
@@ -51,22 +49,6 @@ has_room s m base line text output l taken none is room =
     let e : length (canonical_in s m base text) ≡ length (canonical_in s m base line) = ap (λ (t : List ℕ). length (canonical_in s m base t)) is in
     omega (arith, h, e, room)
 
--- `canon` stands after a base line that it prepared
-pub canon_opened : (s : Tests) (m : CanonMode) (line text : List ℕ) (output : ℕ) → IsSpec s → text ≡ prepared s line
-    → refusal s line ≡ None → length text ≤ longest_line → answer_room ≤ output
-    → (refusal s text ≡ None) × IsCanonAt s m text output (begun (canon_rules_in s m) line)
-canon_opened s m line text output k is taken short room =
-    let same : refusal s text ≡ None = ap (refusal s) is ∙ prepared_taken s line k taken in (
-      same,
-      record {
-        rules = refl;
-        same = λ r. ap (λ (t : List ℕ). answer_in s m t r) is ∙ same_answer s m line r k taken;
-        taken = same;
-        short = short;
-        room = room;
-      },
-    )
-
 -- an answer by a test that says the same of it, where memory is wanted as far as allocation failed
 pub puts_answer : (is_good other : List ℕ → Bool) (ko kn : SinkState) (r : Result Bool AnswerError) (wants needs : Bool) (text : List ℕ)
     → is_good text ≡ other text → (r ≡ Err Memory → wants ≡ true → needs ≡ true)
@@ -86,13 +68,13 @@ pub answers_line : (s : Tests) (m : CanonMode) (base line : List ℕ) (output ne
     → AnswersLine (IsCanonAt s m base new) at line ko kn r
 answers_line s m base line output new at ko kn r is grows p room =
     let e : answer_in s m base line ≡ at.rules.answer at.base at.between line =
-    is.same line ∙ ap (λ (rules : Rules). rules.answer at.base at.between line) (sym is.rules) in
+    is.alike.answer at.between line ∙ ap (λ (rules : Rules). rules.answer at.base at.between line) (sym is.rules) in
     record {
       puts =
           let text = at.rules.answer at.base at.between line in
           puts_answer is_ok at.rules.is_good ko kn r false (at.rules.wants_memory at.base at.between line) text
           (ap (λ (rules : Rules). rules.is_good text) (sym is.rules)) (λ _ h. absurd (cc h))
           (subst (λ t. PutsAnswer is_ok ko kn false t r) e p);
-      next = on_ok r (record { rules = is.rules; same = is.same; taken = is.taken; short = is.short; room = omega (arith, grows, is.room) });
+      next = on_ok r (record { rules = is.rules; alike = is.alike; taken = is.taken; short = is.short; room = omega (arith, grows, is.room) });
       room = subst (λ t. KeepsRoom ko.room_left kn.room_left t (r ≢ Err SinkFailed)) e room;
     }

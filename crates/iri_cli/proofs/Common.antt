@@ -68,7 +68,7 @@ pub use Rattle.iri_cli.specs.robots.Rules.{robots_rules}
 pub use Rattle.iri_cli.specs.inside.Answering.{Answering, AnswersLine, PutsAnswer, IsReady}
 pub use Rattle.iri_cli.specs.run.Ending.{Rules, Ending, answers, answered, IsBaseTaken, ending, Passed, unless_refused, first_passed}
 pub use Rattle.iri_cli.specs.run.Ending.{completed, completed_lines, stopped, ending_by, passed_from}
-pub use Rattle.iri_cli.specs.run.Limits.{longest_line, answer_room}
+pub use Rattle.iri_cli.specs.run.Limits.{longest_line}
 pub use Rattle.iri_cli.specs.inside.Read.{HasRead, ReadsAll, ReadsSome, ReadsPast, IsGoing, IsOpen}
 pub use Rattle.iri_cli.specs.run.Run.{outside, Finishes, Decides, StopsShort, RanTo, Ran, Outside, status_of, RunsLines, outside_state}
 pub use Rattle.iri_cli.specs.run.Words.{tests_of, rules_of}

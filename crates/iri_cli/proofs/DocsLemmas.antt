@@ -30,7 +30,7 @@ pub answers_docs : {s : Tests} {base expansion after : List ℕ} {output grown :
 answers_docs {r = r} is same grows a = record {
   puts = a.puts;
   next = on_ok r (record {
-    stands = record { rules = is.stands.rules; base_is = is.stands.base_is };
+    stands = record { rules = is.stands.rules; alike = is.stands.alike };
     taken = is.taken;
     short = is.short;
     expansion_room = same ∙ is.expansion_room;

@@ -92,7 +92,7 @@ module _ (s : Tests) (base expansion : List ℕ) (output : ℕ) (values : Values
   answer_is : at.rules.answer at.base at.between line ≡ answer_to s base values said
   answer_is =
       ap (λ (r : Rules). r.answer at.base at.between line) is.rules
-      ∙ ap (λ b. answer_to s b (values_after at.between) (line_of line)) is.base_is
+      ∙ sym (is.alike.answer at.between line)
       ∙ ap (λ v. answer_to s base v (line_of line)) (sym is.values_are)
       ∙ ap (answer_to s base values) reads
 
@@ -101,7 +101,7 @@ module _ (s : Tests) (base expansion : List ℕ) (output : ℕ) (values : Values
       → IsExpandAt s base expansion_new output_new new (record at { between = at.between ++ line ∷ [] })
   next_at expansion_new output_new new expansion_size output_grows after = record {
     rules = is.rules;
-    base_is = is.base_is;
+    alike = is.alike;
     values_are = after ∙ ap (λ v. after_line v said) is.values_are ∙ ap (after_line (values_after at.between)) (sym reads)
         ∙ sym (values-more _ at.between line);
     taken = is.taken;

@@ -23,4 +23,5 @@ pub mod RegisterLemmas
 pub mod SharedEntries
 pub mod RegisterLaws
 pub mod RobotsLemmas
+pub mod AlikeLaws
 pub mod ToolLaws

@@ -1,13 +1,14 @@
 -- How a run begins.
-use Rattle.iri_cli.proofs.Common.{◌≡◌, ℕ, ◌≤◌, List, [], ◌∷◌, true, Option, None, refl, ◌∙◌, ap, subst, arith, ⊎_elim, Tests, bytes_fault}
+use Rattle.iri_cli.proofs.Common.{◌≡◌, ℕ, ◌≤◌, Bool, cond, List, [], ◌∷◌, length, true, Option, None, Ok, refl, ◌∙◌, ap, subst, arith, ⊎_elim, Tests, bytes_fault}
 use Rattle.iri_cli.proofs.Common.{absolute_fault, LineState, Appends-none, room-same, SinkState, refusal, Answering, IsReady, Rules, begun}
-use Rattle.iri_cli.proofs.Common.{HasRead, IsGoing, outside, Ran, Memory}
+use Rattle.iri_cli.proofs.Common.{HasRead, IsGoing, outside, Ran, Memory, Advances, longest_line}
 use Rattle.iri_normal.proofs.canonical_texts.CanonicalTexts.{fault_none}
 use Rattle.iri_cli.specs.run.Buffers.{AreBuffers, IsNew}
 use Rattle.iri_cli.specs.inside.Opening.{BeginsAsCanon}
 use Rattle.iri_cli.specs.inside.Steps.{GivesBase}
 use Rattle.iri_cli.proofs.BytesLemmas.{refused_none}
 use Rattle.iri_cli.proofs.Answered.{whole_prefix}
+use Rattle.iri_cli.proofs.BaseLine.{gives_base}
 use Rattle.iri_cli.proofs.Ends.{first_lines, ran_by}
 
 -- the empty text is no base
@@ -20,6 +21,15 @@ module _ (s : Tests) (rules : Rules) (begins : BeginsAsCanon s rules) where
   -- the buffers have a new reader
   pub new_reader : (reader : LineState) (base output : ℕ) → AreBuffers reader base output → IsNew rules.line_limit rules.input_limit reader
   new_reader reader base output b = rw (begins.line_limit, begins.input_limit) b.new
+
+  -- the first line was read, or there is none
+  pub first_read : (old new : LineState) (base output : ℕ) (lo lm : Option (List ℕ)) (fo fn : ℕ) (found : Bool) (line : List ℕ)
+      → AreBuffers old base output → Advances old new lo lm fo fn (Ok found) → line ≡ cond found new.line []
+      → GivesBase rules lo lm new line × (length line ≤ longest_line) × (fo ≤ fn)
+  first_read old new base output lo lm fo fn found line b a is =
+      let n = gives_base rules lo lm fo fn old new (new_reader old base output b) found line a is in
+      let limit : rules.line_limit ≡ longest_line = begins.line_limit in
+      (n.0, omega (arith, n.1, limit), n.2)
 
   module _ (line : List ℕ) where
     pub refusal_is : rules.refusal line ≡ refusal s line

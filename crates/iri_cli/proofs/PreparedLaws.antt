@@ -25,7 +25,7 @@ use Rattle.iri_normal.proofs.normal_forms.PartsFit.{form-fits, scheme-stable, au
 use Rattle.iri_normal.specs.Prefix.{prefix_in}
 use Rattle.iri_normal.proofs.normal_forms.Lengths.{length-parts, length-scheme, length-authorities}
 use Rattle.iri_normal.proofs.normal_forms.Paths.{stands-still as same_there}
-use Rattle.iri_cli.specs.canon.Prepared.{prepared_path, prepared_parts, prepared}
+use Rattle.iri_cli.specs.run.Prepared.{prepared_path, prepared_parts, prepared}
 use Rattle.iri_cli.proofs.PreparedPaths.{IsRooted, rooted_beside, whole_dots, same_empty, merged_dots, path_over, rules_kept, path_short}
 use Rattle.iri_cli.proofs.BytesLemmas.{base_absolute}
 

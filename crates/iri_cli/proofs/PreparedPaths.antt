@@ -21,7 +21,7 @@ use Rattle.iri_normal.proofs.segments.Slashes.{at_last_slash, ends, none_prefix}
 use Rattle.iri_normal.proofs.removal.Stability.{guarded_stable, no_dots_same}
 use Rattle.iri_normal.proofs.targets.Targets.{cut_over}
 use Rattle.iri_normal.proofs.removal.Buffers.{written-dots, written-ends, written-two}
-use Rattle.iri_cli.specs.canon.Prepared.{prepared_path}
+use Rattle.iri_cli.specs.run.Prepared.{prepared_path}
 use Rattle.iri_normal.proofs.removal.RfcSteps.{some_byte}
 
 -- ---- the directory: what stands before the last segment

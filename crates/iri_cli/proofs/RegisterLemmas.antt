@@ -17,6 +17,7 @@ use Rattle.iri_register.proofs.CommandLemmas.{obeyed_from}
 use Rattle.iri_cli.specs.register.Answers.{answer_to, entry_line}
 use Rattle.iri_cli.specs.run.Refused.{is_not_bad}
 use Rattle.iri_cli.specs.register.Rules.{register_rules}
+use Rattle.iri_cli.specs.run.Prepared.{IsAlike}
 use Rattle.iri_cli.specs.inside.RegisterAt.{IsRegisterAt}
 use Rattle.iri_cli.specs.inside.Replies.{obeyed_by}
 use Rattle.iri_cli.proofs.CanonLemmas.{line_room}
@@ -141,8 +142,7 @@ on_told good (Err f) h = tt
 answer_is : (s : Tests) (against : List ℕ) (kept : Kept) (answered : ℕ) (at : Answering) (line text : List ℕ) → IsRegisterAt s against kept answered at
     → text ≡ answer_to s kept.base kept.entries (line_of line) → text ≡ at.rules.answer at.base at.between line
 answer_is s against kept answered at line text is e =
-    e ∙ ap (λ b. answer_to s b kept.entries (line_of line)) is.base_is
-    ∙ ap (λ es. answer_to s at.base es (line_of line)) is.entries_are
+    e ∙ ap (λ es. answer_to s kept.base es (line_of line)) is.entries_are ∙ is.alike.answer at.between line
     ∙ ap (λ (rules : Rules). rules.answer at.base at.between line) (sym is.rules)
 
 next_at : (s : Tests) (against : List ℕ) (kept new : Kept) (answered count : ℕ) (at : Answering) (line : List ℕ) → IsRegisterAt s against kept answered at
@@ -152,13 +152,12 @@ next_at : (s : Tests) (against : List ℕ) (kept new : Kept) (answered count : �
 next_at s against kept new answered count at line is counted base entries = record {
   rules = is.rules;
   own = is.own ∙ sym base;
-  base_is = base ∙ is.base_is;
+  alike = subst (λ b. IsAlike (register_rules s) b at.base) (sym base) is.alike;
   entries_are =
       let number : answered + 2 ≡ 2 + length at.between = omega (arith, is.counted) in
-      entries ∙ ap (λ b. obeyed_by kept.entries (command_of s b (answered + 2) (line_of line))) is.base_is
-      ∙ ap (λ es. obeyed_by es (command_of s at.base (answered + 2) (line_of line))) is.entries_are
-      ∙ ap (λ n. obeyed_by (entries_after s at.base at.between) (command_of s at.base n (line_of line))) number
-      ∙ sym (entries_more s at.base at.between line);
+      entries ∙ ap (λ es. obeyed_by es (command_of s kept.base (answered + 2) (line_of line))) is.entries_are
+      ∙ ap (λ n. obeyed_by (entries_after s kept.base at.between) (command_of s kept.base n (line_of line))) number
+      ∙ sym (entries_more s kept.base at.between line) ∙ ap (λ b. entries_after s b (at.between ++ line ∷ [])) (sym base);
   counted = let size = length-append at.between (line ∷ []) in omega (arith, counted, is.counted, size);
 }
 
@@ -178,8 +177,13 @@ answers_line s against kept new answered count at line text ko kn good r is coun
       room = subst (λ t. KeepsRoom ko.room_left kn.room_left t (said_good good r ≢ Err SinkFailed)) e (line_room good r text p);
     }
 
--- an empty register stands after a base line
-pub register_opened : (s : Tests) (kept : Kept) (line : List ℕ) → kept.base ≡ line → kept.entries ≡ []
-    → IsRegisterAt s line kept 0 (begun (register_rules s) line)
-register_opened s kept line own none =
-    record { rules = refl; own = sym own; base_is = own; entries_are = none ∙ sym (entries_none s line); counted = refl }
+-- an empty register stands after a base line, with a base that has its answers
+pub register_opened : (s : Tests) (kept : Kept) (line text : List ℕ) → IsAlike (register_rules s) text line → kept.base ≡ text → kept.entries ≡ []
+    → IsRegisterAt s text kept 0 (begun (register_rules s) line)
+register_opened s kept line text alike own none = record {
+  rules = refl;
+  own = sym own;
+  alike = subst (λ b. IsAlike (register_rules s) b line) (sym own) alike;
+  entries_are = none ∙ sym (entries_none s kept.base);
+  counted = refl;
+}

@@ -66,7 +66,7 @@ on_next : {s : Tests} {token base : List ℕ} {scheme authority : Option (List �
     → OnOk r (IsRobotsAt s token base scheme authority new (record at { between = at.between ++ line ∷ [] }))
 on_next {at = at} new line (Ok good) is e = record {
   rules = is.rules;
-  base_is = is.base_is;
+  alike = is.alike;
   site_is = is.site_is;
   records_are = e ∙ ap (λ t. t ++ fed (line_of line)) is.records_are ∙ sym (records_more at.between line);
 }
@@ -79,8 +79,7 @@ pub answers_line : (s : Tests) (token base : List ℕ) (scheme authority : Optio
     → AnswersLine (IsRobotsAt s token base scheme authority new) at line ko kn r
 answers_line s token base scheme authority records new at line text ko kn r is answer e wants p =
     let whole : text ≡ at.rules.answer at.base at.between line =
-    answer ∙ ap (λ b. answer_to s token b records (line_of line)) is.base_is
-    ∙ ap (λ rs. answer_to s token at.base rs (line_of line)) is.records_are
+    answer ∙ ap (λ rs. answer_to s token base rs (line_of line)) is.records_are ∙ is.alike.answer at.between line
     ∙ ap (λ (rules : Rules). rules.answer at.base at.between line) (sym is.rules) in
     let takes = at.rules.wants_memory at.base at.between line in
     record {

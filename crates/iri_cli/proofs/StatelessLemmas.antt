@@ -8,10 +8,10 @@ use Rattle.iri_cli.proofs.PutLemmas.{room_text}
 module _ (answer : Tests → List ℕ → List ℕ → List ℕ) (takes_memory : Tests → List ℕ → Bool) (s : Tests) where
   module _ (base : List ℕ) (at : Answering) (is : IsStatelessAt answer takes_memory s base at) (line : List ℕ) where
     answer_is : answer s base line ≡ at.rules.answer at.base at.between line
-    answer_is = ap (λ b. answer s b line) is.base_is ∙ ap (λ (r : Rules). r.answer at.base at.between line) (sym is.rules)
+    answer_is = is.alike.answer at.between line ∙ ap (λ (r : Rules). r.answer at.base at.between line) (sym is.rules)
 
     next_at : IsStatelessAt answer takes_memory s base (record at { between = at.between ++ line ∷ [] })
-    next_at = record { rules = is.rules; base_is = is.base_is }
+    next_at = record { rules = is.rules; alike = is.alike }
 
     -- the answer was put
     pub answers_text : (ko kn : SinkState) (r : Result Bool AnswerError) (text : List ℕ)

@@ -5,3 +5,4 @@ pub mod Words
 pub mod Run
 pub mod Buffers
 pub mod Refused
+pub mod Prepared

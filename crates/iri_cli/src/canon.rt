@@ -1,10 +1,9 @@
 // The answers of `canon`.
-ghost use Rattle.std.specs.Prelude.{◌≡◌, ◌≢◌, ◌≤◌, ◌+◌, [], ◌∷◌, ◌++◌, false, None, Some, Err, codes, length, MatchResult};
+ghost use Rattle.std.specs.Prelude.{◌≡◌, ◌≢◌, ◌≤◌, ◌+◌, [], ◌∷◌, ◌++◌, false, None, Err, codes, length};
 ghost use Rattle.std.specs.Vec.{vec_capacity};
 ghost use Rattle.iri_text.specs.Sink.{PutsAll, KeepsRoom, sink_state};
 ghost use Rattle.iri_text.specs.SliceText.{slice_taken};
 ghost use Rattle.iri_types.specs.SplitText.{split_text};
-ghost use Rattle.iri_types.specs.Texts.{text};
 ghost use Rattle.iri_normal.specs.NormalForm.{canonical_in};
 ghost use Rattle.iri_normal.specs.Resolver.{base_text};
 ghost use Rattle.iri_cli.specs.canon.Answers.{refusal};
@@ -15,10 +14,8 @@ ghost use Rattle.iri_cli.specs.declared.run.answers.AnswerError.TheVariants.{Sin
 ghost use Rattle.iri_text.specs.LineEnds.{line_feed};
 
 pub(crate) mod calls;
-pub(crate) mod prepared;
 
-use crate::canon::prepared::prepare_base;
-use crate::run::answers::{AnswerError, Answers, BaseError};
+use crate::run::answers::{AnswerError, Answers};
 use crate::run::buffers::room_for;
 use crate::run::puts::{put_bad, put_good_text, say_good};
 use iri_grammar::spec::Spec;
@@ -28,31 +25,7 @@ use iri_normal::resolver::FixedBaseResolver;
 use iri_text::{Failed, Sink, SliceSink, TextSink};
 use iri_types::kind::Reference;
 use iri_types::split::SplitView;
-use iri_types::view::RiAbsoluteStr;
-
-/// The base of a base line, or in words why it is refused.
-#[tactic(auto, unfolding(crate::specs::canon::Answers::refusal))]
-pub fn base_of<S: Spec>(line: &[u8]) -> Result<RiAbsoluteStr<'_, S>, &'static str>
-    ensures { MatchResult result
-        (λ base. (text base ≡ line.now) × (refusal S.tests line.now ≡ None))
-        (λ words. refusal S.tests line.now ≡ Some words.now) }
-{
-    match RiAbsoluteStr::<S>::try_from_bytes(line) {
-        Ok(base) => Ok(base),
-        Err(error) => Err(error.kind().description()),
-    }
-}
-
-/// The resolver of a base line that is taken.
-pub fn resolver_of<S: Spec>(line: &[u8]) -> FixedBaseResolver<'_, S>
-    requires { refusal S.tests line.now ≡ None }
-    ensures { base_text result ≡ line.now }
-{
-    match base_of::<S>(line) {
-        Ok(base) => FixedBaseResolver::new(base),
-        Err(_) => unreachable!(),
-    }
-}
+use std::alloc::AllocError;
 
 // The canonical text of an accepted reference by the rules of a mode, and an LF, in a buffer with room for them.
 fn fill<'a, S: Spec>(
@@ -140,11 +113,12 @@ impl<S: Spec> Answers<S> for Canon {
 
     ghost stands_at = { λ c base at. IsCanonAt S.tests c.mode base (vec_capacity c.output) at };
 
-    fn open(mode: CanonMode, base: &mut Vec<u8>, mut output: Vec<u8>) -> Result<Self, BaseError> {
-        match prepare_base::<S>(base, &mut output) {
-            Ok(()) => Ok(Canon { mode, output }),
-            Err(words) => Err(BaseError::Refused(words)),
-        }
+    fn open(
+        mode: CanonMode,
+        _resolver: &FixedBaseResolver<'_, S>,
+        output: Vec<u8>,
+    ) -> Result<Self, AllocError> {
+        Ok(Canon { mode, output })
     }
 
     fn answer<O: Sink>(

@@ -4,15 +4,16 @@ ghost use Rattle.iri_docs.specs.ErrorTexts.{description};
 ghost use Rattle.iri_text.specs.LineEnds.{line_feed};
 ghost use Rattle.iri_text.specs.Sink.{PutsAll, sink_state};
 
-use crate::expand::{expansion_buffer, put_template};
-use crate::run::answers::{AnswerError, Answers, BaseError};
+use crate::expand::put_template;
+use crate::run::answers::{AnswerError, Answers};
 use crate::run::puts::say_good;
 use iri_docs::doc_error::DocError;
+use iri_docs::expand::EXPANSION_LIMIT;
 use iri_docs::read::read_document;
 use iri_grammar::spec::Spec;
 use iri_normal::resolver::FixedBaseResolver;
 use iri_text::{Failed, Sink};
-use std::alloc::Global;
+use std::alloc::{AllocError, Global};
 
 // Why a line is no document, and an LF.
 fn put_refusal<O: Sink>(sink: &mut O, error: DocError) -> Result<(), Failed>
@@ -46,15 +47,16 @@ impl<S: Spec> Answers<S> for Docs {
     ghost stands_at = { λ d base at. IsDocsAt S.tests base d.expansion.items
         (vec_capacity d.output) at };
 
-    fn open(alloc: Global, base: &mut Vec<u8>, output: Vec<u8>) -> Result<Self, BaseError> {
-        match expansion_buffer::<S>(alloc, base) {
-            Ok(expansion) => Ok(Docs {
-                alloc,
-                expansion,
-                output,
-            }),
-            Err(error) => Err(error),
-        }
+    fn open(
+        alloc: Global,
+        _resolver: &FixedBaseResolver<'_, S>,
+        output: Vec<u8>,
+    ) -> Result<Self, AllocError> {
+        Ok(Docs {
+            alloc,
+            expansion: vec![in alloc; 0; EXPANSION_LIMIT]?,
+            output,
+        })
     }
 
     fn answer<O: Sink>(

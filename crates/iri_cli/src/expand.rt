@@ -1,5 +1,5 @@
 // The answers of `expand`.
-ghost use Rattle.std.specs.Prelude.{◌≡◌, ◌≢◌, ◌≤◌, ◌++◌, ◌∷◌, [], codes, decimal, false, length, Err, None, MatchResult};
+ghost use Rattle.std.specs.Prelude.{◌≡◌, ◌≢◌, ◌≤◌, ◌++◌, ◌∷◌, [], codes, decimal, false, length, Err, None};
 ghost use Rattle.std.specs.Vec.{vec_capacity};
 ghost use Rattle.iri_template.specs.Contexts.{value_in};
 ghost use Rattle.iri_template.specs.ExpandedTexts.{expanded_text};
@@ -9,7 +9,6 @@ ghost use Rattle.iri_cli.specs.run.Limits.{longest_line, answer_room};
 ghost use Rattle.iri_cli.specs.canon.Answers.{refusal};
 ghost use Rattle.iri_cli.specs.canon.Rules.{is_ok};
 ghost use Rattle.iri_cli.specs.inside.Answering.{PutsAnswer};
-ghost use Rattle.iri_cli.specs.inside.Opening.{RefusesLine};
 ghost use Rattle.iri_cli.specs.expand.Answers.{expansion_answer, template_answer};
 ghost use Rattle.iri_docs.specs.Expanded.{expansion_limit, within_limit};
 ghost use Rattle.iri_template.specs.ErrorTexts.{description};
@@ -19,10 +18,10 @@ ghost use Rattle.iri_cli.specs.declared.run.answers.AnswerError.TheVariants.{Sin
 pub(crate) mod line;
 pub(crate) mod variables;
 
-use crate::canon::{base_of, put_answer};
+use crate::canon::put_answer;
 use crate::expand::line::{Said, line_of};
 use crate::expand::variables::apply;
-use crate::run::answers::{AnswerError, Answers, BaseError};
+use crate::run::answers::{AnswerError, Answers};
 use crate::run::puts::{put_bad_line, put_number, say_good};
 use iri_docs::expand::EXPANSION_LIMIT;
 use iri_grammar::spec::Spec;
@@ -32,7 +31,7 @@ use iri_template::error::Error;
 use iri_template::expanded::Expanded;
 use iri_template::simple_context::SimpleContext;
 use iri_text::{CapacityOverflowError, Failed, Sink, write_to_slice};
-use std::alloc::Global;
+use std::alloc::{AllocError, Global};
 
 // Why a template isn't expanded, and an LF.
 fn put_refusal<O: Sink>(sink: &mut O, error: Error) -> Result<(), Failed>
@@ -108,18 +107,6 @@ pub(crate) fn put_template<'a, S: Spec, O: Sink>(
     }
 }
 
-// A buffer for each expansion, where a line is a base.
-pub(crate) fn expansion_buffer<S: Spec>(alloc: Global, line: &[u8]) -> Result<Vec<u8>, BaseError>
-    ensures { MatchResult result
-        (λ buffer. (length buffer.items ≡ expansion_limit) × (refusal S.tests line.now ≡ None))
-        (RefusesLine S.tests line.now) }
-{
-    match base_of::<S>(line) {
-        Ok(_) => vec![in alloc; 0; EXPANSION_LIMIT].map_err(|_| BaseError::Memory),
-        Err(words) => Err(BaseError::Refused(words)),
-    }
-}
-
 /// Keeps the values of variables, and answers each template by the canonical text of its expansion against a base.
 #[derive(Drop)]
 pub struct Expand {
@@ -145,16 +132,17 @@ impl<S: Spec> Answers<S> for Expand {
     ghost stands_at = { λ e base at. IsExpandAt S.tests base e.expansion.items
         (vec_capacity e.output) (value_in e.values) at };
 
-    fn open(alloc: Global, base: &mut Vec<u8>, output: Vec<u8>) -> Result<Self, BaseError> {
-        match expansion_buffer::<S>(alloc, base) {
-            Ok(expansion) => Ok(Expand {
-                alloc,
-                values: SimpleContext::new(alloc),
-                expansion,
-                output,
-            }),
-            Err(error) => Err(error),
-        }
+    fn open(
+        alloc: Global,
+        _resolver: &FixedBaseResolver<'_, S>,
+        output: Vec<u8>,
+    ) -> Result<Self, AllocError> {
+        Ok(Expand {
+            alloc,
+            values: SimpleContext::new(alloc),
+            expansion: vec![in alloc; 0; EXPANSION_LIMIT]?,
+            output,
+        })
     }
 
     fn answer<O: Sink>(

@@ -10,9 +10,9 @@ ghost use Rattle.iri_cli.specs.run.Words.{tests_of};
 ghost use Rattle.iri_cli.specs.generator.References.{gen_segment, more_segments, gen_reference, gen_base, gen_text, gen_total};
 ghost use Rattle.iri_cli.specs.generator.References.{most_references};
 
-use crate::canon::resolver_of;
 use crate::help::put_text;
 use crate::run::MEMORY;
+use crate::run::base::base_of;
 use crate::run::words::Grammar;
 use iri_grammar::spec::{IriSpec, Spec, UriSpec};
 use iri_normal::resolver::FixedBaseResolver;
@@ -147,7 +147,10 @@ fn totals_of<S: Spec>(
 fn base_resolver<S: Spec>() -> FixedBaseResolver<'static, S>
     ensures { base_text result ≡ gen_base }
 {
-    resolver_of::<S>(BASE.as_bytes())
+    match base_of::<S>(BASE.as_bytes()) {
+        Ok(base) => FixedBaseResolver::new(base),
+        Err(_) => unreachable!(),
+    }
 }
 
 // The three lines with the totals of the canonical texts of so many references.

@@ -6,7 +6,9 @@ ghost use Rattle.iri_grammar.specs.WholeFault.{reference_fault};
 ghost use Rattle.iri_normal.specs.NormalForm.{canonical_in};
 ghost use Rattle.iri_cli.specs.canon.Answers.{refusal};
 ghost use Rattle.iri_normal.specs.Answers.{answer_in};
-ghost use Rattle.iri_cli.specs.canon.Prepared.{prepared};
+ghost use Rattle.iri_cli.specs.run.Prepared.{prepared, IsAlike};
+ghost use Rattle.iri_cli.specs.run.Words.{rules_of};
+ghost use Rattle.iri_cli.specs.declared.run.words.LineCommand.{LineCommand};
 ghost use Rattle.iri_cli.specs.generator.References.{gen_base, gen_reference};
 ghost use Rattle.iri_cli.specs.links.FieldValues.{AnswersAreLinks};
 ghost use Rattle.iri_cli.specs.register.Shared.{LiveLinesShareEntries};
@@ -34,7 +36,8 @@ pub fn run_over_memory()
 
 /// A base whose scheme and authority are put into normal form, and whose path loses the dot
 /// segments before its last segment, is an absolute URI again, is no longer than before, and has
-/// the same canonical texts in every mode. So each line has the same answer against it.
+/// the same canonical texts in every mode. So each line has the same answer against it, of every
+/// command.
 pub fn prepared_base_has_the_same_answers<S: Spec>()
     ensures valid { (base : List ℕ) → IsAbsolute S.tests base
         → IsAbsolute S.tests (prepared S.tests base) }
@@ -45,6 +48,8 @@ pub fn prepared_base_has_the_same_answers<S: Spec>()
         ≡ canonical_in S.tests mode base reference }
     ensures answers { (mode : CanonMode) (base line : List ℕ) → refusal S.tests base ≡ None
         → answer_in S.tests mode (prepared S.tests base) line ≡ answer_in S.tests mode base line }
+    ensures commands { (command : LineCommand) (base : List ℕ) → refusal S.tests base ≡ None
+        → IsAlike (rules_of command S.tests) (prepared S.tests base) base }
 {}
 
 /// Two live lines of `register`, which add links that no line after them takes out, share an entry

@@ -4,13 +4,14 @@
 //!   status.
 //! - [`run_to_writer`](run::to_writer::run_to_writer) does the same over a writer of std, as the program
 //!   calls it, and leaves nothing pending there.
+//! - For every command the base is prepared once in its buffer, for all lines: its scheme and authority are put into normal form, and its
+//!   path loses the dot segments before its last segment.
 //! - [`CanonBuffers`](CanonBuffers) is the memory that every command over lines takes before it reads,
 //!   and all that `canon` needs: [`canon_lines`](canon_lines) answers the lines of a source with it,
 //!   each reference line by its canonical text against the base line (RFC 3986 section 5 and section
 //!   6.2.2; RFC 3987). [`canon_lines_in`](canon_lines_in) does the same by the rules of a mode, which
 //!   the word `scheme` names in the commands `canon uri scheme` and `canon iri scheme` (section
-//!   6.2.3). The base is prepared once for all its references in its buffer: its scheme and authority
-//!   are put into normal form, and its path loses the dot segments before its last segment.
+//!   6.2.3).
 //! - `expand` keeps the values that lines give variables, and answers each URI template by the
 //!   canonical text of its expansion (RFC 6570) against the base line.
 //! - `register` keeps each canonical link once, with the numbers of its lines, and writes them at

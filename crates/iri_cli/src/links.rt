@@ -6,15 +6,14 @@ ghost use Rattle.iri_link.specs.Readings.{links_in};
 ghost use Rattle.iri_normal.specs.Resolver.{base_text};
 ghost use Rattle.iri_cli.specs.links.Answers.{field_refusal, links_line, links_text};
 
-use crate::canon::base_of;
-use crate::run::answers::{AnswerError, Answers, BaseError};
+use crate::run::answers::{AnswerError, Answers};
 use crate::run::puts::{put_bad, say_good};
 use crate::run::sink_text::SinkText;
 use iri_grammar::spec::Spec;
 use iri_link::{LinkError, LinkKind, check_field, show_links_against};
 use iri_normal::resolver::FixedBaseResolver;
 use iri_text::{Failed, Sink, write_to_slice};
-use std::alloc::Global;
+use std::alloc::{AllocError, Global};
 
 // Puts the answer to a line that has a fault. It takes no memory.
 fn put_fault<O: Sink>(sink: &mut O, kind: LinkKind, place: usize) -> Result<(), Failed>
@@ -82,11 +81,12 @@ impl<S: Spec> Answers<S> for Links {
 
     ghost stands_at = { λ l base at. IsStatelessAt links_answer takes_memory S.tests base at };
 
-    fn open(_alloc: Global, base: &mut Vec<u8>, _output: Vec<u8>) -> Result<Self, BaseError> {
-        match base_of::<S>(base) {
-            Ok(_) => Ok(Links),
-            Err(words) => Err(BaseError::Refused(words)),
-        }
+    fn open(
+        _alloc: Global,
+        _resolver: &FixedBaseResolver<'_, S>,
+        _output: Vec<u8>,
+    ) -> Result<Self, AllocError> {
+        Ok(Links)
     }
 
     fn answer<O: Sink>(

@@ -16,12 +16,12 @@ ghost use Rattle.iri_cli.specs.inside.Replies.{IsRefusal, reply_text, obeyed_by}
 pub(crate) mod line;
 
 use crate::register::line::{Asked, line_of};
-use crate::run::answers::{AnswerError, Answers, BaseError};
-use crate::run::opening::own_base;
+use crate::run::answers::{AnswerError, Answers};
 use crate::run::puts::{put_bad, put_bad_line, put_number, say_good};
 use iri_grammar::error::ErrorKind;
 use iri_grammar::spec::Spec;
 use iri_normal::resolver::FixedBaseResolver;
+use iri_owned::owned::RiAbsoluteString;
 use iri_register::added::Added;
 use iri_register::error::RegisterError;
 use iri_register::register::Register;
@@ -216,14 +216,16 @@ impl<S: Spec> Answers<S> for Registers<S> {
 
     ghost stands_at = { λ r base at. IsRegisterAt S.tests base r.register r.answered at };
 
-    fn open(alloc: Global, base: &mut Vec<u8>, _output: Vec<u8>) -> Result<Self, BaseError> {
-        match own_base::<S>(alloc, base) {
-            Ok(base) => Ok(Registers {
-                register: Register::new(alloc, base),
-                answered: 0,
-            }),
-            Err(error) => Err(error),
-        }
+    fn open(
+        alloc: Global,
+        resolver: &FixedBaseResolver<'_, S>,
+        _output: Vec<u8>,
+    ) -> Result<Self, AllocError> {
+        let base = RiAbsoluteString::from_view(alloc, resolver.base())?;
+        Ok(Registers {
+            register: Register::new(alloc, base),
+            answered: 0,
+        })
     }
 
     fn answer<O: Sink>(

@@ -25,11 +25,10 @@ ghost use Rattle.iri_cli.specs.run.Run.{RunsLines, outside_state};
 pub(crate) mod line;
 pub(crate) mod sites;
 
-use crate::canon::base_of;
 use crate::robots::line::{Said, line_of};
 use crate::robots::sites::Site;
 use crate::run::MEMORY;
-use crate::run::answers::{AnswerError, Answers, BaseError};
+use crate::run::answers::{AnswerError, Answers};
 use crate::run::buffers::CanonBuffers;
 use crate::run::opening::run_lines;
 use crate::run::puts::{put_bad, put_bad_line, put_line, say_good};
@@ -166,18 +165,16 @@ impl<S: Spec> Answers<S> for Crawls {
     ghost stands_at = { λ c base at. IsRobotsAt S.tests (string_bytes c.site.robots.token)
         base c.site.scheme c.site.authority (record_texts c.site.robots.records.items) at };
 
-    fn open(crawler: Crawler, base: &mut Vec<u8>, _output: Vec<u8>) -> Result<Self, BaseError> {
+    fn open(
+        crawler: Crawler,
+        resolver: &FixedBaseResolver<'_, S>,
+        _output: Vec<u8>,
+    ) -> Result<Self, AllocError> {
         let Crawler { alloc, robots } = crawler;
-        match base_of::<S>(base) {
-            Ok(view) => match Site::new(alloc, view, robots) {
-                Ok(site) => Ok(Crawls {
-                    site,
-                    target: String::new(alloc),
-                }),
-                Err(_) => Err(BaseError::Memory),
-            },
-            Err(words) => Err(BaseError::Refused(words)),
-        }
+        Ok(Crawls {
+            site: Site::new(alloc, resolver, robots)?,
+            target: String::new(alloc),
+        })
     }
 
     fn answer<O: Sink>(

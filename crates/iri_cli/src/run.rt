@@ -21,6 +21,7 @@ pub(crate) mod base;
 pub(crate) mod buffers;
 pub(crate) mod end;
 pub(crate) mod opening;
+pub(crate) mod prepared;
 pub(crate) mod puts;
 pub(crate) mod shown;
 pub(crate) mod sink_text;

@@ -9,7 +9,7 @@ use Rattle.iri_cli.specs.inside.StatelessAt.{IsStatelessAt}
 use Rattle.iri_cli.specs.inside.Answering.{Answering}
 use Rattle.iri_cli.specs.run.Limits.{longest_line, answer_room}
 
--- It answers each line alone, and has the base, which is taken. Its buffers have room for each expansion, and the capacity for each answer.
+-- It answers each line alone. Its buffers have room for each expansion, and the capacity for each answer.
 pub record IsDocsAt (s : Tests) (base expansion : List ℕ) (output : ℕ) (at : Answering) : Type 0 where
   pub stands : IsStatelessAt docs_answer takes_memory s base at
   pub taken : refusal s base ≡ None

@@ -7,12 +7,13 @@ use Rattle.iri_cli.specs.inside.Answering.{Answering}
 use Rattle.iri_docs.specs.Expanded.{expansion_limit}
 use Rattle.iri_cli.specs.expand.Lines.{Values, values_after}
 use Rattle.iri_cli.specs.expand.Rules.{expand_rules}
+use Rattle.iri_cli.specs.run.Prepared.{IsAlike}
 
--- It has the base, which is taken, and the values after the lines that were answered. Its buffers have room for each expansion, and
--- the capacity for each answer.
+-- Its base has the answers of the base line, and it has the values after the lines that were answered. Its buffers have room for each
+-- expansion, and the capacity for each answer.
 pub record IsExpandAt (s : Tests) (base expansion : List ℕ) (output : ℕ) (values : Values) (at : Answering) : Type 0 where
   pub rules : at.rules ≡ expand_rules s
-  pub base_is : at.base ≡ base
+  pub alike : IsAlike (expand_rules s) base at.base
   pub values_are : values ≡ values_after at.between
   pub taken : refusal s base ≡ None
   pub short : length base ≤ longest_line

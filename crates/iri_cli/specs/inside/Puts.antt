@@ -5,9 +5,9 @@ use Rattle.iri_text.specs.declared.Failed.{Failed}
 use Rattle.iri_percent.specs.declared.canon_mode.CanonMode.{CanonMode}
 use Rattle.iri_cli.specs.run.Limits.{longest_line, answer_room}
 use Rattle.iri_cli.specs.canon.Answers.{refusal}
-use Rattle.iri_normal.specs.Answers.{answer_in}
 use Rattle.iri_cli.specs.inside.Answering.{Answering}
 use Rattle.iri_cli.specs.canon.Rules.{canon_rules_in}
+use Rattle.iri_cli.specs.run.Prepared.{IsAlike}
 use Rattle.iri_cli.specs.declared.run.answers.AnswerError.{AnswerError}
 use Rattle.iri_cli.specs.declared.run.answers.AnswerError.TheVariants.{SinkFailed}
 
@@ -16,11 +16,10 @@ abbrev pub said_good : Bool → Result (Unit {0}) Failed → Result Bool AnswerE
 said_good good (Ok x) = Ok good
 said_good good (Err failed) = Err SinkFailed
 
--- `canon` stands at a base that is taken, holds a text that has the same answers, and its output buffer has the capacity for each of
--- them.
+-- `canon` stands at a base that has the answers of the base line. Its output buffer has the capacity for each of them.
 pub record IsCanonAt (s : Tests) (mode : CanonMode) (base : List ℕ) (output : ℕ) (at : Answering) : Type 0 where
   pub rules : at.rules ≡ canon_rules_in s mode
-  pub same : (line : List ℕ) → answer_in s mode base line ≡ answer_in s mode at.base line
+  pub alike : IsAlike (canon_rules_in s mode) base at.base
   pub taken : refusal s base ≡ None
   pub short : length base ≤ longest_line
   pub room : answer_room ≤ output

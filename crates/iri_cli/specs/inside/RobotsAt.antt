@@ -9,15 +9,17 @@ use Rattle.iri_cli.specs.run.Refused.{is_not_bad}
 use Rattle.iri_cli.specs.robots.Answers.{normal_base}
 use Rattle.iri_cli.specs.robots.Lines.{records_after}
 use Rattle.iri_cli.specs.robots.Rules.{robots_rules}
+use Rattle.iri_cli.specs.run.Prepared.{IsAlike}
 use Rattle.iri_cli.specs.inside.Sites.{IsSiteOf}
 use Rattle.iri_cli.specs.declared.run.answers.AnswerError.{AnswerError}
 use Rattle.iri_cli.specs.declared.run.answers.AnswerError.TheVariants.{SinkFailed}
 
--- It has the token, the base, the scheme and the authority of its normal form, and the records after the lines that were answered.
+-- Its base has the answers of the base line. It has the token, the scheme and the authority of the base's normal form, and the records after
+-- the lines that were answered.
 pub record IsRobotsAt (s : Tests) (token base : List ℕ) (scheme authority : Option (List ℕ)) (records : List FileRecord) (at : Answering)
     : Type 0 where
   pub rules : at.rules ≡ robots_rules s token
-  pub base_is : base ≡ at.base
+  pub alike : IsAlike (robots_rules s token) base at.base
   pub site_is : IsSiteOf scheme authority (split_of (normal_base s base))
   pub records_are : records ≡ records_after at.between
 

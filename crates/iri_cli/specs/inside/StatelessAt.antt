@@ -3,8 +3,9 @@ use Rattle.std.specs.Prelude.{◌≡◌, ℕ, Bool, List}
 use Rattle.iri_grammar.specs.Classes.{Tests}
 use Rattle.iri_cli.specs.inside.Answering.{Answering}
 use Rattle.iri_cli.specs.canon.Rules.{stateless_rules}
+use Rattle.iri_cli.specs.run.Prepared.{IsAlike}
 
--- It has the base.
+-- Its base has the answers of the base line.
 pub record IsStatelessAt (answer : Tests → List ℕ → List ℕ → List ℕ) (takes_memory : Tests → List ℕ → Bool) (s : Tests) (base : List ℕ) (at : Answering) : Type 0 where
   pub rules : at.rules ≡ stateless_rules answer takes_memory s
-  pub base_is : base ≡ at.base
+  pub alike : IsAlike (stateless_rules answer takes_memory s) base at.base

@@ -1,10 +1,8 @@
 -- The ends of a run by what its steps answer, and the base line.
-use Rattle.std.specs.Prelude.{◌≡◌, ◌⊎◌, ◌≤◌, ℕ, Bool, true, false, List, [], ◌∷◌, length, Option, Result, Ok, Err}
+use Rattle.std.specs.Prelude.{◌≡◌, ◌⊎◌, ℕ, Bool, true, false, List, [], ◌∷◌, Option}
 use Rattle.iri_text.specs.Line.{LineState}
-use Rattle.iri_text.specs.Sink.{SinkState}
 use Rattle.iri_cli.specs.run.Ending.{Rules}
 use Rattle.iri_cli.specs.inside.Read.{HasRead, ReadsAll, IsGoing}
-use Rattle.iri_cli.specs.run.Run.{outside, Ran}
 use Rattle.iri_text.specs.declared.streams.reader.LineFault.{LineFault}
 use Rattle.iri_text.specs.declared.streams.reader.LineFault.TheVariants.{Source, LineTooLong as FaultLineTooLong}
 use Rattle.iri_text.specs.declared.streams.reader.LineFault.TheVariants.{InputTooLong as FaultInputTooLong}
@@ -26,10 +24,3 @@ end_of_all false = SomeBad
 abbrev pub GivesBase : Rules → Option (List ℕ) → Option (List ℕ) → LineState → List ℕ → Type 0
 GivesBase rules left_old left_new reader base =
     (HasRead rules left_old left_new reader (base ∷ []) × IsGoing rules reader) ⊎ (ReadsAll rules left_old left_new [] × (base ≡ []))
-
--- This base line was read; or the run ended, and nothing was written.
-abbrev pub ReadsBase : Rules → Option (List ℕ) → Option (List ℕ) → ℕ → ℕ → LineState → List ℕ → Result (Unit {0}) LineFault → Type 0
-ReadsBase rules left_old left_new faults_old faults_new reader base (Ok x) =
-    GivesBase rules left_old left_new reader base × (length base ≤ rules.line_limit) × (faults_old ≤ faults_new)
-ReadsBase rules left_old left_new faults_old faults_new reader base (Err fault) =
-    (sink : SinkState) → Ran rules (outside left_old faults_old sink) (outside left_new faults_new sink) (end_at fault)

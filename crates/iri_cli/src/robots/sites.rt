@@ -3,18 +3,16 @@ ghost use Rattle.std.specs.Prelude.{◌≡◌, IfOk};
 ghost use Rattle.iri_grammar.specs.OptionalSlices.{now_of};
 ghost use Rattle.iri_grammar.specs.Split.{split_of};
 ghost use Rattle.iri_types.specs.SplitText.{split_text};
-ghost use Rattle.iri_types.specs.Texts.{text};
-ghost use Rattle.iri_cli.specs.robots.Answers.{normal_base, same_part};
+ghost use Rattle.iri_normal.specs.Resolver.{base_text};
+ghost use Rattle.iri_cli.specs.robots.Answers.{same_part};
 ghost use Rattle.iri_cli.specs.inside.Sites.{IsSiteOf, is_of_site};
 
 use iri_grammar::spec::Spec;
-use iri_normal::views::Normalize;
-use iri_owned::owned::RiAbsoluteString;
+use iri_normal::resolver::FixedBaseResolver;
 use iri_robots::Robots;
-use iri_text::{Text, ToDedicatedString};
+use iri_text::Text;
 use iri_types::kind::Iri;
 use iri_types::split::SplitView;
-use iri_types::view::RiAbsoluteStr;
 use std::alloc::{AllocError, Global};
 
 /// What a crawler knows of a site: its scheme and its authority in normal form, and the rules of a robots file.
@@ -24,16 +22,6 @@ pub struct Site {
     scheme: Option<Text>,
     authority: Option<Text>,
     pub(crate) robots: Robots,
-}
-
-// A base in normal form (RFC 3986 section 6.2.2).
-fn normal_base<S: Spec>(
-    alloc: Global,
-    base: RiAbsoluteStr<'_, S>,
-) -> Result<RiAbsoluteString<S>, AllocError>
-    ensures { IfOk result (λ normal. normal.text ≡ normal_base S.tests (text base.entry)) }
-{
-    base.normalize().try_to_dedicated_string(alloc)
 }
 
 fn copy_of(alloc: Global, part: Option<&str>) -> Result<Option<Text>, AllocError>
@@ -61,16 +49,14 @@ impl Site {
     /// The site of a base. It fails on allocation failure alone.
     pub(crate) fn new<S: Spec>(
         alloc: Global,
-        base: RiAbsoluteStr<'_, S>,
+        resolver: &FixedBaseResolver<'_, S>,
         robots: Robots,
     ) -> Result<Self, AllocError>
         ensures { IfOk result (λ site. (site.robots ≡ robots)
-            × IsSiteOf site.scheme site.authority (split_of (normal_base S.tests (text base.entry)))) }
+            × IsSiteOf site.scheme site.authority (split_of (base_text resolver.now))) }
     {
-        let normal = normal_base(alloc, base)?;
-        let base = SplitView::of(normal.as_slice());
-        let scheme = copy_of(alloc, base.parts().scheme())?;
-        let authority = copy_of(alloc, base.parts().authority())?;
+        let scheme = copy_of(alloc, Some(resolver.scheme_str()))?;
+        let authority = copy_of(alloc, resolver.authority_str())?;
         Ok(Site {
             alloc,
             scheme,

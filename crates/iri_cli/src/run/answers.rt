@@ -11,15 +11,7 @@ ghost use Rattle.iri_cli.specs.inside.Opening.{BeginsAsCanon, Opens};
 use iri_grammar::spec::Spec;
 use iri_normal::resolver::FixedBaseResolver;
 use iri_text::{Failed, Sink};
-
-/// Why no lines are answered after a base line.
-#[derive(Clone, Copy)]
-pub enum BaseError {
-    /// The base line is refused, for what these words say.
-    Refused(&'static str),
-    /// Allocation failed.
-    Memory,
-}
+use std::alloc::AllocError;
 
 /// Why an answer was not put, or not whole.
 #[derive(Clone, Copy)]
@@ -42,12 +34,16 @@ pub trait Answers<S: Spec>: Drop + Sized {
     /// the base, and the lines that were answered.
     ghost stands_at: { Self → List ℕ → Answering → Type 0 };
 
-    /// Takes the base line, which it may change into a base that has the same answers, and a buffer
-    /// that has the capacity for each answer.
-    fn open(start: Self::Start, base: &mut Vec<u8>, output: Vec<u8>) -> Result<Self, BaseError>
-        requires short { length base.old.items ≤ longest_line }
+    /// Begins after a base line, with the resolver of its prepared base and a buffer that has the capacity for each answer. It fails on
+    /// allocation failure alone.
+    fn open(
+        start: Self::Start,
+        resolver: &FixedBaseResolver<'_, S>,
+        output: Vec<u8>,
+    ) -> Result<Self, AllocError>
+        requires short { length (base_text resolver.now) ≤ longest_line }
         requires room { answer_room ≤ vec_capacity output }
-        ensures { Opens S.tests (rules start) base.old.items base.new.items stands_at result };
+        ensures { Opens S.tests (rules start) (base_text resolver.now) stands_at result };
 
     /// Puts the answer to a line within the limits, and says whether a run with it may end in
     /// status 0.

@@ -1,52 +1,35 @@
 // The base line.
-ghost use Rattle.std.specs.Prelude.{◌≡◌, ◌≢◌, ◌≤◌, false, length};
-ghost use Rattle.std.specs.Vec.{vec_capacity};
+ghost use Rattle.std.specs.Prelude.{◌≡◌, ◌≢◌, cond, [], None, Some, MatchResult};
 ghost use Rattle.iri_text.specs.Sink.{KeepsRoom, sink_state};
-ghost use Rattle.iri_cli.specs.run.Ending.{Rules, base_line};
-ghost use Rattle.iri_cli.specs.run.Buffers.{IsNew};
-ghost use Rattle.iri_cli.specs.inside.Steps.{ReadsBase};
+ghost use Rattle.iri_types.specs.Texts.{text};
+ghost use Rattle.iri_cli.specs.canon.Answers.{refusal};
+ghost use Rattle.iri_cli.specs.run.Ending.{base_line};
 ghost use Rattle.iri_cli.specs.inside.Answering.{RefusesBase};
 ghost use Rattle.iri_cli.specs.declared.run.end.End.TheVariants.{SinkFailed};
 
 use crate::run::end::End;
 use crate::run::puts::put_line;
-use iri_text::{Failed, LineFault, LineReader, Sink, Source};
-use std::alloc::AllocError;
+use iri_grammar::spec::Spec;
+use iri_text::{Failed, LineReader, Sink};
+use iri_types::view::RiAbsoluteStr;
 
-/// Copies a line to a buffer that has the capacity for it.
-pub fn copy_line(line: &[u8], buffer: &mut Vec<u8>)
-    requires { length line.now ≤ vec_capacity buffer.old }
-    ensures { buffer.new.items ≡ line.now }
+/// The first line that a reader was asked for, by what it answered: the empty text where there is none.
+pub fn first_line(reader: &LineReader, found: bool) -> &[u8]
+    ensures { result.now ≡ cond found reader.now.line [] }
 {
-    buffer.clear();
-    match buffer.extend_from_slice(line) {
-        Ok(()) => (),
-        Err(AllocError) => unreachable!(),
-    }
+    if found { reader.line() } else { b"" }
 }
 
-/// Reads the base line into a buffer. Where there is no line, the base is the empty text.
-pub fn read_base<I: Source>(
-    reader: &mut LineReader,
-    source: &mut I,
-    buffer: &mut Vec<u8>,
-) -> Result<(), LineFault>
-    requires going { reader.old.done ≡ false }
-    requires room { reader.old.line_limit ≤ vec_capacity buffer.old }
-    ensures { (rules : Rules) → IsNew rules.line_limit rules.input_limit reader.old
-        → ReadsBase rules (I.left source.old) (I.left source.new) (I.faults source.old)
-        (I.faults source.new) reader.new buffer.new.items result }
+/// The base of a base line, or in words why it is refused.
+#[tactic(auto, unfolding(crate::specs::canon::Answers::refusal))]
+pub fn base_of<S: Spec>(line: &[u8]) -> Result<RiAbsoluteStr<'_, S>, &'static str>
+    ensures { MatchResult result
+        (λ base. (text base ≡ line.now) × (refusal S.tests line.now ≡ None))
+        (λ words. refusal S.tests line.now ≡ Some words.now) }
 {
-    match reader.advance(source) {
-        Ok(true) => {
-            copy_line(reader.line(), buffer);
-            Ok(())
-        }
-        Ok(false) => {
-            buffer.clear();
-            Ok(())
-        }
-        Err(fault) => Err(fault),
+    match RiAbsoluteStr::<S>::try_from_bytes(line) {
+        Ok(base) => Ok(base),
+        Err(error) => Err(error.kind().description()),
     }
 }
 

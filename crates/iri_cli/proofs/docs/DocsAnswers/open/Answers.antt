@@ -1,17 +1,13 @@
-use Rattle.iri_cli.proofs.Common.{◌≡◌, None, refl, subst, refusal}
+use Rattle.iri_cli.proofs.Common.{◌∙◌, refl, sym}
+use Rattle.iri_cli.specs.declared.run.words.LineCommand.TheVariants.{Docs}
+use Rattle.iri_cli.proofs.AlikeLaws.{alike, still_taken}
 use Rattle.iri_cli.proofs.docs.DocsAnswers.open.Goals as goal
 
-pub returns-in-Ok : goal.returns-in-Ok
-returns-in-Ok g c =
-    let q = c.in-Ok.ensures in
-    let taken = subst (λ t. refusal g.S.Spec.tests t ≡ None) c.deref.ensures.value q.1 in (
-      taken,
-      taken,
-      record {
-        stands = record { rules = refl; base_is = refl };
-        taken = taken;
-        short = c.requires.short;
-        expansion_room = q.0;
-        output_room = c.requires.room;
-      },
-    )
+pub returns : goal.returns
+returns g c = λ line p. record {
+  stands = record { rules = refl; alike = alike g.S.Spec.tests line _ g.met.S.Spec.lawful p Docs };
+  taken = still_taken g.S.Spec.tests line _ g.met.S.Spec.lawful p;
+  short = c.requires.short;
+  expansion_room = sym c.in_ok-vec.field-0.ok.0 ∙ c.in_ok-vec.ensures.len;
+  output_room = c.requires.room;
+}

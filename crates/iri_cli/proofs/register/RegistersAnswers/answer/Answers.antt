@@ -14,7 +14,7 @@ returns-in-Err g c = λ at is.
     let kept = c.args.self.now.register in
     let state = sink_state g.O.Sink.written g.O.Sink.faults g.O.Sink.room_left in
     answers_memory (register_rules s) at c.args.line.now (state c.args.sink.now) _ is.rules
-    (ap (λ es. takes_memory s es (line_of c.args.line.now)) (sym is.entries_are) ∙ ap (takes_memory s kept.entries) (sym c.line_of.ensures)
+    (sym (is.alike.wants_memory at.between c.args.line.now) ∙ ap (λ es. takes_memory s es (line_of c.args.line.now)) (sym is.entries_are) ∙ ap (takes_memory s kept.entries) (sym c.line_of.ensures)
     ∙ c.in-Err.ensures.memory)
 
 pub returns-in-Ok : goal.returns-in-Ok

@@ -1,13 +1,11 @@
-use Rattle.iri_cli.proofs.Common.{◌≡◌, ◌∙◌, None, subst, refusal}
+use Rattle.iri_cli.proofs.Common.{◌∙◌, base_text}
+use Rattle.iri_cli.specs.declared.run.words.LineCommand.TheVariants.{Register}
+use Rattle.iri_cli.proofs.AlikeLaws.{alike}
 use Rattle.iri_cli.proofs.RegisterLemmas.{register_opened}
 use Rattle.iri_cli.proofs.register.RegistersAnswers.open.Goals as goal
 
-pub returns-in-Ok : goal.returns-in-Ok
-returns-in-Ok g c =
+pub returns : goal.returns
+returns g c = λ line p.
     let s = g.S.Spec.tests in
-    let q = c.in-Ok.ensures in
-    let taken = subst (λ t. refusal s t ≡ None) c.deref.ensures.value q.1 in (
-      taken,
-      taken,
-      register_opened s c.new.result c.args.base.now.items (c.new.ensures.base ∙ q.0 ∙ c.deref.ensures.value) c.new.ensures.entries,
-    )
+    register_opened s c.new.result line (base_text c.args.resolver.now) (alike s line _ g.met.S.Spec.lawful p Register)
+    (c.new.ensures.base ∙ c.in_ok-base.ensures ∙ c.base.ensures) c.new.ensures.entries

@@ -1,5 +1,5 @@
 -- A base that is prepared once for all of its references.
-use Rattle.std.specs.Prelude.{ℕ, Bool, List, ◌++◌, is_some}
+use Rattle.std.specs.Prelude.{◌≡◌, ℕ, Bool, List, ◌++◌, is_some}
 use Rattle.iri_grammar.specs.Classes.{Tests}
 use Rattle.iri_grammar.specs.Parts.{Parts, recompose}
 use Rattle.iri_grammar.specs.Split.{split_of}
@@ -7,6 +7,7 @@ use Rattle.iri_normal.specs.DotRemoval.{dots}
 use Rattle.iri_normal.specs.DotRemoval.{guard}
 use Rattle.iri_normal.specs.NormalForm.{normal_form}
 use Rattle.iri_normal.specs.Target.{to_last_slash, last_segment}
+use Rattle.iri_cli.specs.run.Ending.{Rules}
 
 -- the dot segments before the last segment are removed (RFC 3986 section 5.2.4); the last segment stays, since a relative path takes
 -- its place
@@ -26,3 +27,10 @@ prepared_parts s t = record {
 -- the base with these parts
 unfoldable pub prepared : Tests → List ℕ → List ℕ
 prepared s base = recompose (prepared_parts s (split_of base))
+
+-- The rules of a command answer alike after two bases.
+pub record IsAlike (rules : Rules) (text base : List ℕ) : Type 0 where
+  pub answer : (between : List (List ℕ)) (line : List ℕ) → rules.answer text between line ≡ rules.answer base between line
+  pub closing : (between : List (List ℕ)) → rules.closing text between ≡ rules.closing base between
+  pub wants_memory : (between : List (List ℕ)) (line : List ℕ)
+      → rules.wants_memory text between line ≡ rules.wants_memory base between line

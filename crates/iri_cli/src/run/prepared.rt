@@ -1,4 +1,4 @@
-// The base, prepared once for all of its references.
+// The base, prepared once for all lines of a run.
 ghost use Rattle.std.specs.Prelude.{◌≡◌, ◌≤◌, true, None, Some, length, MatchResult};
 ghost use Rattle.std.specs.Vec.{vec_capacity};
 ghost use Rattle.iri_grammar.specs.Characters.{question_mark};
@@ -7,12 +7,11 @@ ghost use Rattle.iri_grammar.specs.Cut.{delimited};
 ghost use Rattle.iri_grammar.specs.OptionalSlices.{now_of};
 ghost use Rattle.iri_text.specs.Shown.{Shows};
 ghost use Rattle.iri_types.specs.Texts.{text};
-ghost use Rattle.iri_cli.specs.run.Limits.{longest_line, answer_room};
 ghost use Rattle.iri_cli.specs.canon.Answers.{refusal};
-ghost use Rattle.iri_cli.specs.canon.Prepared.{prepared, prepared_path};
+ghost use Rattle.iri_cli.specs.run.Prepared.{prepared, prepared_path};
+ghost use Rattle.iri_cli.specs.inside.Opening.{IsPreparedOf};
 
-use crate::canon::base_of;
-use crate::run::base::copy_line;
+use crate::run::base::base_of;
 use crate::run::buffers::room_for;
 use iri_grammar::spec::Spec;
 use iri_normal::{MergedPath, NormalPrefix, cut_last_segment, show_guarded};
@@ -60,7 +59,7 @@ impl<S: Spec> Show for Prepared<'_, S> {
     ghost use Rattle.iri_grammar.specs.Split.{split_of};
     ghost use Rattle.iri_normal.specs.Prefix.{prefix_in};
     ghost use Rattle.iri_types.specs.SplitText.{split_text};
-    ghost use Rattle.iri_cli.specs.canon.Prepared.{prepared_path};
+    ghost use Rattle.iri_cli.specs.run.Prepared.{prepared_path};
 
     ghost text = { λ p. prefix_in S.tests true (split_of (split_text p.base))
         ++ (prepared_path (is_some (split_of (split_text p.base)).authority)
@@ -75,37 +74,36 @@ impl<S: Spec> Show for Prepared<'_, S> {
     }
 }
 
-// Writes a prepared base to a buffer. It has no more bytes than the base.
-fn write_prepared<'b, S: Spec>(base: RiAbsoluteStr<'_, S>, output: &'b mut [u8]) -> &'b str
+// Writes a prepared base to a buffer that has room for the base.
+fn write_prepared<'b, S: Spec>(
+    base: RiAbsoluteStr<'_, S>,
+    buffer: &'b mut [u8],
+) -> RiAbsoluteStr<'b, S>
     requires taken { refusal S.tests (text base) ≡ None }
-    requires room { length (text base) ≤ length output.old }
-    ensures text { result.now ≡ prepared S.tests (text base.entry) }
-    ensures len { length result.now ≤ length (text base.entry) }
+    requires room { length (text base) ≤ length buffer.old }
+    ensures { text result ≡ prepared S.tests (text base.entry) }
 {
     let base = SplitView::of(base);
-    match write_to_slice(output, &Prepared { base }) {
-        Ok(text) => text,
+    match write_to_slice(buffer, &Prepared { base }) {
+        Ok(text) => RiAbsoluteStr::from_valid(text),
         Err(CapacityOverflowError) => unreachable!(),
     }
 }
 
-/// Puts scheme and authority of the base line in a buffer into normal form, and removes the dot segments before the last
-/// segment of its path, or says in words why it is refused. The output buffer is its scratch buffer.
-pub fn prepare_base<S: Spec>(buffer: &mut Vec<u8>, output: &mut Vec<u8>) -> Result<(), &'static str>
-    requires short { length buffer.old.items ≤ longest_line }
-    requires room { answer_room ≤ vec_capacity output.old }
-    ensures prepares { MatchResult result
-        (λ _. (length buffer.new.items ≤ length buffer.old.items)
-        × (refusal S.tests buffer.old.items ≡ None)
-        × (buffer.new.items ≡ prepared S.tests buffer.old.items))
-        (λ words. refusal S.tests buffer.old.items ≡ Some words.now) }
-    ensures capacity { vec_capacity output.old ≤ vec_capacity output.new }
+/// The base of a base line, prepared in a buffer: its scheme and authority are in normal form, and no dot segments stand before the last
+/// segment of its path. Or in words why the line is refused.
+pub fn prepare_base<'b, S: Spec>(
+    line: &[u8],
+    buffer: &'b mut Vec<u8>,
+) -> Result<RiAbsoluteStr<'b, S>, &'static str>
+    requires { length line.now ≤ vec_capacity buffer.old }
+    ensures { MatchResult result (λ base. IsPreparedOf S.tests line.now (text base))
+        (λ words. refusal S.tests line.now ≡ Some words.now) }
 {
-    match base_of::<S>(buffer) {
+    match base_of::<S>(line) {
         Ok(base) => {
-            room_for(output, base.len());
-            copy_line(write_prepared(base, output).as_bytes(), buffer);
-            Ok(())
+            room_for(buffer, base.len());
+            Ok(write_prepared(base, buffer))
         }
         Err(words) => Err(words),
     }

@@ -1,7 +1,7 @@
 use Rattle.iri_cli.proofs.Common.{◌≡◌, ◌∙◌, true, sym, subst, path_char}
 use Rattle.iri_grammar.specs.Components.{is_path}
 use Rattle.iri_normal.proofs.targets.Targets.{cut_over}
-use Rattle.iri_cli.proofs.canon.prepared.show_path.Goals as goal
+use Rattle.iri_cli.proofs.run.prepared.show_path.Goals as goal
 
 pub show_guarded-requires : goal.show_guarded-requires
 show_guarded-requires g c =
