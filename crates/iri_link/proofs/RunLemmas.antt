@@ -1,8 +1,9 @@
 -- A run at the start of a text.
-use Rattle.iri_link.proofs.Common.{◌==◌, sym, subst, inl, inr, by_test, first_passes, ◌≡◌, ℕ, zero, suc, ◌<◌, Bool, true, false, cond, List, [], ◌∷◌, take, drop, refl, ap, arith, slice_index}
+use Rattle.iri_link.proofs.Common.{◌==◌, inl, inr, first_passes, ◌≡◌, ℕ, zero, suc, ◌<◌, Bool, true, false, cond, List, [], ◌∷◌, take, drop, refl, ap, arith, slice_index}
 use Rattle.iri_link.proofs.Common.{list_all, IsUtf8, IsCharBoundary, nat_tests, run_of, both, is_blank, is_token_char, run_test, IsRun}
 use Rattle.std.proofs.lemmas.Str.{IsUtf8-from_ascii, IsCharBoundary-from_take}
 use Rattle.std.proofs.Common.{◌⊎◌}
+use Rattle.iri_grammar.proofs.splits.CutLaws.{at_byte}
 use Rattle.iri_grammar.proofs.units.FirstUnits.{run_of_le}
 use Rattle.iri_link.specs.declared.runs.Run.{Run}
 use Rattle.iri_link.specs.declared.runs.Run.TheVariants.{Blank, Token}
@@ -36,10 +37,7 @@ run-boundary k t u =
     IsCharBoundary-from_take t (run_of p t) u (run_of_le p t) (IsUtf8-from_ascii (take (run_of p t) t) (all-at p (run-low k) (take (run_of p t) t) (run-is p t).all))
 
 -- ---- the first byte
-at_char : (c d : ℕ) (P : ℕ → Type 0) → P d → ((c == d) ≡ false → P c) → P c
-at_char c d P a b = by_test c d (λ t. (c == d) ≡ t → P c) (λ e _. subst P (sym e) a) (λ _ e. b e) refl
-
 -- whether m comes first
 pub mark : (m : ℕ) (t : List ℕ) → (first_passes (λ c. c == m) t ≡ false) ⊎ ((r : List ℕ) × (t ≡ m ∷ r))
 mark m [] = inl refl
-mark m (c ∷ cs) = at_char c m (λ d. (first_passes (λ x. x == m) (d ∷ cs) ≡ false) ⊎ ((r : List ℕ) × (d ∷ cs ≡ m ∷ r))) (inr (cs, refl)) (λ e. inl e)
+mark m (c ∷ cs) = at_byte c m (λ d. (first_passes (λ x. x == m) (d ∷ cs) ≡ false) ⊎ ((r : List ℕ) × (d ∷ cs ≡ m ∷ r))) (inr (cs, refl)) (λ e. inl e)

@@ -1,7 +1,8 @@
 -- Escapes, counted byte by byte.
 use Rattle.iri_robots.proofs.Common.{◌≡◌, ℕ, ◌+◌, ◌-◌, ◌<◌, ◌||◌, Bool, true, false, cond, List, [], ◌∷◌, ◌++◌, drop, Some, None, refl, sym}
-use Rattle.iri_robots.proofs.Common.{◌∙◌, ap, subst, arith, ◌==◌, nat_lt, nat_tests, compared, escapes}
-use Rattle.std.proofs.Common.{zero-add, eqb-true}
+use Rattle.iri_robots.proofs.Common.{◌∙◌, ap, arith, ◌==◌, nat_lt, nat_tests, compared, escapes}
+use Rattle.std.proofs.Common.{zero-add}
+use Rattle.iri_grammar.proofs.splits.CutLaws.{at_byte}
 use Rattle.iri_robots.specs.Patterns.{begins_escape}
 use Rattle.iri_robots.specs.inside.EscapeScans.{begun_then, begun_after, ends_escape, Counts}
 use Rattle.iri_robots.specs.declared.escape.Begun.{Begun}
@@ -13,19 +14,11 @@ use Rattle.iri_robots.proofs.Forms.{compared_nil}
 other_way : (b k : ℕ) → (b == k) ≡ false → (k == b) ≡ false
 other_way b k e = grind (arith, nat_tests)
 
--- a byte is this one, or another
-by_byte : (b k : ℕ) (P : ℕ → Type 0) → P k → ((b == k) ≡ false → P b) → P b
-by_byte b k P at other =
-    elim (b == k) as (λ v. (b == k) ≡ v → P b) [
-      | true ↦ λ e. subst P (sym (eqb-true b k e)) at
-      | false ↦ λ e. other e
-    ] refl
-
 -- a byte that begins no triplet
 plain : (b : ℕ) (rest : List ℕ) → (b == 37) ≡ false → escapes (b ∷ rest) ≡ cond (b == 36) 1 0 + escapes rest
 unfolding escapes
 plain b rest e =
-    by_byte b 36 (λ b. (37 == b) ≡ false → cond (begins_escape (b ∷ rest)) 1 0 + escapes rest ≡ cond (b == 36) 1 0 + escapes rest) (λ h. refl)
+    at_byte b 36 (λ b. (37 == b) ≡ false → cond (begins_escape (b ∷ rest)) 1 0 + escapes rest ≡ cond (b == 36) 1 0 + escapes rest) (λ h. refl)
     (λ f h. rw (h, other_way b 36 f, f) refl) (other_way b 37 e)
 
 -- what follows a `%` or `%2` and ends no triplet
@@ -62,15 +55,15 @@ other_third : (b : ℕ) (rest : List ℕ) → (b == 65) ≡ false → (b == 52) 
 other_third b rest e f h = rw (e, f, h) (past_two b rest e f ∙ plain b rest h ∙ ap (λ n. n + escapes rest) (or_none (b == 36)))
 
 goes_on : (begun : Begun) (b : ℕ) (rest : List ℕ) → GoesOn begun rest b
-goes_on Nothing b rest = by_byte b 37 (GoesOn Nothing rest) (sym (zero-add _)) (λ e. rw e (plain b rest e))
+goes_on Nothing b rest = at_byte b 37 (GoesOn Nothing rest) (sym (zero-add _)) (λ e. rw e (plain b rest e))
 goes_on Percent b rest =
-    by_byte b 37 (GoesOn Percent rest) (after_percent rest)
-    (λ e. by_byte b 50 (λ b. (b == 37) ≡ false → GoesOn Percent rest b) (λ h. sym (zero-add _))
+    at_byte b 37 (GoesOn Percent rest) (after_percent rest)
+    (λ e. at_byte b 50 (λ b. (b == 37) ≡ false → GoesOn Percent rest b) (λ h. sym (zero-add _))
     (λ f h. rw (h, f) (past_percent b rest f ∙ plain b rest h)) e)
 goes_on PercentTwo b rest =
-    by_byte b 65 (GoesOn PercentTwo rest) (at_star rest)
-    (λ e. by_byte b 52 (λ b. (b == 65) ≡ false → GoesOn PercentTwo rest b) (λ _. at_dollar rest)
-    (λ f e. by_byte b 37 (λ b. (b == 65) ≡ false → (b == 52) ≡ false → GoesOn PercentTwo rest b)
+    at_byte b 65 (GoesOn PercentTwo rest) (at_star rest)
+    (λ e. at_byte b 52 (λ b. (b == 65) ≡ false → GoesOn PercentTwo rest b) (λ _. at_dollar rest)
+    (λ f e. at_byte b 37 (λ b. (b == 65) ≡ false → (b == 52) ≡ false → GoesOn PercentTwo rest b)
     (λ _ _. past_two 37 rest refl refl ∙ sym (zero-add _)) (λ h e f. other_third b rest e f h) e f) e)
 
 -- ---- one byte, of a scan
