@@ -1,5 +1,5 @@
 // Whether a text begins with two slashes, by its pieces.
-ghost use Rattle.std.specs.Prelude.{◌≡◌};
+ghost use Rattle.std.specs.Prelude.{◌≡◌, take};
 ghost use Rattle.iri_normal.specs.inside.Beginning.{after_byte, begun_by, is_slashes};
 
 use iri_text::{Stop, TextSink};
@@ -46,6 +46,20 @@ fn after_text(begun: Begun, text: &[u8]) -> Begun
     now
 }
 
+// The first two bytes, or all where there are fewer.
+fn first_two(text: &[u8]) -> &[u8]
+    ensures { result.now ≡ take 2 text.now }
+{
+    if text.len() < 2 { text } else { &text[..2] }
+}
+
+// The same by the first two bytes, which tell it: a piece may be long.
+fn after_piece(begun: Begun, piece: &[u8]) -> Begun
+    ensures { result ≡ begun_by begun piece.now }
+{
+    after_text(begun, first_two(piece))
+}
+
 impl TextSink for Beginning {
     ghost use Rattle.iri_normal.specs.inside.Beginning.{Begins, StopsNowhere, begins_none, begins_both};
 
@@ -58,7 +72,7 @@ impl TextSink for Beginning {
     ghost rules = { record { none = begins_none; both = begins_both; until = λ _ _ _ _ _ _ h. h; within = λ _ _ _ _ h. h } };
 
     fn put(&mut self, piece: &str) -> Result<(), Stop> {
-        self.begun = after_text(self.begun, piece.as_bytes());
+        self.begun = after_piece(self.begun, piece.as_bytes());
         Ok(())
     }
 }

@@ -1,11 +1,13 @@
 // A path in two pieces, as it is merged (RFC 3986 section 5.2.3).
 ghost use Rattle.std.specs.Prelude.{◌≡◌, ◌||◌, ◌++◌, false, true};
+ghost use Rattle.iri_grammar.specs.Characters.{percent_sign};
+ghost use Rattle.iri_grammar.specs.Cut.{lacks};
 ghost use Rattle.iri_grammar.specs.Parts.{is_empty};
 ghost use Rattle.iri_normal.specs.Dots.{has_dot_segment};
 ghost use Rattle.iri_normal.specs.Target.{ends_at_slash};
 
 /// What the base gives of a path, and the reference's path after it. The first piece ends where a segment ends, or nothing follows it.
-/// `plain` says that it has no dot segment; `false` says nothing.
+/// `plain` says that it has no dot segment, and `bare` that it has no percent-encoded octet; `false` says nothing.
 ///
 /// ```
 /// use iri::steps::MergedPath;
@@ -18,8 +20,10 @@ pub struct MergedPath<'a> {
     pub base: &'a str,
     pub reference: &'a str,
     pub plain: bool,
+    pub bare: bool,
     pub ghost cut: { (is_empty reference.now || ends_at_slash base.now) ≡ true },
     pub ghost noted: { plain ≡ true → has_dot_segment base.now ≡ false },
+    pub ghost bared: { bare ≡ true → lacks percent_sign base.now ≡ true },
 }
 
 impl<'a> MergedPath<'a> {
@@ -31,6 +35,7 @@ impl<'a> MergedPath<'a> {
             base: "",
             reference: path,
             plain: true,
+            bare: true,
         }
     }
 }

@@ -11,9 +11,9 @@
 // shown in parts, each as soon as it was counted, forward, how many of its segments the parts after it take away.
 ghost use Rattle.std.specs.Prelude.{◌≡◌, ◌<◌, ◌≤◌, ◌+◌, ◌^◌, ◌==◌, ◌&&◌, ◌||◌, [], false, not, true, drop, length, take};
 ghost use Rattle.std.specs.Str.{IsUtf8};
-ghost use Rattle.iri_grammar.specs.Characters.{slash};
+ghost use Rattle.iri_grammar.specs.Characters.{percent_sign, slash};
 ghost use Rattle.iri_grammar.specs.Components.{is_path};
-ghost use Rattle.iri_grammar.specs.Cut.{before};
+ghost use Rattle.iri_grammar.specs.Cut.{before, lacks};
 ghost use Rattle.iri_grammar.specs.Parts.{is_empty};
 ghost use Rattle.iri_grammar.specs.Pieces.{pieces};
 ghost use Rattle.iri_percent.specs.Units.{whole_triplets};
@@ -147,22 +147,26 @@ fn show_kept<S: Spec, W: TextSink>(
     show_kept::<S, W>(sink, rest, count, normal)
 }
 
-// A path in three pieces: a directory, what follows it, and more, which follows where a segment of that ends.
+// A path in three pieces: a directory, what follows it, and more, which follows where a segment of that ends. `bare` says that the
+// directory has no percent-encoded octet.
 fn show_after<S: Spec, W: TextSink>(
     sink: &mut W,
     directory: &str,
     text: &str,
     more: &str,
+    bare: bool,
     normal: bool,
 ) -> Result<(), Stop>
     requires directory { (ends_at_slash directory.now && not (is_empty directory.now)) ≡ true }
+    requires bare { bare ≡ true → lacks percent_sign directory.now ≡ true }
     requires cut { (is_empty more.now || ends_at_slash text.now) ≡ true }
     requires paths { (is_path S.tests directory.now ≡ true) × (is_path S.tests text.now ≡ true) × (is_path S.tests more.now ≡ true) }
     ensures { Shows W.puts W.halts W.stops sink.old
         (in_form S.tests normal (written (written directory.now text.now) more.now)) sink.new result }
 {
     let count = taken(more, 0);
-    show_part::<S, W>(sink, popped_times(directory, taken(text, count)), normal)?;
+    let parent = popped_times(directory, taken(text, count));
+    show_part::<S, W>(sink, parent, normal & !bare)?;
     show_kept::<S, W>(sink, text, count, normal)?;
     show_kept::<S, W>(sink, more, 0, normal)
 }
@@ -181,12 +185,12 @@ fn show_from_first<S: Spec, W: TextSink>(
         (in_form S.tests normal (written (written [] text.now) more.now)) sink.new result }
 {
     match cut_first(text) {
-        Some((first, rest)) => show_after::<S, W>(sink, first, rest, more, normal),
+        Some((first, rest)) => show_after::<S, W>(sink, first, rest, more, false, normal),
         None => show_part::<S, W>(sink, text, normal),
     }
 }
 
-// A path whose first piece may have dot segments, or is empty: its own, or against a base that wasn't prepared.
+// A path whose first piece may have dot segments, or is empty: a long one of a reference's own, or under a base that wasn't prepared.
 fn show_from_start<S: Spec, W: TextSink>(
     sink: &mut W,
     path: &MergedPath<'_>,
@@ -211,7 +215,7 @@ fn has_plain_directory(path: &MergedPath<'_>) -> bool
     path.plain && !path.base.is_empty() && !path.reference.is_empty()
 }
 
-// A long path.
+// A long path: few have more than 128 bytes and a dot segment.
 #[inline(never)]
 fn show_long<S: Spec, W: TextSink>(
     sink: &mut W,
@@ -222,7 +226,7 @@ fn show_long<S: Spec, W: TextSink>(
     ensures { Shows W.puts W.halts W.stops sink.old (in_form S.tests normal (dots (merged path.now))) sink.new result }
 {
     if has_plain_directory(path) {
-        return show_after::<S, W>(sink, path.base, path.reference, "", normal);
+        return show_after::<S, W>(sink, path.base, path.reference, "", path.bare, normal);
     }
     show_from_start::<S, W>(sink, path, normal)
 }

@@ -52,8 +52,9 @@ use std::alloc::{AllocError, Global};
 pub struct FixedBaseResolver<'a, S: Spec> {
     base: SplitView<'a, S, Absolute>,
     directory: &'a str,
-    // The prefix of relative paths has no dot segment, and nothing in it changes.
+    // The prefix of relative paths has no dot segment and no percent-encoded octet, and nothing in it changes.
     dotless: bool,
+    bare: bool,
     plain: bool,
     prefix: Option<&'a str>,
     // The path stays as it is in normal form, and so does the query.
@@ -67,7 +68,8 @@ pub struct FixedBaseResolver<'a, S: Spec> {
         × (path_stays ≡ true → is_plain_prefix (split_of (split_text base)) (split_of (split_text base)).path ≡ true)
         × (query_stays ≡ true → if_there (lacks percent_sign) (split_of (split_text base)).query ≡ true)
         × (keeps_port ≡ true → ends_in_port (split_of (split_text base)).authority ≡ false)
-        × (dotless ≡ true → has_dot_segment directory.now ≡ false) } by { Prim.hlevel props },
+        × (dotless ≡ true → has_dot_segment directory.now ≡ false)
+        × (bare ≡ true → lacks percent_sign directory.now ≡ true) } by { Prim.hlevel props },
 }
 
 // What comes before a reference with a scheme, of which nothing changes but its percent-encoded octets: nothing.
@@ -126,12 +128,14 @@ impl<'a, S: Spec> FixedBaseResolver<'a, S> {
     {
         let directory = merge_prefix(base.parts());
         let dotless = !has_dot_segment(directory);
-        let plain = base.parts().authority().is_some() && dotless && lacks(directory, b'%');
+        let bare = lacks(directory, b'%');
+        let plain = base.parts().authority().is_some() && dotless && bare;
         let prefix = normal_prefix(&base);
         FixedBaseResolver {
             base,
             directory,
             dotless,
+            bare,
             plain,
             prefix,
             path_stays: keeps_path(&base),
@@ -193,6 +197,7 @@ impl<'a, S: Spec> FixedBaseResolver<'a, S> {
             self.base.parts(),
             self.directory,
             self.dotless,
+            self.bare,
             reference.parts(),
         )
     }

@@ -1,6 +1,7 @@
 // The target of a reference against a base.
 ghost use Rattle.std.specs.Prelude.{◌≡◌, ◌++◌, ◌||◌, cond, is_some, None, false, true};
 ghost use Rattle.memchr.specs.Find.{IsLastByte, is_byte};
+ghost use Rattle.iri_grammar.specs.Cut.{lacks};
 ghost use Rattle.iri_grammar.specs.Parts.{starts_with_slash};
 ghost use Rattle.iri_grammar.specs.Splitters.{parts};
 ghost use Rattle.iri_grammar.specs.OptionalSlices.{now_of};
@@ -8,7 +9,7 @@ ghost use Rattle.iri_normal.specs.Dots.{has_dot_segment};
 ghost use Rattle.iri_normal.specs.Target.{takes_base_path, target, target_under, to_last_slash, merge_prefix};
 ghost use Rattle.iri_normal.specs.Target.{ends_at_slash, last_segment};
 ghost use Rattle.iri_normal.specs.Slices.{merged, slices};
-ghost use Rattle.iri_grammar.specs.Characters.{slash};
+ghost use Rattle.iri_grammar.specs.Characters.{percent_sign, slash};
 
 use crate::merged_path::MergedPath;
 use iri_grammar::splitter::Splitter;
@@ -74,9 +75,10 @@ pub(crate) fn starts_with_slash(path: &str) -> bool
 }
 
 // The path of a reference that has one, with neither scheme nor authority (section 5.2.3).
-fn merge<'a>(base: &'a str, path: &'a str, plain: bool) -> MergedPath<'a>
+fn merge<'a>(base: &'a str, path: &'a str, plain: bool, bare: bool) -> MergedPath<'a>
     requires ends { ends_at_slash base.now ≡ true }
     requires plain { plain ≡ true → has_dot_segment base.now ≡ false }
+    requires bare { bare ≡ true → lacks percent_sign base.now ≡ true }
     ensures { merged result ≡ cond (starts_with_slash path.now) path.now (base.now ++ path.now) }
 {
     if starts_with_slash(path) {
@@ -86,6 +88,7 @@ fn merge<'a>(base: &'a str, path: &'a str, plain: bool) -> MergedPath<'a>
         base,
         reference: path,
         plain,
+        bare,
     }
 }
 
@@ -95,11 +98,13 @@ fn after_base<'a>(
     base: &Splitter<'a>,
     directory: &'a str,
     plain: bool,
+    bare: bool,
     reference: &Splitter<'a>,
 ) -> TargetSlices<'a>
     requires prefix { directory.now ≡ merge_prefix (parts base.now) }
     requires ends { ends_at_slash directory.now ≡ true }
     requires plain { plain ≡ true → has_dot_segment directory.now ≡ false }
+    requires bare { bare ≡ true → lacks percent_sign directory.now ≡ true }
     ensures parts { slices result ≡ target_under (parts base.now) (parts reference.now) None None }
 {
     let path = reference.path();
@@ -116,7 +121,7 @@ fn after_base<'a>(
         TargetSlices {
             scheme: base.scheme(),
             authority: base.authority(),
-            path: merge(directory, path, plain),
+            path: merge(directory, path, plain, bare),
             query: reference.query(),
             fragment,
         }
@@ -137,24 +142,26 @@ fn under_scheme<'a>(scheme: Option<&'a str>, reference: &Splitter<'a>) -> Target
 }
 
 /// The target of a reference against a base (RFC 3986 sections 5.2.2 and 5.2.3), with its dot segments kept. `directory` is the base's prefix, by
-/// `merge_prefix`, and `plain` says that it has no dot segment.
+/// `merge_prefix`, `plain` says that it has no dot segment, and `bare` that it has no percent-encoded octet.
 #[tactic(auto, unfolding(crate::specs::Target::target))]
 #[inline(always)]
 pub fn target<'a>(
     base: &Splitter<'a>,
     directory: &'a str,
     plain: bool,
+    bare: bool,
     reference: &Splitter<'a>,
 ) -> TargetSlices<'a>
     requires prefix { directory.now ≡ merge_prefix (parts base.now) }
     requires ends { ends_at_slash directory.now ≡ true }
     requires plain { plain ≡ true → has_dot_segment directory.now ≡ false }
+    requires bare { bare ≡ true → lacks percent_sign directory.now ≡ true }
     ensures parts { slices result ≡ target (parts base.now) (parts reference.now) }
 {
     match (reference.scheme(), reference.authority()) {
         (Some(scheme), _) => under_scheme(Some(scheme), reference),
         (None, Some(_)) => under_scheme(base.scheme(), reference),
-        (None, None) => after_base(base, directory, plain, reference),
+        (None, None) => after_base(base, directory, plain, bare, reference),
     }
 }
 

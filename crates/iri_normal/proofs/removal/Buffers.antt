@@ -3,7 +3,7 @@ use Rattle.iri_normal.proofs.Common.{unwrap_or, ◌≡◌, ℕ, Bool, true, fals
 use Rattle.iri_normal.proofs.Common.{◌∙◌, ap, subst, append_assoc, append-nil, or_parts, before, after, is_empty, pieces, more_pieces}
 use Rattle.iri_normal.proofs.Common.{pieces_cut, is_two_dots, without_last, dots, is_dot_segment, any_dot_segment, has_dot_segment}
 use Rattle.iri_normal.proofs.Common.{ends_at_slash, popped, left, written_segments, written, ◌+◌, ◌-◌, ◌<◌, ◌≤◌, arith, length, take, drop}
-use Rattle.iri_normal.proofs.Common.{is_byte, IsLastByte, length-take-le, take-append-drop, lacks, by_test, not, ◌&&◌, Tests, path_char, is_path}
+use Rattle.iri_normal.proofs.Common.{is_byte, IsLastByte, length-take-le, take-append-drop, lacks, lacks-append, both, by_test, not, ◌&&◌, ◌==◌, Tests, path_char, is_path}
 use Rattle.iri_normal.proofs.Common.{text_over, text_over-append, nothing_over}
 use Rattle.iri_grammar.proofs.hosts.Ipv6Laws.{joined_pieces}
 use Rattle.iri_grammar.specs.Pieces.{joined}
@@ -250,3 +250,23 @@ popped-path s (x ∷ xs) h e =
     let prefix = (text_over-cut (path_char s) r.prefix [] (subst (λ l. is_path s l ≡ true) r.whole h)).left in
     subst (λ l. is_path s l ≡ true) (sym (ap popped r.whole ∙ popped-output r.prefix))
     (segment-path s (without_last r.prefix) (without_last-over (path_char s) r.prefix prefix))
+
+-- what has no percent-encoded octet
+but_last-lacks : (t : List ℕ) → lacks 37 t ≡ true → lacks 37 (but_last t) ≡ true
+but_last-lacks [] h = refl
+but_last-lacks (x ∷ []) h = refl
+but_last-lacks (x ∷ y ∷ ys) h = let k = both (not (x == 37)) (lacks 37 (y ∷ ys)) h in rw k.0 (but_last-lacks (y ∷ ys) k.1)
+
+without_last-lacks : (t : List ℕ) → lacks 37 t ≡ true → lacks 37 (without_last t) ≡ true
+without_last-lacks [] h = refl
+without_last-lacks (x ∷ xs) h =
+    let k = both (not (x == 37)) (lacks 37 xs) h in
+    elim (lacks 47 xs) as (λ b. lacks 37 (cond b [] (x ∷ without_last xs)) ≡ true) [
+      | true ↦ refl
+      | false ↦ rw k.0 (without_last-lacks xs k.1)
+    ]
+
+pub popped-lacks : (d : List ℕ) → lacks 37 d ≡ true → lacks 37 (popped d) ≡ true
+popped-lacks [] h = h
+popped-lacks (x ∷ xs) h =
+    lacks-append 37 (without_last (but_last (x ∷ xs))) (47 ∷ []) (without_last-lacks (but_last (x ∷ xs)) (but_last-lacks (x ∷ xs) h)) refl

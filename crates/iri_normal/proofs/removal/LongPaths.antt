@@ -8,13 +8,14 @@ use Rattle.iri_normal.proofs.Common.{true, false, cond, not, ◌&&◌, ◌||◌,
 use Rattle.iri_normal.proofs.Common.{arith, append_assoc, length, take, drop, append-nil}
 use Rattle.iri_grammar.proofs.authorities.AuthorityTexts.{text_over-utf8}
 use Rattle.iri_grammar.proofs.splits.FirstBytes.{found}
+use Rattle.iri_percent.proofs.forms.PlainTexts.{pct-same}
 use Rattle.iri_normal.proofs.segments.Slashes.{EndSlash, end_slash, first_whole, rest-ends, slash-ends, take-ends}
 use Rattle.iri_normal.proofs.removal.KeptSegments.{kept-ends, kept-two, stays-after, taken-two}
 use Rattle.iri_normal.proofs.removal.WrittenPaths.{form-append, form-nil}
 use Rattle.iri_normal.proofs.segments.DotKinds.{nothing-is_no_dot, pieces-some}
 use Rattle.iri_normal.proofs.targets.Targets.{parts_over}
 use Rattle.iri_normal.proofs.targets.CutTexts.{text_over-cut}
-use Rattle.iri_normal.proofs.removal.Buffers.{left-nothing, popped-ends, popped-path, written-dot, written-dots, written-nothing, written-parts}
+use Rattle.iri_normal.proofs.removal.Buffers.{left-nothing, popped-ends, popped-lacks, popped-path, written-dot, written-dots, written-nothing, written-parts}
 use Rattle.iri_normal.proofs.removal.Buffers.{written-plain, written-two}
 use Rattle.iri_normal.specs.inside.NextDots.{IsCut, IsNext}
 use Rattle.memchr.specs.Find.{IsFirstByte}
@@ -164,11 +165,6 @@ more-ends t (x ∷ xs) r e c =
 none-taken : taken (pieces 47 []) 0 ≡ 0
 none-taken = rw nothing-is_no_dot refl
 
--- what is taken away of a part before nil_from_length, or before more
-pub count-ends : (m r : List ℕ) (k : ℕ) → k ≡ taken (pieces 47 m) 0 → (is_empty m || ends_at_slash r) ≡ true → (ends_at_slash r || k == 0) ≡ true
-count-ends [] r k e c = ap (λ n. ends_at_slash r || n == 0) (e ∙ none-taken) ∙ or-true (ends_at_slash r)
-count-ends (x ∷ xs) r k e c = ap (λ b. b || k == 0) c
-
 taken-more : (r m : List ℕ) → (is_empty m || ends_at_slash r) ≡ true → taken (pieces 47 (r ++ m)) 0 ≡ taken (pieces 47 r) (taken (pieces 47 m) 0)
 taken-more r [] c = ap (λ l. taken (pieces 47 l) 0) (append-nil r) ∙ ap (taken (pieces 47 r)) (sym none-taken)
 taken-more r (x ∷ xs) c = taken-two r (x ∷ xs) 0 c
@@ -187,7 +183,7 @@ times-ends zero b h = h
 times-ends (suc n) b h = times-ends n (popped b) (popped-ends b)
 
 -- a directory isn't empty, and ends with a slash
-pub directory-end : (d : List ℕ) → (ends_at_slash d && not (is_empty d)) ≡ true → EndSlash d
+directory-end : (d : List ℕ) → (ends_at_slash d && not (is_empty d)) ≡ true → EndSlash d
 directory-end [] h = cc
 directory-end (x ∷ xs) h = end_slash (x ∷ xs) (both (ends_at_slash (x ∷ xs)) true h).0 (omega arith)
 
@@ -201,6 +197,22 @@ segment-directory (x ∷ xs) = ap (λ b. b && true) (slash-ends (x ∷ xs))
 pub times-path : (s : Tests) (n : ℕ) (d : List ℕ) → is_path s d ≡ true → ends_at_slash d ≡ true → is_path s (popped_times n d) ≡ true
 times-path s zero d h e = h
 times-path s (suc n) d h e = times-path s n (popped d) (popped-path s d h e) (popped-ends d)
+
+times-lacks : (n : ℕ) (d : List ℕ) → lacks 37 d ≡ true → lacks 37 (popped_times n d) ≡ true
+times-lacks zero d h = h
+times-lacks (suc n) d h = times-lacks n (popped d) (popped-lacks d h)
+
+form-bare : (s : Tests) (normal bare : Bool) (t : List ℕ) → (bare ≡ true → lacks 37 t ≡ true)
+    → in_form s (normal && not bare) t ≡ in_form s normal t
+form-bare s false bare t h = refl
+form-bare s true false t h = refl
+form-bare s true true t h = sym (pct-same s t (h refl))
+
+-- what stays of a directory, which may be known to have no percent-encoded octet
+pub form-parent : (s : Tests) (normal bare : Bool) (d p : List ℕ) (i : ℕ) → (bare ≡ true → lacks 37 d ≡ true) → p ≡ popped_times i d
+    → in_form s (normal && not bare) p ≡ in_form s normal (popped_times i d)
+form-parent s normal bare d p i h e =
+    ap (in_form s (normal && not bare)) e ∙ form-bare s normal bare (popped_times i d) (λ b. times-lacks i d (h b))
 
 -- what stays of a directory, of what follows it, and of what follows that
 pub form-three : (s : Tests) (normal : Bool) (d t m : List ℕ) (i k : ℕ) → (ends_at_slash d && not (is_empty d)) ≡ true

@@ -102,7 +102,7 @@ fn pop_times(buf: &mut [u8; SHORT], len: usize, count: usize) -> usize
     end
 }
 
-// The same of an empty buffer. `plain` says that the path has no dot segment.
+// Puts a path into the empty buffer, without its dot segments. `plain` says that it has none.
 fn put_first(buf: &mut [u8; SHORT], path: &[u8], plain: bool) -> usize
     requires short { length path.now ≤ 128 }
     requires plain { plain ≡ true → has_dot_segment path.now ≡ false }

@@ -133,6 +133,9 @@ fn slash_to_cut(text: &[u8]) -> Option<usize>
 }
 
 // A path cut after a segment, about an eighth of it after the cut where that can be. `None` where it is one segment.
+//
+// What is after a cut is counted before it is shown, and each part is cut again until it is short. By halves all counts together would
+// go four and a half times through a path of 64 KiB, nine calls deep; by eighths twice, 47 calls deep. Any share is right.
 pub(crate) fn cut_eighth(text: &str) -> Option<(&str, &str)>
     requires { 8 ≤ length text.now }
     ensures { MatchOption result (lacks slash (take (length text.now - 1) text.now) ≡ true)
