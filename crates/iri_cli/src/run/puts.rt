@@ -21,6 +21,7 @@ pub(crate) fn put_number<O: Sink>(sink: &mut O, number: usize) -> Result<(), Fai
 }
 
 /// Puts a good answer: the mark `ok ` as a piece of its own, then its text, which ends in an LF.
+#[inline(always)]
 pub(crate) fn put_good_text<O: Sink>(sink: &mut O, text: &str) -> Result<(), Failed>
     ensures { let state = sink_state O.written O.faults O.room_left in
         PutsAll (state sink.old) (state sink.new) result (codes "ok " ++ text.now) }
