@@ -1,5 +1,5 @@
 -- A text without a fault is a field value: that of the link-values that a reading gives.
-use Rattle.iri_link.proofs.Common.{◌≡◌, ℕ, zero, suc, ◌+◌, ◌<◌, Bool, true, false, List, [], ◌∷◌, ◌++◌, Option, Some, None, inl, inr, refl, sym, ap}
+use Rattle.iri_link.proofs.Common.{◌≡◌, ℕ, zero, suc, ◌+◌, ◌<◌, true, false, List, [], ◌∷◌, ◌++◌, Option, Some, None, inl, inr, refl, sym, ap}
 use Rattle.iri_link.proofs.Common.{◌∙◌, subst, append_assoc, ◌==◌, All, str_to_ascii_lowercase, is_utf8, append-nil, All-cons, arith, length, take, drop}
 use Rattle.iri_link.proofs.Common.{All-nil, IsUtf8-from_is_utf8, Tests, before, after, delimited, reference_fault, is_blank, run_of, first_passes}
 use Rattle.iri_link.proofs.Common.{is_blanks, is_token_char, LinkParam, unquoted}
@@ -17,14 +17,11 @@ use Rattle.iri_link.proofs.ParamLemmas.{no_value, token_value, string_value, nam
 use Rattle.iri_link.proofs.GrammarLemmas.{element-parts, field-given, params-parts}
 use Rattle.iri_link.proofs.PhaseLemmas.{fault-blanks, comma-same, target-given}
 use Rattle.iri_link.proofs.QuotedLemmas.{cut_at}
-use Rattle.iri_link.proofs.RunLemmas.{run-is, mark}
+use Rattle.iri_link.proofs.RunLemmas.{run-is, mark, when}
 use Rattle.iri_link.proofs.TargetLemmas.{some-lacks, none-lacks, open_goes, target_none}
 use Rattle.iri_link.specs.Readings.{links_in}
 
 -- ---- tests
-when : (b : Bool) (P : Type 0) → (b ≡ true → P) → (b ≡ false → P) → P
-when b P on off = elim b as (λ v. b ≡ v → P) [ true ↦ on | false ↦ off ] refl
-
 pub none_of : (a b : Option Fault) → earlier a b ≡ None → (a ≡ None) × (b ≡ None)
 none_of None b h = (refl, h)
 none_of (Some e) b h = cc

@@ -1,11 +1,12 @@
 -- How the first fault of a text, and what it gives, go on over runs.
-use Rattle.iri_link.proofs.Common.{◌≡◌, ℕ, Bool, true, false, not, cond, ◌&&◌, List, [], ◌∷◌, ◌++◌, Option, None, Some, refl, sym, ◌∙◌, ap, subst, ◌==◌, ◌||◌, list_all}
+use Rattle.iri_link.proofs.Common.{◌≡◌, ℕ, Bool, true, false, not, ◌&&◌, List, [], ◌∷◌, ◌++◌, Option, None, Some, refl, sym, ◌∙◌, ap, subst, ◌==◌, ◌||◌, list_all}
 use Rattle.iri_link.proofs.Common.{Tests, both, by_test, test_apart, append_assoc, is_blank, is_token_char, is_pair_char, is_plain_char, lacks, Phase, before_link, in_target, after_param}
-use Rattle.iri_link.proofs.Common.{after_semicolon, in_name, after_name, after_equals, in_token, in_quoted, next, fault_from, closes_from, first_passes, str_to_ascii_lowercase}
+use Rattle.iri_link.proofs.Common.{after_semicolon, in_name, after_name, after_equals, in_token, in_quoted, fault_from, closes_from, first_passes, str_to_ascii_lowercase}
 use Rattle.iri_link.proofs.Common.{IsQuoted, done, plain, pair, IsValue, token, quoted}
 use Rattle.iri_link.specs.Fault.{Fault}
 use Rattle.iri_link.specs.Phases.{in_pair}
-use Rattle.iri_link.specs.Readings.{Reading, of_links, of_params, of_value, more, param_end, reading}
+use Rattle.iri_link.proofs.RunLemmas.{when}
+use Rattle.iri_link.specs.Readings.{Reading, of_links, of_params, of_value, more, reading}
 
 -- ---- what a text comes to
 -- the first fault of what is left, and what it gives
@@ -23,50 +24,32 @@ with_text t r = record { text = t; value = None; params = r.params; links = r.li
 abbrev pub with_name : List ℕ → Reading → Reading
 with_name n r = record { text = n; value = r.value; params = r.params; links = r.links }
 
-end_form : (c : ℕ) (r : Reading) → with_text [] (param_end c r) ≡ param_end c r
-end_form c r =
-    by_test c 44 (λ b. with_text [] (cond b (of_links r.links) (of_params r.params r.links)) ≡ cond b (of_links r.links) (of_params r.params r.links)) (λ _. refl) (λ _. refl)
+-- between targets, names and values nothing is left of one, nor, but after a name, a value
+record Forms (t : List ℕ) : Type 0 where
+  start : of_links (reading before_link t).links ≡ reading before_link t
+  param : with_text [] (reading after_param t) ≡ reading after_param t
+  semicolon : with_text [] (reading after_semicolon t) ≡ reading after_semicolon t
+  name : with_name [] (reading after_name t) ≡ reading after_name t
 
-ready_form : (t : List ℕ) → with_text [] (reading after_param t) ≡ reading after_param t
+forms : (t : List ℕ) → Forms t
 unfolding reading
-ready_form [] = refl
-ready_form (c ∷ cs) = end_form c (reading (next after_param c) cs)
-
-semicolon_form : (t : List ℕ) → with_text [] (reading after_semicolon t) ≡ reading after_semicolon t
-unfolding reading
-semicolon_form [] = refl
-semicolon_form (c ∷ cs) = at_token (is_token_char c) c (reading (next after_semicolon c) cs)
-  where
-    at_token : (b : Bool) (c : ℕ) (r : Reading)
-        → with_text [] (cond b (of_params (record { name = str_to_ascii_lowercase (c ∷ r.text); value = r.value } ∷ r.params) r.links) (param_end c r))
-        ≡ cond b (of_params (record { name = str_to_ascii_lowercase (c ∷ r.text); value = r.value } ∷ r.params) r.links) (param_end c r)
-    at_token true c r = refl
-    at_token false c r = end_form c r
-
-start_form : (t : List ℕ) → of_links (reading before_link t).links ≡ reading before_link t
-unfolding reading
-start_form [] = refl
-start_form (c ∷ cs) = at_open (c == 60) (reading (next before_link c) cs)
-  where
-    at_open : (b : Bool) (r : Reading) → of_links (cond b (of_links (record { target = r.text; params = r.params } ∷ r.links)) (of_links r.links)).links
-        ≡ cond b (of_links (record { target = r.text; params = r.params } ∷ r.links)) (of_links r.links)
-    at_open true r = refl
-    at_open false r = refl
-
-name_form : (t : List ℕ) → with_name [] (reading after_name t) ≡ reading after_name t
-unfolding reading
-name_form [] = refl
-name_form (c ∷ cs) = at_end (c == 61) (c == 59 || c == 44) c (reading (next after_name c) cs)
-  where
-    at_end : (a b : Bool) (c : ℕ) (r : Reading) → with_name [] (cond a (of_value (Some r.text) r) (cond b (param_end c r) (of_value r.value r)))
-        ≡ cond a (of_value (Some r.text) r) (cond b (param_end c r) (of_value r.value r))
-    at_end true b c r = refl
-    at_end false true c r =
-        by_test c 44 (λ b. with_name [] (cond b (of_links r.links) (of_params r.params r.links)) ≡ cond b (of_links r.links) (of_params r.params r.links)) (λ _. refl) (λ _. refl)
-    at_end false false c r = refl
+forms [] = record { start = refl; param = refl; semicolon = refl; name = refl }
+forms (c ∷ cs) =
+    let i = forms cs in
+    let comma = ap (with_text []) (sym i.start) ∙ i.start in
+    let P : Type 0 = with_text [] (reading after_param (c ∷ cs)) ≡ reading after_param (c ∷ cs) in
+    let Q : Type 0 = with_text [] (reading after_semicolon (c ∷ cs)) ≡ reading after_semicolon (c ∷ cs) in
+    let N : Type 0 = with_name [] (reading after_name (c ∷ cs)) ≡ reading after_name (c ∷ cs) in
+    record {
+      start = when (c == 60) (of_links (reading before_link (c ∷ cs)).links ≡ reading before_link (c ∷ cs)) (λ k. rw k refl) (λ k. rw k i.start);
+      param = when (c == 59) P (λ k. rw k i.semicolon) (λ k. when (c == 44) P (λ m. rw (k, m) comma) (λ m. rw (k, m) i.param));
+      semicolon = when (is_token_char c) Q (λ k. rw k refl) (λ k. when (c == 44) Q (λ m. rw (k, m) comma) (λ m. rw (k, m) i.semicolon));
+      name = when (c == 61) N (λ k. rw k refl) (λ k. when (c == 59) N (λ m. rw (k, m) (ap (with_name []) (sym i.semicolon) ∙ i.semicolon))
+          (λ m. when (c == 44) N (λ n. rw (k, m, n) (ap (with_name []) (sym i.start) ∙ i.start)) (λ n. rw (k, m, n) i.name)));
+    }
 
 pub ready : (s : Tests) (t : List ℕ) → outcome s after_param t ≡ giving (with_text []) (outcome s after_param t)
-ready s t = ap (λ r. (fault_from s after_param t, r)) (sym (ready_form t))
+ready s t = ap (λ r. (fault_from s after_param t, r)) (sym (forms t).param)
 
 -- ---- blanks
 by_blank : (c : ℕ) (P : ℕ → Type 0) → P 32 → P 9 → is_blank c ≡ true → P c
@@ -84,20 +67,16 @@ skips _ = false
 
 blank_step : (s : Tests) (p : Phase) → skips p ≡ true → (c : ℕ) (cs : List ℕ) → is_blank c ≡ true → outcome s p (c ∷ cs) ≡ outcome s p cs
 unfolding fault_from reading
-blank_step s before_link k c cs h =
-    let e = ap (λ r. (fault_from s before_link cs, r)) (start_form cs) in by_blank c (λ d. outcome s before_link (d ∷ cs) ≡ outcome s before_link cs) e e h
-blank_step s after_param k c cs h =
-    let e = ap (λ r. (fault_from s after_param cs, r)) (ready_form cs) in by_blank c (λ d. outcome s after_param (d ∷ cs) ≡ outcome s after_param cs) e e h
-blank_step s after_semicolon k c cs h =
-    let e = ap (λ r. (fault_from s after_semicolon cs, r)) (semicolon_form cs) in by_blank c (λ d. outcome s after_semicolon (d ∷ cs) ≡ outcome s after_semicolon cs) e e h
-blank_step s after_name k c cs h =
-    let e = ap (λ r. (fault_from s after_name cs, r)) (name_form cs) in by_blank c (λ d. outcome s after_name (d ∷ cs) ≡ outcome s after_name cs) e e h
-blank_step s after_equals k c cs h = by_blank c (λ d. outcome s after_equals (d ∷ cs) ≡ outcome s after_equals cs) refl refl h
-blank_step s in_target k c cs h = cc
-blank_step s in_name k c cs h = cc
-blank_step s in_token k c cs h = cc
-blank_step s in_quoted k c cs h = cc
-blank_step s in_pair k c cs h = cc
+blank_step s before_link k c cs = by_blank c (λ d. outcome s before_link (d ∷ cs) ≡ outcome s before_link cs) refl refl
+blank_step s after_param k c cs = by_blank c (λ d. outcome s after_param (d ∷ cs) ≡ outcome s after_param cs) refl refl
+blank_step s after_semicolon k c cs = by_blank c (λ d. outcome s after_semicolon (d ∷ cs) ≡ outcome s after_semicolon cs) refl refl
+blank_step s after_name k c cs = by_blank c (λ d. outcome s after_name (d ∷ cs) ≡ outcome s after_name cs) refl refl
+blank_step s after_equals k c cs = by_blank c (λ d. outcome s after_equals (d ∷ cs) ≡ outcome s after_equals cs) refl refl
+blank_step s in_target k c cs = cc
+blank_step s in_name k c cs = cc
+blank_step s in_token k c cs = cc
+blank_step s in_quoted k c cs = cc
+blank_step s in_pair k c cs = cc
 
 -- blanks change nothing
 pub blanks : (s : Tests) (p : Phase) → skips p ≡ true → (a y : List ℕ) → list_all is_blank a ≡ true → outcome s p (a ++ y) ≡ outcome s p y
@@ -118,7 +97,7 @@ un-not false h = refl
 
 pub target-given : (s : Tests) (t y : List ℕ) → lacks 62 t ≡ true → outcome s in_target (t ++ 62 ∷ y) ≡ giving (with_text t) (outcome s after_param y)
 unfolding fault_from reading
-target-given s [] y h = refl
+target-given s [] y h = ready s y
 target-given s (c ∷ cs) y h =
     let k = both (not (c == 62)) (lacks 62 cs) h in
     rw (un-not (c == 62) k.0) (ap (giving (more c)) (target-given s cs y k.1))
@@ -127,7 +106,7 @@ target-given s (c ∷ cs) y h =
 quoted-given : (s : Tests) (t v z : List ℕ) → IsQuoted t v
     → (closes_from false (t ++ 34 ∷ z) ≡ true) × (outcome s in_quoted (t ++ 34 ∷ z) ≡ giving (with_text v) (outcome s after_param z))
 unfolding closes_from fault_from reading
-quoted-given s t v z done = (refl, refl)
+quoted-given s t v z done = (refl, ready s z)
 quoted-given s t v z (plain c u w h r) =
     let a = test_apart is_plain_char 34 c refl h in
     let b = test_apart is_plain_char 92 c refl h in
@@ -178,7 +157,7 @@ name-ends s (c ∷ cs) e = rw e refl
 pub name-given : (s : Tests) (n y : List ℕ) → list_all is_token_char n ≡ true → first_passes is_token_char y ≡ false
     → outcome s in_name (n ++ y) ≡ giving (with_name n) (outcome s after_name y)
 unfolding fault_from reading
-name-given s [] y h e = name-ends s y e ∙ ap (λ r. (fault_from s after_name y, r)) (sym (name_form y))
+name-given s [] y h e = name-ends s y e ∙ ap (λ r. (fault_from s after_name y, r)) (sym (forms y).name)
 name-given s (c ∷ cs) y h e =
     let k = both (is_token_char c) (list_all is_token_char cs) h in rw k.0 (ap (giving (more c)) (name-given s cs y k.1 e))
 
@@ -198,7 +177,7 @@ name-equals s y = refl
 pub semicolon-same : (s : Tests) (y : List ℕ) → (outcome s after_name (59 ∷ y) ≡ outcome s after_semicolon y) × (outcome s after_param (59 ∷ y) ≡ outcome s after_semicolon y)
     × (outcome s after_semicolon (59 ∷ y) ≡ outcome s after_semicolon y)
 unfolding fault_from reading
-semicolon-same s y = let e = ap (λ r. (fault_from s after_semicolon y, r)) (semicolon_form y) in (e, e, e)
+semicolon-same s y = (refl, refl, refl)
 
 -- the same after a name, a parameter and a semicolon and before a link-value
 abbrev pub AllSame : Tests → List ℕ → Option Fault × Reading → Type 0
@@ -206,7 +185,7 @@ AllSame s y x = (outcome s after_name y ≡ x) × (outcome s after_param y ≡ x
 
 pub comma-same : (s : Tests) (y : List ℕ) → AllSame s (44 ∷ y) (fault_from s before_link y, of_links (reading before_link y).links)
 unfolding fault_from reading
-comma-same s y = (refl, refl, refl, refl)
+comma-same s y = let e = ap (λ r. (fault_from s before_link y, r)) (sym (forms y).start) in (e, e, e, e)
 
 pub end-same : (s : Tests) → AllSame s [] (None, of_links [])
 unfolding fault_from reading

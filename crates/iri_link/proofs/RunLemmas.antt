@@ -36,6 +36,10 @@ run-boundary k t u =
     let p = run_test k in
     IsCharBoundary-from_take t (run_of p t) u (run_of_le p t) (IsUtf8-from_ascii (take (run_of p t) t) (all-at p (run-low k) (take (run_of p t) t) (run-is p t).all))
 
+-- ---- tests
+pub when : (b : Bool) (P : Type 0) → (b ≡ true → P) → (b ≡ false → P) → P
+when b P on off = elim b as (λ v. b ≡ v → P) [ true ↦ on | false ↦ off ] refl
+
 -- ---- the first byte
 -- whether m comes first
 pub mark : (m : ℕ) (t : List ℕ) → (first_passes (λ c. c == m) t ≡ false) ⊎ ((r : List ℕ) × (t ≡ m ∷ r))

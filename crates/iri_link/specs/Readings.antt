@@ -1,7 +1,7 @@
 -- The link-values in a text, as a function: what a reading gives, byte by byte from the right. A law ties it to `IsField`.
 use Rattle.std.specs.Prelude.{ℕ, cond, ◌==◌, ◌||◌, List, [], ◌∷◌, Option, Some, None}
 use Rattle.std.specs.Str.{str_to_ascii_lowercase}
-use Rattle.iri_grammar.specs.Characters.{comma, equals_sign, semicolon}
+use Rattle.iri_grammar.specs.Characters.{equals_sign}
 use Rattle.iri_link.specs.Characters.{backslash, greater_than_sign, less_than_sign, quotation_mark}
 use Rattle.iri_link.specs.Field.{LinkParam, LinkValue}
 use Rattle.iri_link.specs.Phases.{Phase, before_link, in_target, after_param, after_semicolon, in_name, after_name, after_equals}
@@ -28,28 +28,22 @@ of_value v r = record { text = []; value = v; params = r.params; links = r.links
 abbrev pub more : ℕ → Reading → Reading
 more c r = record { text = c ∷ r.text; value = r.value; params = r.params; links = r.links }
 
--- at a byte after a parameter
-abbrev pub param_end : ℕ → Reading → Reading
-param_end c r = cond (c == comma) (of_links r.links) (of_params r.params r.links)
-
 -- at a byte after a name
 abbrev pub name_end : ℕ → Reading → Reading
-name_end c r =
-    cond (c == equals_sign) (of_value (Some r.text) r) (cond (c == semicolon || c == comma) (param_end c r) (of_value r.value r))
+name_end c r = cond (c == equals_sign) (of_value (Some r.text) r) r
 
--- what a byte gives, by what the text after it gives
+-- what a byte gives, by what the text after it gives; a byte that only parts gives nothing
 abbrev pub after : Phase → ℕ → Reading → Reading
-after before_link c r = cond (c == less_than_sign) (of_links (record { target = r.text; params = r.params } ∷ r.links)) (of_links r.links)
-after in_target c r = cond (c == greater_than_sign) (of_params r.params r.links) (more c r)
-after after_param c r = param_end c r
+after before_link c r = cond (c == less_than_sign) (of_links (record { target = r.text; params = r.params } ∷ r.links)) r
+after in_target c r = cond (c == greater_than_sign) r (more c r)
+after after_param c r = r
 after after_semicolon c r =
-    cond (is_token_char c) (of_params (record { name = str_to_ascii_lowercase (c ∷ r.text); value = r.value } ∷ r.params) r.links)
-    (param_end c r)
+    cond (is_token_char c) (of_params (record { name = str_to_ascii_lowercase (c ∷ r.text); value = r.value } ∷ r.params) r.links) r
 after in_name c r = cond (is_token_char c) (more c r) (name_end c r)
 after after_name c r = name_end c r
 after after_equals c r = cond (is_token_char c) (more c r) r
-after in_token c r = cond (is_token_char c) (more c r) (param_end c r)
-after in_quoted c r = cond (c == quotation_mark) (of_params r.params r.links) (cond (c == backslash) r (more c r))
+after in_token c r = cond (is_token_char c) (more c r) r
+after in_quoted c r = cond (c == quotation_mark || c == backslash) r (more c r)
 after in_pair c r = more c r
 
 unfoldable pub reading : Phase → List ℕ → Reading
