@@ -5,6 +5,7 @@ use Rattle.iri_link.proofs.Common.{after_semicolon, in_name, after_name, after_e
 use Rattle.iri_link.proofs.Common.{IsQuoted, done, plain, pair, IsValue, token, quoted}
 use Rattle.iri_link.specs.Fault.{Fault}
 use Rattle.iri_link.specs.Phases.{in_pair}
+use Rattle.std.proofs.lemmas.Bool.{not-true}
 use Rattle.iri_link.proofs.RunLemmas.{when}
 use Rattle.iri_link.specs.Readings.{Reading, of_links, of_params, of_value, more, reading}
 
@@ -91,16 +92,12 @@ blank_no_token [] y h e = e
 blank_no_token (c ∷ cs) y h e = by_blank c (λ d. is_token_char d ≡ false) refl refl (both (is_blank c) (list_all is_blank cs) h).0
 
 -- ---- targets
-un-not : (b : Bool) → not b ≡ true → b ≡ false
-un-not true h = cc
-un-not false h = refl
-
 pub target-given : (s : Tests) (t y : List ℕ) → lacks 62 t ≡ true → outcome s in_target (t ++ 62 ∷ y) ≡ giving (with_text t) (outcome s after_param y)
 unfolding fault_from reading
 target-given s [] y h = ready s y
 target-given s (c ∷ cs) y h =
     let k = both (not (c == 62)) (lacks 62 cs) h in
-    rw (un-not (c == 62) k.0) (ap (giving (more c)) (target-given s cs y k.1))
+    rw (not-true (c == 62) k.0) (ap (giving (more c)) (target-given s cs y k.1))
 
 -- ---- values
 quoted-given : (s : Tests) (t v z : List ℕ) → IsQuoted t v

@@ -1,9 +1,8 @@
 -- A run at the start of a text.
-use Rattle.iri_link.proofs.Common.{◌==◌, inl, inr, first_passes, ◌≡◌, ℕ, zero, suc, ◌<◌, Bool, true, false, cond, List, [], ◌∷◌, take, drop, refl, ap, arith, slice_index}
+use Rattle.iri_link.proofs.Common.{◌==◌, inl, inr, by_test, first_passes, ◌≡◌, ℕ, zero, suc, ◌<◌, Bool, true, false, cond, List, [], ◌∷◌, take, drop, refl, ap, arith, slice_index}
 use Rattle.iri_link.proofs.Common.{list_all, IsUtf8, IsCharBoundary, nat_tests, run_of, both, is_blank, is_token_char, run_test, IsRun}
 use Rattle.std.proofs.lemmas.Str.{IsUtf8-from_ascii, IsCharBoundary-from_take}
 use Rattle.std.proofs.Common.{◌⊎◌}
-use Rattle.iri_grammar.proofs.splits.CutLaws.{at_byte}
 use Rattle.iri_grammar.proofs.units.FirstUnits.{run_of_le}
 use Rattle.iri_link.specs.declared.runs.Run.{Run}
 use Rattle.iri_link.specs.declared.runs.Run.TheVariants.{Blank, Token}
@@ -40,8 +39,8 @@ run-boundary k t u =
 pub when : (b : Bool) (P : Type 0) → (b ≡ true → P) → (b ≡ false → P) → P
 when b P on off = elim b as (λ v. b ≡ v → P) [ true ↦ on | false ↦ off ] refl
 
--- ---- the first byte
 -- whether m comes first
 pub mark : (m : ℕ) (t : List ℕ) → (first_passes (λ c. c == m) t ≡ false) ⊎ ((r : List ℕ) × (t ≡ m ∷ r))
 mark m [] = inl refl
-mark m (c ∷ cs) = at_byte c m (λ d. (first_passes (λ x. x == m) (d ∷ cs) ≡ false) ⊎ ((r : List ℕ) × (d ∷ cs ≡ m ∷ r))) (inr (cs, refl)) (λ e. inl e)
+mark m (c ∷ cs) =
+    by_test c m (λ b. (b ≡ false) ⊎ ((r : List ℕ) × (c ∷ cs ≡ m ∷ r))) (λ e. inr (cs, ap (λ d. d ∷ cs) e)) (λ _. inl refl)

@@ -1,5 +1,5 @@
 -- The written form of link-values, shown from their text piece by piece.
-use Rattle.iri_link.proofs.Common.{◌≡◌, ℕ, Bool, true, false, ◌<◌, List, [], ◌∷◌, ◌++◌, Option, Some, None, length, map, refl, sym, ap, ◌∙◌, subst}
+use Rattle.iri_link.proofs.Common.{before_link, ◌≡◌, ℕ, Bool, true, false, ◌<◌, List, [], ◌∷◌, ◌++◌, Option, Some, None, length, map, refl, sym, ap, ◌∙◌, subst}
 use Rattle.iri_link.proofs.Common.{append_assoc, append-nil, arith, flat_map, Tests, before, after}
 use Rattle.iri_link.proofs.Common.{fault_from, first_passes, resolved, escaped, written_param, written, unquoted, unquoted_from, ◌==◌}
 use Rattle.iri_link.proofs.FieldLemmas.{none_of}
@@ -8,12 +8,9 @@ use Rattle.std.specs.Char.{to_ascii_lowercase}
 use Rattle.std.proofs.lemmas.List.{take-append-drop}
 use Rattle.iri_normal.specs.NormalForm.{canonical}
 use Rattle.iri_link.specs.Readings.{links_in}
-use Rattle.iri_link.specs.declared.halt.Halt.{Halt}
-use Rattle.iri_link.specs.declared.halt.Halt.TheVariants.{Fault as Halted, Memory}
 use Rattle.iri_link.specs.declared.piece.Piece.{Piece}
 use Rattle.iri_link.specs.declared.piece.Piece.TheVariants.{Target, Param, NoParam, Comma}
 use Rattle.iri_link.specs.inside.CutDelimiters.{IsChunk}
-use Rattle.iri_link.specs.inside.Halts.{IsFault}
 use Rattle.iri_link.specs.inside.Pieces.{Comes, Ends, Left, between_past, left_at, param_said, phase_at, piece_fault, piece_text, stands, with_piece}
 use Rattle.iri_link.proofs.QuotedLemmas.{after_pair, unquoted-chunk, after_pair-plain, after-shorter}
 use Rattle.iri_link.proofs.Utf8Lemmas.{escaped-append}
@@ -81,43 +78,30 @@ module _ (s : Tests) (base : List ℕ) where
   piece-written between NoParam l = refl
   piece-written between Comma l = refl
 
-  pub all_to_show : (text : List ℕ) → written (map (resolved s base) (links_in text)) ≡ [] ++ written_left [] (left_at false text)
+  -- what is shown and what is left to show of a text without a fault
+  pub record ToShow (all done between : List ℕ) (inside : Bool) (t : List ℕ) : Type 0 where
+    pub faultless : fault_from s (phase_at inside) t ≡ None
+    pub same : all ≡ done ++ written_left between (left_at inside t)
+
+  pub to_show : (text : List ℕ) → fault_from s before_link text ≡ None → ToShow (written (map (resolved s base) (links_in text))) [] [] false text
   unfolding written_left
-  all_to_show text = all_left (map (resolved s base) (links_in text))
+  to_show text h = record { faultless = h; same = all_left (map (resolved s base) (links_in text)) }
 
-  -- a piece of a text without a fault has none, and none comes after it
-  pub faultless_piece : (p : Bool) (t rest : List ℕ) (x : Piece) → Comes p t x rest → fault_from s (phase_at p) t ≡ None
-      → (piece_fault s x ≡ None) × (fault_from s (phase_at (stands x)) rest ≡ None)
-  faultless_piece p t rest x k none = none_of (piece_fault s x) (fault_from s (phase_at (stands x)) rest) (sym (k.goes s) ∙ none)
+  module _ (all done between : List ℕ) (p : Bool) (t : List ℕ) (k : ToShow all done between p t) where
+    -- nothing is left at the end
+    pub all_shown : Ends p t → done ≡ all
+    unfolding written_left
+    all_shown e = sym (k.same ∙ (ap (λ l. done ++ written_left between l) (e.none_left s) ∙ append-nil done))
 
-  -- what is left after a piece
-  pub left_past : (p : Bool) (t rest between done all : List ℕ) (x : Piece) → Comes p t x rest → fault_from s (phase_at p) t ≡ None
-      → all ≡ done ++ written_left between (left_at p t)
-      → all ≡ (done ++ piece_text s base between x) ++ written_left (between_past between x) (left_at (stands x) rest)
-  left_past p t rest between done all x k none same =
-      let valid = (faultless_piece p t rest x k none).1 in
-      same ∙ (ap (λ z. done ++ z) (ap (written_left between) (k.reads s valid) ∙ piece-written between x (left_at (stands x) rest))
-      ∙ sym (append_assoc done (piece_text s base between x) (written_left (between_past between x) (left_at (stands x) rest))))
+    module _ (rest : List ℕ) (x : Piece) (c : Comes p t x rest) where
+      faultless_past : (piece_fault s x ≡ None) × (fault_from s (phase_at (stands x)) rest ≡ None)
+      faultless_past = none_of (piece_fault s x) (fault_from s (phase_at (stands x)) rest) (sym (c.goes s) ∙ k.faultless)
 
-  -- the same, where the walk is told to stand
-  pub left_told : (p q : Bool) (t rest between told done all : List ℕ) (x : Piece) → Comes p t x rest → fault_from s (phase_at p) t ≡ None
-      → all ≡ done ++ written_left between (left_at p t) → q ≡ stands x → told ≡ between_past between x
-      → all ≡ (done ++ piece_text s base between x) ++ written_left told (left_at q rest)
-  left_told p q t rest between told done all x k none same at past =
-      left_past p t rest between done all x k none same
-      ∙ (ap (λ b. (done ++ piece_text s base between x) ++ written_left b (left_at (stands x) rest)) (sym past)
-      ∙ ap (λ b. (done ++ piece_text s base between x) ++ written_left told (left_at b rest)) (sym at))
+      -- what is left past a piece
+      pub left_past : all ≡ (done ++ piece_text s base between x) ++ written_left (between_past between x) (left_at (stands x) rest)
+      left_past =
+          k.same ∙ (ap (λ z. done ++ z) (ap (written_left between) (c.reads s faultless_past.1) ∙ piece-written between x (left_at (stands x) rest))
+          ∙ sym (append_assoc done (piece_text s base between x) (written_left (between_past between x) (left_at (stands x) rest))))
 
-  pub still_faultless : (p q : Bool) (t rest : List ℕ) (x : Piece) → Comes p t x rest → fault_from s (phase_at p) t ≡ None → q ≡ stands x
-      → fault_from s (phase_at q) rest ≡ None
-  still_faultless p q t rest x k none at = ap (λ b. fault_from s (phase_at b) rest) at ∙ (faultless_piece p t rest x k none).1
-
-  -- nothing is left at the end
-  pub none_left_at : (p : Bool) (t between done all : List ℕ) → Ends p t → all ≡ done ++ written_left between (left_at p t) → done ≡ all
-  unfolding written_left
-  none_left_at p t between done all e same = sym (same ∙ (ap (λ l. done ++ written_left between l) (e.none_left s) ∙ append-nil done))
-
-  -- a walk over a text without a fault isn't refused
-  pub never_wrong : (e : Halt) (p : Bool) (t : List ℕ) → IsFault e (fault_from s (phase_at p) t) → fault_from s (phase_at p) t ≡ None → ⊥
-  never_wrong (Halted k r) p t is none = let f = sym is ∙ none in cc
-  never_wrong Memory p t is none = is
+      pub shown_past : (q : Bool) (told : List ℕ) → q ≡ stands x → told ≡ between_past between x → ToShow all (done ++ piece_text s base between x) told q rest
+      shown_past q told at past = rw (at, past) (record { faultless = faultless_past.1; same = left_past })

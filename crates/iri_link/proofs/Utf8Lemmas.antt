@@ -1,5 +1,5 @@
 -- The values of quoted strings, and their written form, are texts.
-use Rattle.iri_link.proofs.Common.{zero, suc, ◌+◌, length, Option, Some, None, before, after, delimited, test_apart, is_plain_char, unquoted, unquoted_from, first_passes, ◌≡◌, ℕ, ◌<◌, ◌≤◌, true, false, cond, not, List, [], ◌∷◌, ◌++◌, refl, sym, ap, ◌∙◌, subst, arith, inl}
+use Rattle.iri_link.proofs.Common.{zero, suc, length, Option, Some, None, before, after, delimited, test_apart, is_plain_char, unquoted, unquoted_from, first_passes, ◌≡◌, ℕ, ◌<◌, ◌≤◌, true, false, cond, not, List, [], ◌∷◌, ◌++◌, refl, sym, ap, ◌∙◌, subst, arith, inl}
 use Rattle.iri_link.proofs.Common.{inr, ◌==◌, ◌||◌, IsUtf8, nat_tests, both, cases_lt, append-nil, IsUtf8-append, IsUtf8-nil, lacks}
 use Rattle.iri_link.proofs.Common.{delimited-utf8, by_test, IsQuoted, done, plain, pair, escaped}
 use Rattle.std.proofs.lemmas.Str.{IsUtf8-encode, encode_ascii}

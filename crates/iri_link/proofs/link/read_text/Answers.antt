@@ -1,6 +1,4 @@
-use Rattle.std.specs.Prelude.{MatchOption}
-use Rattle.iri_link.proofs.Common.{subst, ap, map, rules, base_text, link_of}
-use Rattle.iri_link.specs.inside.Pieces.{Comes, Ends}
+use Rattle.iri_link.proofs.Common.{ap, map, rules, base_text, link_of}
 use Rattle.iri_link.proofs.LinkLemmas.{kept_none, kept_more, kept_all, kept_fault, kept_halt}
 use Rattle.iri_link.proofs.link.read_text.Goals as goal
 
@@ -13,28 +11,22 @@ pieces-init g c = record {
 pub returns-in-Err-keep_piece : goal.returns-in-Err-keep_piece
 returns-in-Err-keep_piece g c =
     let t = c.pieces.rest.now in
-    let k : Comes c.pieces.inside t c.in-Ok-Some.piece c.in-Ok-Some.after.now =
-    subst (λ o. MatchOption o (Ends c.pieces.inside t) (λ r. Comes c.pieces.inside t r.0 r.1.now)) c.in-Ok-Some.field-0-is c.in-Ok-Some.ensures in
     kept_halt g.S.Spec.tests (base_text c.args.resolver.now) c.args.text.now c.pieces.inside t (map link_of c.pieces.links.items) c.pieces.invariant.read
-    c.in-Ok-Some.piece c.in-Ok-Some.after.now k c.in-Err-keep_piece.halt c.in-Err-keep_piece.ensures
+    c.in-Ok-Some.piece c.in-Ok-Some.after.now (rw c.in-Ok-Some.field-0-is at c.in-Ok-Some.ensures) c.in-Err-keep_piece.halt c.in-Err-keep_piece.ensures
 
 pub pieces-preserved : goal.pieces-preserved
 pieces-preserved g c =
     let t = c.pieces.rest.now in
-    let k : Comes c.pieces.inside t c.in-Ok-Some.piece c.in-Ok-Some.after.now =
-    subst (λ o. MatchOption o (Ends c.pieces.inside t) (λ r. Comes c.pieces.inside t r.0 r.1.now)) c.in-Ok-Some.field-0-is c.in-Ok-Some.ensures in
     record {
       utf8 = search rules;
       read = kept_more g.S.Spec.tests (base_text c.args.resolver.now) c.args.text.now c.pieces.inside t (map link_of c.pieces.links.items) c.pieces.invariant.read
-          c.in-Ok-Some.piece c.in-Ok-Some.after.now k _ _ c.in_default.ensures c.is_inside-inside.ensures;
+          c.in-Ok-Some.piece c.in-Ok-Some.after.now (rw c.in-Ok-Some.field-0-is at c.in-Ok-Some.ensures) _ _ c.in_default.ensures c.is_inside-inside.ensures;
     }
 
 pub returns-in-Ok-None : goal.returns-in-Ok-None
 returns-in-Ok-None g c =
     let t = c.pieces.rest.now in
-    let k : Ends c.pieces.inside t =
-    subst (λ o. MatchOption o (Ends c.pieces.inside t) (λ r. Comes c.pieces.inside t r.0 r.1.now)) c.in-Ok-None.field-0-is c.in-Ok-None.ensures in
-    kept_all g.S.Spec.tests (base_text c.args.resolver.now) c.args.text.now c.pieces.inside t (map link_of c.pieces.links.items) c.pieces.invariant.read k
+    kept_all g.S.Spec.tests (base_text c.args.resolver.now) c.args.text.now c.pieces.inside t (map link_of c.pieces.links.items) c.pieces.invariant.read (rw c.in-Ok-None.field-0-is at c.in-Ok-None.ensures)
 
 pub returns-in-Err : goal.returns-in-Err
 returns-in-Err g c =

@@ -1,8 +1,7 @@
-use Rattle.iri_link.proofs.Common.{◌≡◌, ℕ, List, ◌++◌, length, None, map, Utf8, shadow, fault_from, base_text, resolved, written}
+use Rattle.iri_link.proofs.Common.{ℕ, List, length, map, Utf8, shadow, base_text, resolved, written}
 use Rattle.iri_text.proofs.Compose.{HasShown}
 use Rattle.iri_link.specs.Readings.{links_in}
-use Rattle.iri_link.specs.inside.Pieces.{left_at, phase_at}
-use Rattle.iri_link.proofs.ShownLemmas.{written_left}
+use Rattle.iri_link.proofs.ShownLemmas.{ToShow}
 use Rattle.iri_link.proofs.shown_text.show_text.Given as goal
 
 -- what went into the sink, and what is left
@@ -10,11 +9,9 @@ abbrev pub invariant-pieces : goal.invariant-pieces
 invariant-pieces g l = record {
   between_utf8 : shadow (Utf8 l.between);
   rest_utf8 : shadow (Utf8 l.rest);
-  faultless : fault_from g.S.Spec.tests (phase_at l.inside) l.rest ≡ None;
   done : List ℕ;
   shown : HasShown g.W.TextSink.puts g.W.TextSink.stops l.initial.sink done l.sink;
-  same : written (map (resolved g.S.Spec.tests (base_text l.resolver)) (links_in l.text))
-      ≡ done ++ written_left g.S.Spec.tests (base_text l.resolver) l.between (left_at l.inside l.rest);
+  left : ToShow g.S.Spec.tests (base_text l.resolver) (written (map (resolved g.S.Spec.tests (base_text l.resolver)) (links_in l.text))) done l.between l.inside l.rest;
 }
 
 abbrev pub decreases-pieces : goal.decreases-pieces
