@@ -1,10 +1,10 @@
 -- What is answered of bytes, from what is answered of a text.
-use Rattle.iri_link.proofs.Common.{◌≡◌, ℕ, List, true, false, refl, cond, Option, None, Some, Result, Ok, Err, sym, ap, ◌∙◌, subst, MatchResult, is_utf8, IsUtf8}
+use Rattle.iri_link.proofs.Common.{◌≡◌, ℕ, List, cond, None, Some, Result, Ok, Err, sym, ap, ◌∙◌, subst, MatchResult, is_utf8, IsUtf8}
 use Rattle.iri_link.proofs.Common.{false_from_ne_true, is_utf8-from_IsUtf8, IsUtf8-from_is_utf8, Tests, field_fault, place_in, fault_from}
 use Rattle.iri_link.proofs.Common.{LinkValue, HasLinks, before_link, IsRead}
 use Rattle.std.specs.Str.Lossy.{utf8_valid_len}
 use denote.Bor.{Bor}
-use Rattle.iri_link.specs.Fault.{Told, Fault as FaultAt}
+use Rattle.iri_link.specs.Fault.{Told}
 use Rattle.iri_link.specs.declared.error.LinkKind.{LinkKind}
 use Rattle.iri_link.specs.Refusals.{RefusedBy}
 use Rattle.iri_link.specs.inside.Halts.{IsTold}
@@ -57,15 +57,3 @@ pub checked_text : (s : Tests) (x y : List ℕ) → x ≡ y → IsUtf8 y → (r 
 checked_text s x y e u (Ok t) h =
     (h.0 ∙ e, text_fault s y u ∙ ap (place_in y) (sym (ap (fault_from s before_link) e) ∙ h.1))
 checked_text s x y e u (Err (k, p)) h = text_fault s y u ∙ (sym (ap (λ z. place_in z (fault_from s before_link z)) e) ∙ h)
-
--- a text in bytes without a fault has none
-pub faultless_text : (s : Tests) (x : List ℕ) → field_fault s x ≡ None → fault_from s before_link x ≡ None
-faultless_text s x h =
-    elim (is_utf8 x) as (λ b. cond b (place_in x (fault_from s before_link x)) (Some (record { kind = NotUtf8; place = utf8_valid_len x })) ≡ None → fault_from s before_link x ≡ None) [
-      | true ↦ λ k. placed (fault_from s before_link x) k
-      | false ↦ λ k. cc
-    ] h
-  where
-    placed : (f : Option FaultAt) → place_in x f ≡ None → f ≡ None
-    placed None k = refl
-    placed (Some f) k = cc

@@ -1,5 +1,5 @@
 -- A text without a fault is a field value: that of the link-values that a reading gives.
-use Rattle.iri_link.proofs.Common.{◌≡◌, ℕ, zero, suc, ◌+◌, ◌<◌, true, false, List, [], ◌∷◌, ◌++◌, Option, Some, None, inl, inr, refl, sym, ap}
+use Rattle.iri_link.proofs.Common.{cond, ◌≡◌, ℕ, zero, suc, ◌+◌, ◌<◌, true, false, List, [], ◌∷◌, ◌++◌, Option, Some, None, inl, inr, refl, sym, ap}
 use Rattle.iri_link.proofs.Common.{◌∙◌, subst, append_assoc, ◌==◌, All, str_to_ascii_lowercase, is_utf8, append-nil, All-cons, arith, length, take, drop}
 use Rattle.iri_link.proofs.Common.{All-nil, IsUtf8-from_is_utf8, Tests, before, after, delimited, reference_fault, is_blank, run_of, first_passes}
 use Rattle.iri_link.proofs.Common.{is_blanks, is_token_char, LinkParam, unquoted}
@@ -14,8 +14,8 @@ use Rattle.iri_link.specs.Fault.{Fault, told_target}
 use Rattle.iri_link.specs.declared.error.LinkKind.TheVariants.{NotUtf8, NoTarget, OpenTarget, NoParam, OpenString}
 use Rattle.iri_link.specs.inside.ReadParams.{ReadsParam}
 use Rattle.iri_link.proofs.ParamLemmas.{no_value, token_value, string_value, name_goes, bare_read, valued_read, equals_read, no_equals, semicolon_begun, semicolon_ready, ready_semicolon}
-use Rattle.iri_link.proofs.GrammarLemmas.{element-parts, field-given, params-parts}
-use Rattle.iri_link.proofs.PhaseLemmas.{fault-blanks, comma-same, target-given}
+use Rattle.iri_link.proofs.GrammarLemmas.{IsStop, stop_after, element-parts, field-given, params-given, params-parts}
+use Rattle.iri_link.proofs.PhaseLemmas.{fault-blanks, comma-same, end-same, target-given}
 use Rattle.iri_link.proofs.QuotedLemmas.{cut_at}
 use Rattle.iri_link.proofs.RunLemmas.{run-is, mark, when}
 use Rattle.iri_link.proofs.TargetLemmas.{some-lacks, none-lacks, open_goes, target_none}
@@ -235,17 +235,33 @@ links_from s (suc n) t lt h =
       ]
     ]
 
+-- ---- what a text without a fault is
 place_none : (x : List ℕ) (f : Option Fault) → place_in x f ≡ None → f ≡ None
 place_none x None h = refl
 place_none x (Some f) h = cc
 
+pub faultless_text : (s : Tests) (x : List ℕ) → field_fault s x ≡ None → (is_utf8 x ≡ true) × (fault_from s before_link x ≡ None)
+faultless_text s x h =
+    elim (is_utf8 x) as (λ b. cond b (place_in x (fault_from s before_link x)) (Some (record { kind = NotUtf8; place = utf8_valid_len x })) ≡ None
+    → (b ≡ true) × (fault_from s before_link x ≡ None)) [
+      | true ↦ λ k. (refl, place_none x (fault_from s before_link x) k)
+      | false ↦ λ k. cc
+    ] h
+
 -- bytes without a fault are a field value
 pub links_of_faultless : (s : Tests) (x : List ℕ) → field_fault s x ≡ None → HasLinks s x (links_in x)
 links_of_faultless s x h =
-    when (is_utf8 x) (HasLinks s x (links_in x))
-    (λ u.
-    let w : field_fault s x ≡ place_in x (fault_from s before_link x) = rw u refl in
-    let k = links_from s (suc (length x)) x (omega arith) (place_none x (fault_from s before_link x) (sym w ∙ h)) in
+    let f = faultless_text s x h in
+    let k = links_from s (suc (length x)) x (omega arith) f.1 in
     let e = sym (field-given s x k.links k.field).0 in
-    record { utf8 = IsUtf8-from_is_utf8 x u; field = subst (IsField x) e k.field; valid = subst (All (HasReference s)) e k.valid })
-    (λ u. let w : field_fault s x ≡ Some (record { kind = NotUtf8; place = utf8_valid_len x }) = rw u refl in cc)
+    record { utf8 = IsUtf8-from_is_utf8 x f.0; field = subst (IsField x) e k.field; valid = subst (All (HasReference s)) e k.valid }
+
+-- what is left without a fault may follow a parameter
+ends_stop : (s : Tests) (b rest : List ℕ) (ls : List LinkValue) → is_blanks b ≡ true → Ends s rest ls → IsStop s (b ++ rest)
+ends_stop s b rest ls h nothing = let k = end-same s in (stop_after s b [] _ h refl (k.0, k.1, k.2)).0
+ends_stop s b rest ls h (comma y ms f v) = let k = comma-same s y in (stop_after s b (44 ∷ y) _ h refl (k.0, k.1, k.2)).0
+
+pub valid_stop : (s : Tests) (z : List ℕ) → fault_from s after_param z ≡ None → IsStop s z
+valid_stop s z h =
+    let k = params_in s (suc (length z)) z (omega arith) (λ y _. links_from s (suc (length y)) y (omega arith)) h in
+    subst (IsStop s) (sym k.whole) (params-given s k.prefix (k.blanks ++ k.rest) k.params k.fits (ends_stop s k.blanks k.rest k.links k.all k.ends)).0

@@ -56,7 +56,7 @@ param-given s p z q (valued (c ∷ cs) a b t v h ha hb hv) k =
 pub params-parts : (a b u z : List ℕ) → a ++ 59 ∷ (b ++ (u ++ z)) ≡ (a ++ 59 ∷ (b ++ u)) ++ z
 params-parts a b u z = ap (λ l. a ++ 59 ∷ l) (sym (append_assoc b u z)) ∙ sym (append_assoc a (59 ∷ (b ++ u)) z)
 
-params-given : (s : Tests) (p z : List ℕ) (ps : List LinkParam) → IsParams p ps → IsStop s z
+pub params-given : (s : Tests) (p z : List ℕ) (ps : List LinkParam) → IsParams p ps → IsStop s z
     → IsStop s (p ++ z) × (outcome s after_param (p ++ z) ≡ giving (with_params ps) (outcome s after_param z))
 params-given s p z ps none k = (k, ready s z)
 params-given s p z ps (empty a b t rs ha hb h) k =

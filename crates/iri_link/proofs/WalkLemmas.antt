@@ -1,15 +1,14 @@
 -- What each piece of a walk over a field value leaves.
-use Rattle.iri_link.proofs.Common.{Option, ◌≡◌, ℕ, ◌<◌, Bool, true, false, List, [], ◌∷◌, ◌++◌, Some, None, length, refl, sym, ap, ◌∙◌}
+use Rattle.iri_link.proofs.Common.{Option, ◌≡◌, ℕ, ◌<◌, true, false, List, [], ◌∷◌, ◌++◌, Some, None, length, refl, sym, ap, ◌∙◌}
 use Rattle.iri_link.proofs.Common.{list_all, subst, arith, append_assoc, append-nil, both, is_blanks, ◌==◌, ◌||◌, eqb-true, Tests, before, after, delimited, lacks, reference_fault}
 use Rattle.iri_link.proofs.Common.{is_blank, is_token_char, LinkParam, LinkValue, before_link, in_target, after_param, after_semicolon, in_name}
-use Rattle.iri_link.proofs.Common.{next, fault_from, target_fault, earlier, first_passes, IsRun, by_test}
+use Rattle.iri_link.proofs.Common.{next, fault_from, target_fault, earlier, first_passes, IsRun}
 use Rattle.std.proofs.Common.{length-append}
 use Rattle.std.proofs.lemmas.List.{nil_from_length}
 use denote.Bor.{Bor}
 use Rattle.iri_grammar.proofs.splits.CutLaws.{joined}
 use Rattle.iri_grammar.proofs.faults.Scans.{before-lacks}
-use Rattle.iri_link.specs.Fault.{Fault, unless, told_target}
-use Rattle.iri_link.specs.Phases.{may_follow}
+use Rattle.iri_link.specs.Fault.{Fault, told_target}
 use Rattle.iri_link.specs.Refusals.{KeepsTarget}
 use Rattle.iri_link.specs.Readings.{Reading, links_in}
 use Rattle.iri_link.specs.declared.error.LinkKind.TheVariants.{NoTarget, OpenTarget, NoParam}
@@ -20,42 +19,12 @@ use Rattle.iri_link.specs.declared.piece.Piece.TheVariants.{Target, Param, NoPar
 use Rattle.iri_link.specs.inside.Halts.{IsFault}
 use Rattle.iri_link.specs.inside.Pieces.{Comes, Ends, Left, param_said}
 use Rattle.iri_link.specs.inside.ReadParams.{ReadsParam}
-use Rattle.iri_link.proofs.GrammarLemmas.{IsStop, stop_after, param-given, link-open}
+use Rattle.iri_link.proofs.FieldLemmas.{valid_stop}
+use Rattle.iri_link.proofs.GrammarLemmas.{param-given, link-open}
 use Rattle.iri_link.proofs.ParamLemmas.{no_param, semicolon_ready, semicolon_begun}
 use Rattle.iri_link.proofs.PhaseLemmas.{outcome, giving, with_text, blanks, target-given, semicolon-same, comma-same, end-same}
 use Rattle.iri_link.proofs.QuotedLemmas.{after-shorter}
 use Rattle.iri_link.proofs.TargetLemmas.{some-lacks, open_goes, no_target, target_open, target_none}
-
--- ---- what may follow a parameter of a text without a fault
-follows : (s : Tests) (c : ℕ) (cs : List ℕ) → fault_from s after_param (c ∷ cs) ≡ None
-    → (may_follow c ≡ true) × (fault_from s (next after_param c) cs ≡ None)
-unfolding fault_from
-follows s c cs h =
-    elim (may_follow c) as (λ b. earlier (unless b NoParam (c ∷ cs)) (fault_from s (next after_param c) cs) ≡ None
-    → (b ≡ true) × (fault_from s (next after_param c) cs ≡ None)) [
-      | true ↦ λ k. (refl, k)
-      | false ↦ λ k. cc
-    ] h
-
-pub valid_stop : (s : Tests) (z : List ℕ) → fault_from s after_param z ≡ None → IsStop s z
-valid_stop s [] h = let k = end-same s in (stop_after s [] [] _ refl refl (k.0, k.1, k.2)).0
-valid_stop s (c ∷ cs) h =
-    let f = follows s c cs h in
-    by_test c 59 (λ b. (c == 59) ≡ b → IsStop s (c ∷ cs))
-    (λ e _. subst (λ d. IsStop s (d ∷ cs)) (sym e) (stop_after s [] (59 ∷ cs) _ refl refl (semicolon-same s cs)).0)
-    (λ _ n. by_test c 44 (λ b. (c == 44) ≡ b → IsStop s (c ∷ cs))
-    (λ e _. let k = comma-same s cs in subst (λ d. IsStop s (d ∷ cs)) (sym e) (stop_after s [] (44 ∷ cs) _ refl refl (k.0, k.1, k.2)).0)
-    (λ _ m.
-    let blank : is_blank c ≡ true = blank_left (is_blank c) (c == 59) (c == 44) n m f.0 in
-    let k = valid_stop s cs (subst (λ p. fault_from s p cs ≡ None) (stays n m) f.1) in
-    (stop_after s (c ∷ []) cs (outcome s after_param cs) (rw blank refl) k.token_ends (k.named_ends, refl, k.semicolon_ends)).0) refl) refl
-  where
-    blank_left : (a b d : Bool) → b ≡ false → d ≡ false → (a || (b || d)) ≡ true → a ≡ true
-    blank_left true b d n m h = refl
-    blank_left false b d n m h = cc
-
-    stays : (c == 59) ≡ false → (c == 44) ≡ false → next after_param c ≡ after_param
-    stays n m = rw (n, m) refl
 
 -- ---- the length of what follows
 shorter : (t a next rest : List ℕ) (c : ℕ) → t ≡ a ++ next → next ≡ c ∷ rest → length rest < length t
