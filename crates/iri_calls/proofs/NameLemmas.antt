@@ -3,10 +3,10 @@ use Rattle.iri_calls.proofs.Common.{◌≡◌, ◌≤◌, ℕ, zero, suc, ◌+�
 use Rattle.iri_calls.proofs.Common.{arith, append_assoc, length-append, over, bytes_at, over_at, Slot}
 use Rattle.std.proofs.Common.{map}
 use Rattle.std.proofs.Math.Seq.{drop-append_seam, take-append_seam}
-use Rattle.std.proofs.lemmas.List.{map-append}
+use Rattle.std.proofs.lemmas.List.{map-append, length-map}
 use Rattle.iri_grammar.specs.Pieces.{joined}
 use Rattle.iri_template.specs.Fault.{template_fault}
-use Rattle.iri_template.specs.Places.{varspec_names, names_within, placed_names}
+use Rattle.iri_template.specs.Places.{placed_varspecs, placed_within, placed_pieces, placed_name, placed_names}
 use Rattle.iri_template.specs.Reading.{pieces_of}
 use Rattle.iri_template.specs.Template.{VarSpec, Piece, literal, triplet, expression, names_of, piece_names, piece_text, template_text}
 use Rattle.iri_template.specs.Template.{modifier_text, varspec_text, operator_text}
@@ -28,7 +28,7 @@ name_stands t left at v right e a =
 
 varspecs_stand : (t left : List ℕ) (at : ℕ) (vs : List VarSpec) (right : List ℕ)
     → t ≡ left ++ (joined 44 (map varspec_text vs) ++ right) → at ≡ length left
-    → map (bytes_at t) (map slot_of (varspec_names at vs)) ≡ map (λ v. v.name) vs
+    → map (bytes_at t) (map slot_of (map placed_name (placed_varspecs at vs))) ≡ map (λ v. v.name) vs
 varspecs_stand t left at [] right e a = refl
 varspecs_stand t left at (v ∷ []) right e a = ap (λ x. x ∷ []) (name_stands t left at v right e a)
 varspecs_stand t left at (v ∷ w ∷ vs) right e a =
@@ -39,11 +39,11 @@ varspecs_stand t left at (v ∷ w ∷ vs) right e a =
     here ∙ (ap (λ l. left ++ l) (sym (append_assoc x (44 ∷ []) (j ++ right))) ∙ sym (append_assoc left (x ++ 44 ∷ []) (j ++ right))) in
     let z : at + length x + 1 ≡ length (left ++ (x ++ 44 ∷ [])) =
     omega (arith, a, length-append left (x ++ 44 ∷ []), length-append x (44 ∷ [])) in
-    ap (λ n. n ∷ map (bytes_at t) (map slot_of (varspec_names (at + length x + 1) (w ∷ vs)))) (name_stands t left at v (44 ∷ (j ++ right)) here a)
+    ap (λ n. n ∷ map (bytes_at t) (map slot_of (map placed_name (placed_varspecs (at + length x + 1) (w ∷ vs))))) (name_stands t left at v (44 ∷ (j ++ right)) here a)
     ∙ ap (λ l. v.name ∷ l) (varspecs_stand t (left ++ (x ++ 44 ∷ [])) (at + length x + 1) (w ∷ vs) right there z)
 
 piece_stands : (t left : List ℕ) (at : ℕ) (p : Piece) (right : List ℕ) → t ≡ left ++ (piece_text p ++ right) → at ≡ length left
-    → map (bytes_at t) (map slot_of (names_within at p)) ≡ piece_names p
+    → map (bytes_at t) (map slot_of (map placed_name (placed_within at p))) ≡ piece_names p
 piece_stands t left at (literal c) right e a = refl
 piece_stands t left at (triplet b c) right e a = refl
 piece_stands t left at (expression o vs) right e a =
@@ -61,10 +61,12 @@ pieces_stand : (t left : List ℕ) (at : ℕ) (ps : List Piece) → t ≡ left +
 pieces_stand t left at [] e a = refl
 pieces_stand t left at (p ∷ ps) e a =
     let x = piece_text p in
-    let here = map slot_of (names_within at p) in
+    let names = map placed_name (placed_within at p) in
+    let here = map slot_of names in
     let rest = map slot_of (placed_names (at + length x) ps) in
     let z : at + length x ≡ length (left ++ x) = omega (arith, a, length-append left x) in
-    ap (map (bytes_at t)) (map-append slot_of (names_within at p) (placed_names (at + length x) ps))
+    ap (λ l. map (bytes_at t) (map slot_of l)) (map-append placed_name (placed_within at p) (placed_pieces (at + length x) ps))
+    ∙ ap (map (bytes_at t)) (map-append slot_of names (placed_names (at + length x) ps))
     ∙ map-append (bytes_at t) here rest
     ∙ ap (λ l. l ++ map (bytes_at t) rest) (piece_stands t left at p (template_text ps) e a)
     ∙ ap (λ l. piece_names p ++ l)
@@ -75,7 +77,7 @@ names_stand t h =
     let s = no_fault_is_template t h in pieces_stand t [] 0 (pieces_of t) (sym s.text) refl
 
 -- ---- there are fewer names than bytes
-few_varspecs : (at : ℕ) (vs : List VarSpec) → length (varspec_names at vs) ≤ length (joined 44 (map varspec_text vs)) + 1
+few_varspecs : (at : ℕ) (vs : List VarSpec) → length (placed_varspecs at vs) ≤ length (joined 44 (map varspec_text vs)) + 1
 few_varspecs at [] = omega arith
 few_varspecs at (v ∷ []) = omega arith
 few_varspecs at (v ∷ w ∷ vs) =
@@ -85,7 +87,7 @@ few_varspecs at (v ∷ w ∷ vs) =
       length-append (varspec_text v) (44 ∷ joined 44 (map varspec_text (w ∷ vs))),
     )
 
-few_within : (at : ℕ) (p : Piece) → length (names_within at p) ≤ length (piece_text p)
+few_within : (at : ℕ) (p : Piece) → length (placed_within at p) ≤ length (piece_text p)
 few_within at (literal c) = omega arith
 few_within at (triplet a b) = omega arith
 few_within at (expression o vs) =
@@ -93,7 +95,7 @@ few_within at (expression o vs) =
     let j = joined 44 (map varspec_text vs) in
     omega (arith, few_varspecs (at + 1 + length x) vs, length-append (x ++ j) (125 ∷ []), length-append x j)
 
-few_placed : (at : ℕ) (ps : List Piece) → length (placed_names at ps) ≤ length (template_text ps)
+few_placed : (at : ℕ) (ps : List Piece) → length (placed_pieces at ps) ≤ length (template_text ps)
 few_placed at [] = omega arith
 few_placed at (p ∷ ps) =
     let there = at + length (piece_text p) in
@@ -101,12 +103,12 @@ few_placed at (p ∷ ps) =
       arith,
       few_within at p,
       few_placed there ps,
-      length-append (names_within at p) (placed_names there ps),
+      length-append (placed_within at p) (placed_pieces there ps),
       length-append (piece_text p) (template_text ps),
     )
 
 pub few_names : (t : List ℕ) → template_fault t ≡ None → length (placed_names 0 (pieces_of t)) ≤ length t
-few_names t h = omega (arith, few_placed 0 (pieces_of t), ap length (no_fault_is_template t h).text)
+few_names t h = omega (arith, length-map (placed_pieces 0 (pieces_of t)) placed_name, few_placed 0 (pieces_of t), ap length (no_fault_is_template t h).text)
 
 -- ---- the slots that were written
 -- those of the names are over the old ones, but for what is left

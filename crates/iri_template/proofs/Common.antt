@@ -38,9 +38,8 @@ pub use Rattle.iri_text.specs.inside.Through.{texts}
 pub use Rattle.iri_template.specs.Events.{Item, entry_of, ListBegun, PairsBegun, pair_text}
 pub use Rattle.iri_template.specs.Expansion.{kept_unit, row_of, value_texts, limited, shown_text, led}
 pub use Rattle.iri_template.specs.Fault.{fault, moved, first, varspecs_fault, text_fault, template_fault, operator_fault, triplet_fault}
-pub use Rattle.iri_template.specs.Fault.{piece_fault, unless, fault_at, modifier_fault, name_fault}
+pub use Rattle.iri_template.specs.Fault.{piece_fault, unless, fault_at, modifier_fault}
 unfoldable pub use Rattle.iri_template.specs.Fault.{varspec_fault, fault_from}
-pub use Rattle.iri_template.specs.Left.{varspecs_left}
 unfoldable pub use Rattle.iri_template.specs.Names.{is_name_char, is_varname}
 pub use Rattle.iri_template.specs.Portions.{Portion, outside, varspec_portions, portions_from, portions, portions_fault, portions_text}
 pub use Rattle.iri_template.specs.Portions.{calls_in}
@@ -52,7 +51,7 @@ pub use Rattle.iri_template.specs.Tells.{Telling, later, always, WhereTold, Move
 pub use Rattle.iri_template.specs.Template.{Modifier, whole, explode, prefix, VarSpec, Piece, literal, triplet, expression, operator_text}
 pub use Rattle.iri_template.specs.Template.{has_some, varspec_text, piece_text, literal_char, is_varspec, modifier_text, template_text, names_of}
 pub use Rattle.iri_template.specs.Texts.{text}
-pub use Rattle.iri_template.specs.TypeFaults.{is_mistyped, varspecs_type_fault, type_fault_from, type_fault}
+pub use Rattle.iri_template.specs.TypeFaults.{is_mistyped, placed_type_fault, type_fault}
 pub use Rattle.iri_template.specs.Writings.{StopsAt, IsRefused, EndsAs, CallsUpTo}
 pub use Rattle.iri_template.specs.declared.error.Error.{Error}
 pub use Rattle.iri_template.specs.declared.error.ErrorKind.TheVariants.{InvalidUtf8, WriteFailed, ExpressionNotClosed, InvalidCharacter}
@@ -65,7 +64,7 @@ pub use Rattle.iri_template.specs.declared.units.Units.{Units}
 pub use Rattle.iri_template.specs.declared.visitor.Phase.TheVariants.{Done, InPairs, InList}
 pub use Rattle.iri_template.specs.declared.visitor.VisitPurpose.TheVariants.{Typecheck, Expand}
 pub use Rattle.iri_template.specs.inside.ByPurpose.{by_purpose, untold}
-pub use Rattle.iri_template.specs.inside.Parts.{part_pieces, IsPrefix, prefix_fault}
+pub use Rattle.iri_template.specs.inside.Parts.{part_pieces}
 pub use Rattle.iri_template.specs.inside.Prefix.{prefix_step, char_text}
 pub use Rattle.iri_template.specs.inside.UnitSteps.{is_part, after_unit, ready_units, left_over, fewer, step_units, step_pending}
 pub use Rattle.iri_template.specs.inside.UnitSteps.{written_units, is_used_up, unit_step_text, unit_step, is_closed, next_state}

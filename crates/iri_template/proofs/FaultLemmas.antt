@@ -17,14 +17,6 @@ pub moved_first : (a : ℕ) (f g : Option Error) → moved a (first f g) ≡ fir
 moved_first a None g = refl
 moved_first a (Some e) g = refl
 
-pub first_none : (f : Option Error) → first f None ≡ f
-first_none None = refl
-first_none (Some e) = refl
-
-pub first_first : (f g h : Option Error) → first (first f g) h ≡ first f (first g h)
-first_first None g h = refl
-first_first (Some e) g h = refl
-
 pub neither : (f g : Option Error) → first f g ≡ None → (f ≡ None) × (g ≡ None)
 neither None g h = (refl, h)
 neither (Some e) g h = cc
@@ -46,6 +38,10 @@ varspecs_moved a at (v ∷ vs) =
     ap (λ f. first f (varspecs_fault (a + at + length v + 1) vs)) (sym (moved_moved a at (varspec_fault v)))
     ∙ (ap (λ g. first (moved a (moved at (varspec_fault v))) g) (ap (λ n. varspecs_fault n vs) z ∙ varspecs_moved a (at + length v + 1) vs)
     ∙ sym (moved_first a (moved at (varspec_fault v)) (varspecs_fault (at + length v + 1) vs)))
+
+pub varspecs_anywhere : (at : ℕ) (vs : List (List ℕ)) → varspecs_fault at vs ≡ None → varspecs_fault 0 vs ≡ None
+varspecs_anywhere at vs h = let z : at + 0 ≡ at = omega arith in
+    unmoved at (varspecs_fault 0 vs) (sym (varspecs_moved at 0 vs) ∙ (ap (λ n. varspecs_fault n vs) z ∙ h))
 
 pub of_text : (b : List ℕ) → IsUtf8 b → template_fault b ≡ text_fault b
 of_text b u = rw (is_utf8-from_IsUtf8 b u) refl

@@ -3,7 +3,7 @@ use Rattle.iri_template.proofs.Common.{encode_utf8, flat_map, Tests, any_char, e
 use Rattle.iri_template.proofs.Common.{fault, first, led, has_some, Portion, outside, varspec_portions, portions_from, portions}
 use Rattle.iri_template.proofs.Common.{portions_fault, portions_text, ShownValue, Telling, later, always}
 use Rattle.iri_template.proofs.Common.{VarSpec, Piece, literal, triplet, expression, operator_text, varspec_text, piece_text, is_mistyped}
-use Rattle.iri_template.proofs.Common.{varspecs_type_fault, type_fault_from, type_fault, StopsAt, IsRefused, EndsAs, by_purpose, untold}
+use Rattle.iri_template.proofs.Common.{placed_type_fault, type_fault, StopsAt, IsRefused, EndsAs, by_purpose, untold}
 use Rattle.iri_template.proofs.Common.{Error, WriteFailed, ExpressionNotClosed, InvalidCharacter, InvalidExpression, InvalidPercentEncoding}
 use Rattle.iri_template.proofs.Common.{InvalidUtf8, UnexpectedValueType, UnsupportedOperator, Memory, Operator, Typecheck, Expand}
 use Rattle.std.proofs.Common.{◌≡◌, ◌≤◌, ℕ, ◌+◌, ◌*◌, Bool, true, false, cond, ◌||◌, List, [], ◌∷◌, ◌++◌, None, Some, length, refl, sym, ◌∙◌}
@@ -11,7 +11,9 @@ use Rattle.std.proofs.Common.{ap, subst, arith, append_assoc, append-nil, Result
 use Rattle.std.proofs.Math.Bool.{or_self}
 use Rattle.iri_grammar.specs.Characters.{percent_sign}
 use Rattle.iri_template.specs.Expansion.{varspec_texts, expansion}
-use Rattle.iri_template.specs.VarSpecs.{held}
+use Rattle.iri_template.specs.VarSpecs.{held, Placed}
+use Rattle.iri_template.specs.Places.{placed_varspecs, placed_within, placed_pieces}
+use Rattle.iri_template.proofs.PlacedNames.{types_append}
 use Rattle.iri_template.specs.declared.varspec.Modifier.{Modifier}
 use Rattle.iri_template.specs.declared.varspec.Modifier.TheVariants.{Whole, Explode, Prefix}
 use Rattle.iri_template.specs.Portions.{varspec_portion}
@@ -37,20 +39,19 @@ same_later n f g h = record {
 }
 
 module _ (s : Tests) where
-  same_specs : (operator : Operator) (f g : Telling) (at : ℕ) (written : Bool) (vs : List VarSpec) → AreSame f g
-      → varspec_portions s operator f at written vs ≡ varspec_portions s operator g at written vs
-  same_specs operator f g at written [] h = refl
-  same_specs operator f g at written (v ∷ vs) h =
-      let there = at + length (varspec_text v) + 1 in
-      let m = held v.modifier in
-      ap (λ u. varspec_portion s operator at written v.name m (is_mistyped m u) (f 1 v.name Expand)
-      ∷ varspec_portions s operator (later 2 f) there (written || has_some (value_texts s (row_of operator) v.name m (f 1 v.name Expand))) vs)
-      (h.looks 0 v.name)
-      ∙ ap (λ u. varspec_portion s operator at written v.name m (is_mistyped m (g 0 v.name Typecheck)) u
-      ∷ varspec_portions s operator (later 2 f) there (written || has_some (value_texts s (row_of operator) v.name m u)) vs)
-      (h.writes 0 v.name)
-      ∙ ap (λ l. varspec_portion s operator at written v.name m (is_mistyped m (g 0 v.name Typecheck)) (g 1 v.name Expand) ∷ l)
-      (same_specs operator (later 2 f) (later 2 g) there (written || has_some (value_texts s (row_of operator) v.name m (g 1 v.name Expand))) vs
+  same_specs : (operator : Operator) (f g : Telling) (written : Bool) (ps : List Placed) → AreSame f g
+      → varspec_portions s operator f written ps ≡ varspec_portions s operator g written ps
+  same_specs operator f g written [] h = refl
+  same_specs operator f g written (p ∷ ps) h =
+      let m = p.modifier in
+      ap (λ u. varspec_portion s operator p.location written p.name m (is_mistyped m u) (f 1 p.name Expand)
+      ∷ varspec_portions s operator (later 2 f) (written || has_some (value_texts s (row_of operator) p.name m (f 1 p.name Expand))) ps)
+      (h.looks 0 p.name)
+      ∙ ap (λ u. varspec_portion s operator p.location written p.name m (is_mistyped m (g 0 p.name Typecheck)) u
+      ∷ varspec_portions s operator (later 2 f) (written || has_some (value_texts s (row_of operator) p.name m u)) ps)
+      (h.writes 0 p.name)
+      ∙ ap (λ l. varspec_portion s operator p.location written p.name m (is_mistyped m (g 0 p.name Typecheck)) (g 1 p.name Expand) ∷ l)
+      (same_specs operator (later 2 f) (later 2 g) (written || has_some (value_texts s (row_of operator) p.name m (g 1 p.name Expand))) ps
       (same_later 1 f g h))
 
   same_from : (f g : Telling) (at here : ℕ) (start : List ℕ) (ps : List Piece) → AreSame f g
@@ -60,10 +61,10 @@ module _ (s : Tests) where
       same_from f g at (here + length (encode_utf8 c)) (start ++ encoded_char (any_char s) c) ps h
   same_from f g at here start (triplet a b ∷ ps) h = same_from f g at (here + 3) (start ++ percent_sign ∷ a ∷ b ∷ []) ps h
   same_from f g at here start (expression operator vs ∷ ps) h =
-      let place = here + 1 + length (operator_text operator) in
+      let specs = placed_within here (expression operator vs) in
       let there = here + length (piece_text (expression operator vs)) in
-      ap (λ l. outside at start ++ (l ++ portions_from s (later (2 * length vs) f) there there [] ps)) (same_specs operator f g place false vs h)
-      ∙ ap (λ l. outside at start ++ (varspec_portions s operator g place false vs ++ l))
+      ap (λ l. outside at start ++ (l ++ portions_from s (later (2 * length vs) f) there there [] ps)) (same_specs operator f g false specs h)
+      ∙ ap (λ l. outside at start ++ (varspec_portions s operator g false specs ++ l))
       (same_from (later (2 * length vs) f) (later (2 * length vs) g) there there [] ps (same_later (length vs) f g h))
 
 pub same_portions : (s : Tests) (f g : Telling) (ps : List Piece) → ((i : ℕ) (name : List ℕ) → f (2 * i) name Typecheck ≡ g (2 * i) name Typecheck)
@@ -102,44 +103,45 @@ module _ (s : Tests) (looked value : List ℕ → ShownValue) (adds : AddsNone l
   abbrev telling : Telling
   telling = by_purpose looked value
 
-  specs_fault : (operator : Operator) (at : ℕ) (written : Bool) (vs : List VarSpec)
-      → portions_fault (varspec_portions s operator telling at written vs) ≡ varspecs_type_fault value at vs
-  specs_fault operator at written [] = refl
-  specs_fault operator at written (v ∷ vs) =
-      let b = is_mistyped (held v.modifier) (value v.name) in
-      let now = written || has_some (value_texts s (row_of operator) v.name (held v.modifier) (value v.name)) in
-      let there = at + length (varspec_text v) + 1 in
-      ap (λ m. cond m (fault UnexpectedValueType at) (portions_fault (varspec_portions s operator telling there now vs))) (adds (held v.modifier) v.name)
-      ∙ ap (λ f. cond b (fault UnexpectedValueType at) f) (specs_fault operator there now vs)
+  specs_fault : (operator : Operator) (written : Bool) (ps : List Placed)
+      → portions_fault (varspec_portions s operator telling written ps) ≡ placed_type_fault value ps
+  specs_fault operator written [] = refl
+  specs_fault operator written (p ∷ ps) =
+      let b = is_mistyped p.modifier (value p.name) in
+      let now = written || has_some (value_texts s (row_of operator) p.name p.modifier (value p.name)) in
+      ap (λ m. cond m (fault UnexpectedValueType p.location) (portions_fault (varspec_portions s operator telling now ps))) (adds p.modifier p.name)
+      ∙ ap (λ f. cond b (fault UnexpectedValueType p.location) f) (specs_fault operator now ps)
 
   fault_from : (at here : ℕ) (start : List ℕ) (ps : List Piece)
-      → portions_fault (portions_from s telling at here start ps) ≡ type_fault_from value here ps
+      → portions_fault (portions_from s telling at here start ps) ≡ placed_type_fault value (placed_pieces here ps)
   fault_from at here start [] = outside_fault at start
   fault_from at here start (literal c ∷ ps) = fault_from at (here + length (encode_utf8 c)) (start ++ encoded_char (any_char s) c) ps
   fault_from at here start (triplet a b ∷ ps) = fault_from at (here + 3) (start ++ percent_sign ∷ a ∷ b ∷ []) ps
   fault_from at here start (expression operator vs ∷ ps) =
-      let inner = varspec_portions s operator telling (here + 1 + length (operator_text operator)) false vs in
+      let specs = placed_within here (expression operator vs) in
+      let inner = varspec_portions s operator telling false specs in
       let there = here + length (piece_text (expression operator vs)) in
       let others = portions_from s telling there there [] ps in
       fault_after (outside at start) (inner ++ others) (outside_fault at start) ∙ faults_append inner others
-      ∙ ap (λ f. first f (portions_fault others)) (specs_fault operator (here + 1 + length (operator_text operator)) false vs)
-      ∙ ap (first (varspecs_type_fault value (here + 1 + length (operator_text operator)) vs)) (fault_from there there [] ps)
+      ∙ ap (λ f. first f (portions_fault others)) (specs_fault operator false specs)
+      ∙ ap (first (placed_type_fault value specs)) (fault_from there there [] ps) ∙ sym (types_append value specs (placed_pieces there ps))
 
   whole_fault : (ps : List Piece) → portions_fault (portions s telling ps) ≡ type_fault value ps
   whole_fault ps = fault_from 0 0 [] ps
 
   -- ---- texts
-  specs_text : (operator : Operator) (at : ℕ) (written : Bool) (vs : List VarSpec) → varspecs_type_fault value at vs ≡ None
-      → portions_text (varspec_portions s operator telling at written vs)
+  specs_text : (operator : Operator) (at : ℕ) (written : Bool) (vs : List VarSpec) → placed_type_fault value (placed_varspecs at vs) ≡ None
+      → portions_text (varspec_portions s operator telling written (placed_varspecs at vs))
       ≡ led (row_of operator) written (flat_map (varspec_texts s operator value) vs)
   specs_text operator at written [] h = refl
   specs_text operator at written (v ∷ vs) h =
       let ts = varspec_texts s operator value v in
       let now = written || has_some ts in
       let there = at + length (varspec_text v) + 1 in
-      let rest = portions_text (varspec_portions s operator telling there now vs) in
+      let rest = portions_text (varspec_portions s operator telling now (placed_varspecs there vs)) in
       ap (λ b. cond b [] (led (row_of operator) written ts ++ rest)) (adds (held v.modifier) v.name)
-      ∙ elim (is_mistyped (held v.modifier) (value v.name)) as (λ b. cond b (fault UnexpectedValueType at) (varspecs_type_fault value there vs) ≡ None
+      ∙ elim (is_mistyped (held v.modifier) (value v.name)) as (λ b.
+      cond b (fault UnexpectedValueType at) (placed_type_fault value (placed_varspecs there vs)) ≡ None
       → cond b [] (led (row_of operator) written ts ++ rest)
       ≡ led (row_of operator) written (ts ++ flat_map (varspec_texts s operator value) vs)) [
         | true ↦ λ k. cc
@@ -147,7 +149,7 @@ module _ (s : Tests) (looked value : List ℕ → ShownValue) (adds : AddsNone l
             ∙ sym (led-append (row_of operator) written ts (flat_map (varspec_texts s operator value) vs))
       ] h
 
-  text_from : (at here : ℕ) (start : List ℕ) (ps : List Piece) → type_fault_from value here ps ≡ None
+  text_from : (at here : ℕ) (start : List ℕ) (ps : List Piece) → placed_type_fault value (placed_pieces here ps) ≡ None
       → portions_text (portions_from s telling at here start ps) ≡ start ++ expansion s value ps
   text_from at here start [] h = outside_text at start ∙ sym (append-nil start)
   text_from at here start (literal c ∷ ps) h =
@@ -157,15 +159,16 @@ module _ (s : Tests) (looked value : List ℕ → ShownValue) (adds : AddsNone l
       let t : List ℕ = percent_sign ∷ a ∷ b ∷ [] in
       text_from at (here + 3) (start ++ t) ps h ∙ append_assoc start t (expansion s value ps)
   text_from at here start (expression operator vs ∷ ps) h =
-      let place = here + 1 + length (operator_text operator) in
-      let inner = varspec_portions s operator telling place false vs in
+      let specs = placed_within here (expression operator vs) in
+      let inner = varspec_portions s operator telling false specs in
       let there = here + length (piece_text (expression operator vs)) in
       let others = portions_from s telling there there [] ps in
-      let both = neither (varspecs_type_fault value place vs) (type_fault_from value there ps) h in
+      let both = neither (placed_type_fault value specs) (placed_type_fault value (placed_pieces there ps))
+      (sym (types_append value specs (placed_pieces there ps)) ∙ h) in
       text_after (outside at start) (inner ++ others) (outside_fault at start)
       ∙ ap (λ l. l ++ portions_text (inner ++ others)) (outside_text at start)
-      ∙ ap (λ l. start ++ l) (text_after inner others (specs_fault operator place false vs ∙ both.0)
-      ∙ ap (λ l. l ++ portions_text others) (specs_text operator place false vs both.0)
+      ∙ ap (λ l. start ++ l) (text_after inner others (specs_fault operator false specs ∙ both.0)
+      ∙ ap (λ l. l ++ portions_text others) (specs_text operator (here + 1 + length (operator_text operator)) false vs both.0)
       ∙ ap (λ l. led (row_of operator) false (flat_map (varspec_texts s operator value) vs) ++ l) (text_from there there [] ps both.1))
 
   whole_text : (ps : List Piece) → type_fault value ps ≡ None → portions_text (portions s telling ps) ≡ expansion s value ps

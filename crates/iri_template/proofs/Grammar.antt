@@ -350,7 +350,7 @@ triplet_splits (x ∷ a ∷ b ∷ cs) u e h =
           (hex_is_ascii b hex.1);
     }
 
-delimiter_there : (c : ℕ) (t : List ℕ) → lacks c t ≡ false → (r : List ℕ) × (after c t ≡ Some r)
+pub delimiter_there : (c : ℕ) (t : List ℕ) → lacks c t ≡ false → (r : List ℕ) × (after c t ≡ Some r)
 delimiter_there c [] h = cc
 delimiter_there c (x ∷ xs) h =
     by_test x c (λ b. (not b && lacks c xs) ≡ false → (r : List ℕ) × (cond b (Some xs) (after c xs) ≡ Some r)) (λ _ _. (xs, refl))
@@ -390,7 +390,7 @@ piece_splits t u n h =
       ]
     ]
 
-first_fine : (t : List ℕ) → 0 < length t → text_fault t ≡ None → piece_fault t ≡ None
+pub first_fine : (t : List ℕ) → 0 < length t → text_fault t ≡ None → piece_fault t ≡ None
 unfolding fault_from
 first_fine [] n h = absurd (omega arith)
 first_fine (x ∷ xs) n h = unmoved 0 (piece_fault (x ∷ xs)) (neither (moved 0 (piece_fault (x ∷ xs))) _ h).0

@@ -1,18 +1,19 @@
--- A walk over the parts of a template without a fault: the part at the start, the types of values, and the portions that are left.
+-- A walk over the parts of a template without a fault: the part at the start, and the portions that are left.
 use Rattle.iri_template.proofs.Common.{nil_from_length, ◌≡◌, ℕ, ◌+◌, ◌-◌, cond, List, [], ◌∷◌, ◌++◌, None, length, map, refl, sym, ◌∙◌, ap}
 use Rattle.iri_template.proofs.Common.{arith, length-append, ◌<◌, ◌≤◌, ◌*◌, false, Option, Some, subst, append_assoc, append-nil, Ok, Err}
 use Rattle.iri_template.proofs.Common.{Bor, IsUtf8, chars, utf8_valid_len, is_utf8-from_IsUtf8, Piece, literal, piece_text, template_text}
-use Rattle.iri_template.proofs.Common.{triplet, expression, VarSpec, operator_text, names_of, fault, fault_from, text_fault, first}
-use Rattle.iri_template.proofs.Common.{part_pieces, IsPrefix, pieces_from, pieces_of, varspec_of, ShownValue, type_fault_from, InvalidUtf8}
+use Rattle.iri_template.proofs.Common.{triplet, expression, VarSpec, operator_text, names_of, fault, text_fault}
+use Rattle.iri_template.proofs.Common.{part_pieces, pieces_from, pieces_of, InvalidUtf8}
 use Rattle.iri_template.proofs.Common.{WriteFailed, UnexpectedValueType, encode_utf8, flat_map, Tests, any_char, encoded, encoded_char}
-use Rattle.iri_template.proofs.Common.{pieces, AreSinkLaws, Portion, outside, varspec_portions, portions_from, portions, portions_fault}
+use Rattle.iri_template.proofs.Common.{AreSinkLaws, Portion, outside, varspec_portions, portions_from, portions, portions_fault}
 use Rattle.iri_template.proofs.Common.{portions_text, calls_in, Telling, later, WhereTold, MovesBy, EndsAs, CallsUpTo, Error, Operator}
 use Rattle.std.proofs.lemmas.List.{length-map}
 use Rattle.std.proofs.lemmas.Grind.{flat_map-append}
-use Rattle.iri_template.specs.inside.Parts.{part_fault, IsPlaced}
-use Rattle.iri_template.specs.TypeFaults.{piece_type_fault}
+use Rattle.iri_template.specs.inside.Parts.{IsPart, IsFirst}
+use Rattle.iri_template.specs.Left.{varspecs_of, left_len}
+use Rattle.iri_template.specs.Places.{placed_varspecs, placed_within}
+use Rattle.iri_template.specs.Variables.{varspecs_left}
 use Rattle.iri_template.specs.declared.part.Part.{Part}
-use Rattle.iri_template.proofs.FaultLemmas.{neither, first_first}
 use Rattle.iri_template.proofs.Grammar.{no_fault_is_template}
 use Rattle.iri_template.proofs.Walks.{fine_there, none_anywhere, names_append, literals_have_none}
 use Rattle.iri_grammar.specs.Characters.{percent_sign}
@@ -20,7 +21,7 @@ use Rattle.iri_template.specs.inside.PartEnds.{PartEnds, PartCalls, calls_of, be
 use Rattle.iri_template.proofs.PrefixChars.{some_encoded}
 use Rattle.iri_template.proofs.PortionWalk.{fault_after, text_after, calls_append, HasEnded, ended_more, ended_exit, ended_calls, ended_end}
 use Rattle.iri_template.proofs.PortionWalk.{BothTold, later_none, moved_on, moves_none}
-use Rattle.iri_template.proofs.VarSpecPortions.{calls_of_all}
+use Rattle.iri_template.proofs.VarSpecPortions.{calls_of_all, as_many}
 use Rattle.iri_template.specs.declared.part.Part.TheVariants as part
 
 -- the pieces of a text spell it
@@ -28,58 +29,16 @@ spelled : (t : List ℕ) → IsUtf8 t → text_fault t ≡ None → template_tex
 spelled t u h = (no_fault_is_template t (ap (λ b. cond b (text_fault t) (fault InvalidUtf8 (utf8_valid_len t)))
     (is_utf8-from_IsUtf8 t u) ∙ h)).text
 
--- the part at the start of a text without a fault, and what follows it
-pub record PartCut (p : Part) (t r : List ℕ) : Type 0 where
-  pub fault : part_fault p ≡ None
-  pub fine : text_fault r ≡ None
-  pub pieces : pieces_of t ≡ part_pieces p ++ pieces_of r
-  pub text : t ≡ template_text (part_pieces p) ++ r
-  pub len : length t ≡ length (template_text (part_pieces p)) + length r
-
-pub part_cut : (p : Part) (at : ℕ) (t r : List ℕ) → IsPrefix p t at r → IsUtf8 t → IsUtf8 r → text_fault t ≡ None → PartCut p t r
-part_cut p at t r k u v h =
-    let both = neither (part_fault p) (fault_from 0 (at + (length t - length r)) r) (sym k.fault ∙ fine_there at t h) in
-    let fine = none_anywhere (at + (length t - length r)) r both.1 in
+-- the part at its start, and what follows it
+pub first_cut : (p : Part) (at : ℕ) (t r : List ℕ) → IsPart p at t r → IsUtf8 t → IsUtf8 r → text_fault t ≡ None
+    → IsFirst p at t r × (text_fault r ≡ None)
+first_cut p at t r k u v h =
+    let fine = none_anywhere (at + (length t - length r)) r (sym k.past.fault ∙ fine_there at t h) in
     let whole : t ≡ template_text (part_pieces p) ++ r =
     sym (spelled t u h) ∙ ap template_text k.pieces ∙ flat_map-append piece_text (part_pieces p) (pieces_of r)
     ∙ ap (λ l. template_text (part_pieces p) ++ l) (spelled r v fine)
     in
-    record {
-      fault = both.0;
-      fine = fine;
-      pieces = k.pieces;
-      text = whole;
-      len = ap length whole ∙ length-append (template_text (part_pieces p)) r;
-    }
-
--- ---- types
-pub types-append : (value : List ℕ → ShownValue) (at : ℕ) (ps qs : List Piece)
-    → type_fault_from value at (ps ++ qs) ≡ first (type_fault_from value at ps) (type_fault_from value (at + length (template_text ps)) qs)
-types-append value at [] qs = let z : at ≡ at + 0 = omega arith in ap (λ n. type_fault_from value n qs) z
-types-append value at (p ∷ ps) qs =
-    let n = at + length (piece_text p) in
-    let z : n + length (template_text ps) ≡ at + length (template_text (p ∷ ps)) =
-    omega (arith, length-append (piece_text p) (template_text ps)) in
-    ap (first (piece_type_fault value at p)) (types-append value n ps qs
-    ∙ ap (λ m. first (type_fault_from value n ps) (type_fault_from value m qs)) z)
-    ∙ sym (first_first (piece_type_fault value at p) (type_fault_from value n ps)
-    (type_fault_from value (at + length (template_text (p ∷ ps))) qs))
-
-pub types_cut : (value : List ℕ → ShownValue) (at : ℕ) (p : Part) (t r : List ℕ) → PartCut p t r
-    → type_fault_from value at (pieces_of t) ≡ first (type_fault_from value at (part_pieces p))
-    (type_fault_from value (at + (length t - length r)) (pieces_of r))
-types_cut value at p t r k =
-    let z : at + length (template_text (part_pieces p)) ≡ at + (length t - length r) = omega (arith, k.len) in
-    ap (type_fault_from value at) k.pieces ∙ types-append value at (part_pieces p) (pieces_of r)
-    ∙ ap (λ m. first (type_fault_from value at (part_pieces p)) (type_fault_from value m (pieces_of r))) z
-
-pub literals_have_no_type : (value : List ℕ → ShownValue) (at : ℕ) (cs : List ℕ) → type_fault_from value at (map literal cs) ≡ None
-literals_have_no_type value at [] = refl
-literals_have_no_type value at (c ∷ cs) = literals_have_no_type value (at + length (piece_text (literal c))) cs
-
-pub no_types_left : (value : List ℕ → ShownValue) (at : ℕ) (t : List ℕ) → length t ≡ 0 → type_fault_from value at (pieces_of t) ≡ None
-unfolding pieces_from
-no_types_left value at t h = ap (λ l. type_fault_from value at (pieces_of l)) (nil_from_length t h)
+    (record { part = k; len = ap length whole ∙ length-append (template_text (part_pieces p)) r }, fine)
 
 -- ---- literals and triplets
 pub outside_fault : (at : ℕ) (t : List ℕ) → portions_fault (outside at t) ≡ None
@@ -153,7 +112,7 @@ begins s f at here x xs (triplet a b ∷ ps) =
     }
 begins s f at here x xs (expression operator vs ∷ ps) =
     let there = here + length (piece_text (expression operator vs)) in
-    let after = varspec_portions s operator f (here + 1 + length (operator_text operator)) false vs
+    let after = varspec_portions s operator f false (placed_within here (expression operator vs))
     ++ portions_from s (later (2 * length vs) f) there there [] ps in
     record {
       more = [];
@@ -275,10 +234,10 @@ module _ {W : Type 0} (s : Tests) (puts halts : W → List ℕ → W → Type 0)
         )
 
   -- ---- an expression
-  module _ (h : Telling) (begin here : ℕ) (t r : List ℕ) (operator : Operator) (vs : List VarSpec) (at : ℕ)
-      (cut : pieces_of t ≡ expression operator vs ∷ pieces_of r) (placed : at ≡ here + 1 + length (operator_text operator)) (b c : W) where
+  module _ (h : Telling) (begin here : ℕ) (t r : List ℕ) (operator : Operator) (vs : List VarSpec)
+      (cut : pieces_of t ≡ expression operator vs ∷ pieces_of r) (b c : W) where
     abbrev inner : List Portion
-    inner = varspec_portions s operator h at false vs
+    inner = varspec_portions s operator h false (placed_within here (expression operator vs))
 
     abbrev after_it : ℕ → List Portion
     after_it there = portions_from s (later (2 * length vs) h) there there [] (pieces_of r)
@@ -287,14 +246,13 @@ module _ {W : Type 0} (s : Tests) (puts halts : W → List ℕ → W → Type 0)
         → HasEnded puts all a (inner ++ after_it there) b f h
     opened there e p =
         reached_ended h begin here t (inner ++ after_it there) b p (ap (portions_from s h begin here p.prefix) cut
-        ∙ ap (λ n. outside begin p.prefix ++ (varspec_portions s operator h n false vs
-        ++ after_it (here + length (piece_text (expression operator vs))))) (sym placed)
         ∙ ap (λ n. outside begin p.prefix ++ (inner ++ after_it n)) (sym e))
 
     expression_more : (there : ℕ) (x : Unit {0}) → there ≡ here + length (piece_text (expression operator vs)) → EndsAs puts halts inner b c (Ok x)
         → HasReached s puts all a f h begin here t b → HasReached s puts all a f (later (2 * length vs) h) there there r c
     expression_more there x e q p =
-        let two : calls_in inner ≡ 2 * length vs = calls_of_all s operator h at false vs q.0 in
+        let two : calls_in inner ≡ 2 * length vs = calls_of_all s operator h false (placed_within here (expression operator vs)) q.0
+        ∙ ap (λ n. 2 * n) (as_many (here + 1 + length (operator_text operator)) vs) in
         let k = ended_more puts halts laws all inner (after_it there) a b c x f h (later (2 * length vs) h)
         (subst (λ n. MovesBy n (Some h) (Some (later (2 * length vs) h))) (sym two) (λ k name purpose. refl)) (opened there e p) q in
         record {
@@ -329,50 +287,58 @@ module _ {W : Type 0} (s : Tests) (puts halts : W → List ℕ → W → Type 0)
       ∙ ap (λ n. portions_from s h begin n (prefix ++ written s (chars l)) (pieces_of r)) (sym e)
       ∙ ap (λ w. portions_from s h begin there (prefix ++ w) (pieces_of r)) (literals_are s l)
 
-  triplet_stands : (h : Telling) (begin here there : ℕ) (l : Bor (List ℕ)) (prefix x r : List ℕ) → there ≡ here + length x
-      → x ≡ template_text (part_pieces (part.Triplet l))
-      → portions_from s h begin here prefix (part_pieces (part.Triplet l) ++ pieces_of r) ≡ portions_from s h begin there (prefix ++ x) (pieces_of r)
-  triplet_stands h begin here there l prefix x r e text =
+  triplet_stands : (h : Telling) (begin here there : ℕ) (l : Bor (List ℕ)) (prefix r : List ℕ) → there ≡ here + length l.now
+      → l.now ≡ template_text (part_pieces (part.Triplet l))
+      → portions_from s h begin here prefix (part_pieces (part.Triplet l) ++ pieces_of r)
+      ≡ portions_from s h begin there (prefix ++ l.now) (pieces_of r)
+  triplet_stands h begin here there l prefix r e text =
       ap (λ n. portions_from s h begin (here + n) (prefix ++ template_text (part_pieces (part.Triplet l))) (pieces_of r)) (sym (ap length text))
       ∙ ap (λ n. portions_from s h begin n (prefix ++ template_text (part_pieces (part.Triplet l))) (pieces_of r)) (sym e)
       ∙ ap (λ u. portions_from s h begin there (prefix ++ u) (pieces_of r)) (sym text)
 
-  part_more : (p : Part) (t r x : List ℕ) (begin here there : ℕ) (b c : W) (y : Unit {0}) → PartCut p t r → IsPlaced p here
-      → x ≡ template_text (part_pieces p) → there ≡ here + (length t - length r) → (h k : Telling) → MovesBy (calls_of p) (Some h) (Some k)
-      → PartEnds s puts halts begin x b c (Ok y) p h → HasReached s puts all a f h begin here t b
+  part_more : (p : Part) (t r : List ℕ) (begin here there : ℕ) (b c : W) (y : Unit {0}) → IsFirst p here t r
+      → there ≡ here + (length t - length r) → (h k : Telling) → MovesBy (calls_of p) (Some h) (Some k)
+      → PartEnds s puts halts begin b c (Ok y) p h → HasReached s puts all a f h begin here t b
       → HasReached s puts all a f k (begin_after p begin there) there r c
-  part_more (part.Literals l) t r x begin here there b c y cut placed text e h k m q p =
+  part_more (part.Literals l) t r begin here there b c y cut e h k m q p =
       subst (λ (n : Telling). HasReached s puts all a f n begin there r c) (moved_none h k m)
-      (literals_more h begin here there t r (encoded (any_char s) l.now) (map literal (chars l.now)) cut.pieces
+      (literals_more h begin here there t r (encoded (any_char s) l.now) (map literal (chars l.now)) cut.part.pieces
       (literals_stand h begin here there l.now r (omega (arith, cut.len, e))) b c q p)
-  part_more (part.Triplet l) t r x begin here there b c y cut placed text e h k m q p =
-      let z = ap length text in
+  part_more (part.Triplet l) t r begin here there b c y cut e h k m q p =
+      let z = ap length cut.part.placed in
       subst (λ (n : Telling). HasReached s puts all a f n begin there r c) (moved_none h k m)
-      (literals_more h begin here there t r x (part_pieces (part.Triplet l)) cut.pieces
-      (λ prefix. triplet_stands h begin here there l prefix x r (omega (arith, z, cut.len, e)) text) b c q p)
-  part_more (part.Expression x) t r u begin here there b c y cut placed text e h k m q p =
-      let vs = map varspec_of (pieces 44 x.varspecs.now) in
-      let z : length (template_text (part_pieces (part.Expression x))) ≡ length (piece_text (expression x.operator vs)) =
-      ap length (append-nil (piece_text (expression x.operator vs))) in
-      subst (λ (n : Telling). HasReached s puts all a f n there there r c) (sym (moved_on (2 * length vs) h k m))
-      (expression_more h begin here t r x.operator vs x.location cut.pieces placed b c there y (omega (arith, z, cut.len)) q p)
+      (literals_more h begin here there t r l.now (part_pieces (part.Triplet l)) cut.part.pieces
+      (λ prefix. triplet_stands h begin here there l prefix r (omega (arith, z, cut.len, e)) cut.part.placed) b c q p)
+  part_more (part.Expression o v) t r begin here there b c y cut e h k m q p =
+      let vs = varspecs_of v.text in
+      let z : length (template_text (part_pieces (part.Expression o v))) ≡ length (piece_text (expression o vs)) =
+      ap length (append-nil (piece_text (expression o vs))) in
+      let n : 2 * length (varspecs_left v) ≡ 2 * length vs = ap (λ n. 2 * n) (as_many (v.end - left_len v.text) vs) in
+      subst (λ (n : Telling). HasReached s puts all a f n there there r c)
+      (sym (moved_on (2 * length vs) h k (subst (λ n. MovesBy n (Some h) (Some k)) n m)))
+      (expression_more h begin here t r o vs cut.part.pieces b c there y (omega (arith, z, cut.len, e))
+      (subst (λ n. EndsAs puts halts (varspec_portions s o h false (placed_varspecs n vs)) b c (Ok y)) cut.part.placed q) p)
 
-  part_refused : (p : Part) (t r x : List ℕ) (begin here : ℕ) (b c : W) (error : Error) (now : Option Telling) → PartCut p t r → IsPlaced p here
-      → x ≡ template_text (part_pieces p) → length r < length t → (h : Telling) → PartEnds s puts halts begin x b c (Err error) p h
+  part_refused : (p : Part) (t r : List ℕ) (begin here : ℕ) (b c : W) (error : Error) (now : Option Telling) → IsFirst p here t r
+      → (h : Telling) → PartEnds s puts halts begin b c (Err error) p h
       → PartCalls s error.location begin (Some h) now p h → HasReached s puts all a f h begin here t b
       → EndsAs puts halts all a c (Err error) × CallsUpTo all error.location 0 (Some f) now
-  part_refused (part.Literals l) t r x begin here b c error now cut placed text shorter h q k p =
+  part_refused (part.Literals l) t r begin here b c error now cut h q k p =
       let there = here + length (template_text (map literal (chars l.now))) in
       let some : 0 < length (encoded (any_char s) l.now) = subst (λ w. 0 < length w) (literals_are s l.now)
-      (literals_written s (chars l.now) (omega (arith, cut.len, shorter))) in
-      literals_refused h begin here there t r (encoded (any_char s) l.now) (map literal (chars l.now)) cut.pieces
+      (literals_written s (chars l.now) (omega (arith, cut.len, cut.part.past.shorter))) in
+      literals_refused h begin here there t r (encoded (any_char s) l.now) (map literal (chars l.now)) cut.part.pieces
       (literals_stand h begin here there l.now r refl) b c some error now q.0 q.1 k.0 k.1 p
-  part_refused (part.Triplet l) t r x begin here b c error now cut placed text shorter h q k p =
-      let z = ap length text in
-      literals_refused h begin here (here + length x) t r x (part_pieces (part.Triplet l)) cut.pieces
-      (λ prefix. triplet_stands h begin here (here + length x) l prefix x r refl text) b c (omega (arith, z, cut.len)) error now q.0 q.1 k.0 k.1 p
-  part_refused (part.Expression x) t r u begin here b c error now cut placed text shorter h q k p =
-      expression_refused h begin here t r x.operator (map varspec_of (pieces 44 x.varspecs.now)) x.location cut.pieces placed b c error now q k p
+  part_refused (part.Triplet l) t r begin here b c error now cut h q k p =
+      let z = ap length cut.part.placed in
+      literals_refused h begin here (here + length l.now) t r l.now (part_pieces (part.Triplet l)) cut.part.pieces
+      (λ prefix. triplet_stands h begin here (here + length l.now) l prefix r refl cut.part.placed) b c
+      (omega (arith, z, cut.len, cut.part.past.shorter)) error now q.0 q.1 k.0 k.1 p
+  part_refused (part.Expression o v) t r begin here b c error now cut h q k p =
+      let vs = varspecs_of v.text in
+      expression_refused h begin here t r o vs cut.part.pieces b c error now
+      (subst (λ n. EndsAs puts halts (varspec_portions s o h false (placed_varspecs n vs)) b c (Err error)) cut.part.placed q)
+      (subst (λ n. CallsUpTo (varspec_portions s o h false (placed_varspecs n vs)) error.location 0 (Some h) now) cut.part.placed k) p
 
 -- ---- the loop, where the context tells
 module _ {W : Type 0} (s : Tests) (puts halts : W → List ℕ → W → Type 0) (laws : AreSinkLaws puts halts) (whole : List ℕ) (a : W) where
@@ -397,24 +363,25 @@ module _ {W : Type 0} (s : Tests) (puts halts : W → List ℕ → W → Type 0)
         moved = moves_none (Some f);
       }
 
-  pub reached_more : (p : Part) (t r x : List ℕ) (begin : ℕ) (b c : W) (y : Unit {0}) → PartCut p t r → IsPlaced p (length whole - length t)
-      → x ≡ template_text (part_pieces p) → length r < length t → length t ≤ length whole → (u w z : Option Telling)
-      → BothTold u w (ReachedUpTo begin t b) → MovesBy (calls_of p) w z → WhereTold w (PartEnds s puts halts begin x b c (Ok y) p)
+  pub reached_more : (p : Part) (t r : List ℕ) (begin : ℕ) (b c : W) (y : Unit {0}) → IsFirst p (length whole - length t) t r
+      → length t ≤ length whole → (u w z : Option Telling)
+      → BothTold u w (ReachedUpTo begin t b) → MovesBy (calls_of p) w z → WhereTold w (PartEnds s puts halts begin b c (Ok y) p)
       → BothTold u z (ReachedUpTo (begin_after p begin (length whole - length r)) r c)
-  reached_more p t r x begin b c y cut placed text shorter within None w z i m q = tt
-  reached_more p t r x begin b c y cut placed text shorter within (Some f) None z i m q = absurd i
-  reached_more p t r x begin b c y cut placed text shorter within (Some f) (Some h) None i m q = absurd m
-  reached_more p t r x begin b c y cut placed text shorter within (Some f) (Some h) (Some k) i m q =
-      part_more s puts halts laws (all_of f) a f p t r x begin (length whole - length t) (length whole - length r) b c y cut placed text (omega arith) h k m q i
+  reached_more p t r begin b c y cut within None w z i m q = tt
+  reached_more p t r begin b c y cut within (Some f) None z i m q = absurd i
+  reached_more p t r begin b c y cut within (Some f) (Some h) None i m q = absurd m
+  reached_more p t r begin b c y cut within (Some f) (Some h) (Some k) i m q =
+      part_more s puts halts laws (all_of f) a f p t r begin (length whole - length t) (length whole - length r) b c y cut
+      (omega (arith, within, cut.part.past.shorter)) h k m q i
 
-  pub reached_refused : (p : Part) (t r x : List ℕ) (begin : ℕ) (b c : W) (error : Error) → PartCut p t r → IsPlaced p (length whole - length t)
-      → x ≡ template_text (part_pieces p) → length r < length t → (u w z : Option Telling) → BothTold u w (ReachedUpTo begin t b)
-      → WhereTold w (PartEnds s puts halts begin x b c (Err error) p) → WhereTold w (PartCalls s error.location begin w z p)
+  pub reached_refused : (p : Part) (t r : List ℕ) (begin : ℕ) (b c : W) (error : Error) → IsFirst p (length whole - length t) t r
+      → (u w z : Option Telling) → BothTold u w (ReachedUpTo begin t b)
+      → WhereTold w (PartEnds s puts halts begin b c (Err error) p) → WhereTold w (PartCalls s error.location begin w z p)
       → WhereTold u (λ f. EndsAs puts halts (all_of f) a c (Err error)) × WhereTold u (λ f. CallsUpTo (all_of f) error.location 0 u z)
-  reached_refused p t r x begin b c error cut placed text shorter None w z i q k = (tt, tt)
-  reached_refused p t r x begin b c error cut placed text shorter (Some f) None z i q k = absurd i
-  reached_refused p t r x begin b c error cut placed text shorter (Some f) (Some h) z i q k =
-      part_refused s puts halts laws (all_of f) a f p t r x begin (length whole - length t) b c error z cut placed text shorter h q k i
+  reached_refused p t r begin b c error cut None w z i q k = (tt, tt)
+  reached_refused p t r begin b c error cut (Some f) None z i q k = absurd i
+  reached_refused p t r begin b c error cut (Some f) (Some h) z i q k =
+      part_refused s puts halts laws (all_of f) a f p t r begin (length whole - length t) b c error z cut h q k i
 
   pub reached_end : (t : List ℕ) (begin : ℕ) (b : W) (y : Unit {0}) → length t ≡ 0 → (u w : Option Telling) → BothTold u w (ReachedUpTo begin t b)
       → WhereTold u (λ f. EndsAs puts halts (all_of f) a b (Ok y))
@@ -432,11 +399,13 @@ same_length vs = ap length (append-nil (map (λ (v : VarSpec). v.name) vs)) ∙ 
 part_names : (p : Part) → 2 * length (names_of (part_pieces p)) ≡ calls_of p
 part_names (part.Literals l) = ap (λ ns. 2 * length ns) (literals_have_none (chars l.now))
 part_names (part.Triplet l) = refl
-part_names (part.Expression e) = ap (λ n. 2 * n) (same_length (map varspec_of (pieces 44 e.varspecs.now)))
+part_names (part.Expression o v) =
+    let vs = varspecs_of v.text in
+    ap (λ n. 2 * n) (same_length vs ∙ sym (as_many (v.end - left_len v.text) vs))
 
-pub names_left : (p : Part) (t r : List ℕ) → PartCut p t r → calls_of p + 2 * names_in r ≡ 2 * names_in t
-names_left p t r cut =
-    let e = ap (λ ps. length (names_of ps)) cut.pieces ∙ ap length (names_append (part_pieces p) (pieces_of r))
+pub names_left : (p : Part) (at : ℕ) (t r : List ℕ) → IsPart p at t r → calls_of p + 2 * names_in r ≡ 2 * names_in t
+names_left p at t r k =
+    let e = ap (λ ps. length (names_of ps)) k.pieces ∙ ap length (names_append (part_pieces p) (pieces_of r))
     ∙ length-append (names_of (part_pieces p)) (names_of (pieces_of r)) in
     omega (arith, part_names p, e)
 

@@ -7,26 +7,30 @@ use Rattle.iri_template.proofs.Common.{is_ascii_reg_name, is_ascii_unreserved, i
 use Rattle.iri_template.proofs.Common.{is_iprivate, Piece, literal, triplet, literal_char, expression, operator_text, first_of, piece_len}
 use Rattle.iri_template.proofs.Common.{pieces_from, pieces_of, body_of, expression_of, varspec_of, operator_of, after_operator, fault}
 use Rattle.iri_template.proofs.Common.{moved, first, unless, fault_at, piece_fault, fault_from, triplet_fault, operator_fault}
-use Rattle.iri_template.proofs.Common.{varspecs_fault, Error, InvalidCharacter, ExpressionNotClosed, run_of, prefix_fault, IsPrefix, before}
-use Rattle.iri_template.proofs.Common.{after, lacks, delimited, nat_tests, Bor, pieces, Operator, Simple, Reserved, Fragment, Label}
-use Rattle.iri_template.proofs.Common.{PathSegment, PathParameter, FormQuery, FormContinuation}
+use Rattle.iri_template.proofs.Common.{varspecs_fault, Error, InvalidCharacter, ExpressionNotClosed, InvalidPercentEncoding, run_of, before}
+use Rattle.iri_template.proofs.Common.{UnsupportedOperator}
+use Rattle.iri_template.proofs.Common.{after, lacks, delimited, Bor, pieces, Operator, Simple, Reserved, Fragment, Label, is_ascii_hexdigit}
+use Rattle.iri_template.proofs.Common.{PathSegment, PathParameter, FormQuery, FormContinuation, now_of, template_text, ne_eqb}
 use Rattle.std.specs.Prelude.{slice_range}
+use Rattle.std.proofs.Common.{inl, inr}
+use Rattle.std.proofs.lemmas.Bool.{cases_lt}
 use Rattle.std.proofs.lemmas.List.{drop_at, take-append-drop, take_at}
 use Rattle.std.proofs.lemmas.Str.{chars_past_char, char_from_byte, length-encode, IsUtf8-past_char, encode_ascii, chars_from_encodes}
 use Rattle.iri_grammar.specs.Classes.{iri_tests}
 use Rattle.iri_template.specs.Reading.{piece_at, piece_of, len_at, triplet_of}
-use Rattle.iri_template.specs.Fault.{literal_fault}
-use Rattle.iri_template.proofs.FaultLemmas.{moved_moved, varspecs_moved}
+use Rattle.iri_template.specs.Fault.{literal_fault, expression_fault, body_fault, is_reserved_operator}
+use Rattle.iri_template.specs.Left.{varspecs_of, left_len}
+use Rattle.iri_template.proofs.FaultLemmas.{moved_moved, varspecs_moved, varspecs_anywhere, neither, unmoved, passed}
 use Rattle.iri_grammar.proofs.units.ClassLaws.{class_has_ascii}
 use Rattle.iri_grammar.specs.inside.Laws.{iri_is_spec}
 use Rattle.iri_grammar.specs.declared.class.Class.TheVariants.{Any}
 use Rattle.iri_grammar.proofs.faults.PlainTails.{run-all}
 use Rattle.iri_grammar.proofs.units.FirstUnits.{char_shorter}
-use Rattle.iri_template.specs.inside.Parts.{IsPastLiterals, IsExpression, IsTriplet}
+use Rattle.iri_template.specs.inside.Parts.{IsPastLiterals, IsPast, IsPart, Follows}
 use Rattle.iri_grammar.specs.Cut.{tail}
 use Rattle.iri_grammar.proofs.Ranges.{range_prefix}
-use Rattle.iri_template.specs.declared.part.Expression.{Expression}
 use Rattle.iri_template.specs.declared.part.Part.TheVariants as part
+use Rattle.iri_template.specs.declared.varspecs.VarSpecs.{VarSpecs}
 
 -- ---- bytes passed over
 pub skip_fault : (n at : ℕ) (t : List ℕ) → fault_from n at t ≡ fault_from 0 (at + n) (drop n t)
@@ -84,6 +88,12 @@ pub begins_pieces : (p : Piece) (t r : List ℕ) → Begins p t r → pieces_of 
 begins_pieces p t r b = pieces_step t (omega (arith, b.len, b.some)) b.some
     ∙ (ap (λ q. q ∷ pieces_of (drop (piece_len t) t)) b.piece ∙ ap (λ u. p ∷ pieces_of u) b.rest)
 
+pub begins_past : (p : Piece) (at : ℕ) (t r : List ℕ) → Begins p t r → piece_fault t ≡ None → IsPast at t r
+begins_past p at t r b fine = record {
+  fault = begins_fault p at t r b ∙ ap (λ f. first (moved at f) (fault_from 0 (at + (length t - length r)) r)) fine;
+  shorter = omega (arith, b.len, b.some);
+}
+
 -- ---- a literal
 pub first_get : (t : List ℕ) → first_of t ≡ get_or t 0 0
 first_get [] = refl
@@ -134,6 +144,16 @@ literal_begins c t r h u e =
       fault = other.2
           ∙ (ap (λ x. unless (literal_char x) (fault InvalidCharacter 0)) char ∙ ap (λ b. unless b (fault InvalidCharacter 0)) h);
     }
+
+-- ---- the fault of the piece at the start, by its first byte
+pub brace_fault : (t : List ℕ) → first_of t ≡ 123 → piece_fault t ≡ expression_fault t
+brace_fault t e = ap (λ c. fault_at c t) e
+
+pub percent_fault : (t : List ℕ) → first_of t ≡ 37 → piece_fault t ≡ triplet_fault t
+percent_fault t e = ap (λ c. fault_at c t) e
+
+pub other_fault : (t : List ℕ) → first_of t ≢ 123 → first_of t ≢ 37 → piece_fault t ≡ literal_fault t
+other_fault t a b = (other_piece (first_of t) t (ne_eqb (first_of t) 123 a) (ne_eqb (first_of t) 37 b)).2
 
 -- ---- a run of literals
 pub record Passed (ps : List Piece) (at : ℕ) (t r : List ℕ) : Type 0 where
@@ -218,6 +238,16 @@ run_passed t r e h =
       stops = λ same. absurd (omega arith);
     }
 
+-- a literal at the start is passed
+pub passed_some : (t r : List ℕ) → IsPastLiterals t r → literal_char (first_of (chars t)) ≡ true → length r < length t
+passed_some t r k h =
+    let l : length (encode_utf8_all k.literals) + length r ≡ length t =
+    omega (arith, length-append (encode_utf8_all k.literals) r, ap length k.text) in
+    elim (cases_lt (length r) (length t)) [
+      | inl lt ↦ lt
+      | inr ge ↦ let none = k.stops (omega (arith, l)) in cc
+    ]
+
 pub one_passed : (c : ℕ) (t r : List ℕ) → literal_char c ≡ true → t ≡ encode_utf8 c ++ r → IsPastLiterals t r
 one_passed c t r h e = record {
   literals = c ∷ [];
@@ -251,51 +281,23 @@ pub tail_drop : (t : List ℕ) → tail t ≡ drop 1 t
 tail_drop [] = refl
 tail_drop (x ∷ xs) = refl
 
--- the body b, a brace and r follow the first brace of t
-pub record IsBody (t b r : List ℕ) : Type 0 where
-  pub body : body_of t ≡ b
-  pub closed : lacks 125 (tail t) ≡ false
-  pub text : 123 ∷ (body_of t ++ 125 ∷ r) ≡ t
-  pub len : length b + length r + 2 ≡ length t
-
-pub body_cut : (t s b r : List ℕ) → first_of t ≡ 123 → s ≡ drop 1 t → b ≡ before 125 s → after 125 s ≡ Some r → IsBody t b r
-body_cut [] s b r e f g h = absurd (omega arith)
-body_cut (x ∷ xs) s b r e f g h =
-    let body : before 125 xs ≡ b = ap (before 125) (sym f) ∙ sym g in
-    let rest : after 125 xs ≡ Some r = ap (after 125) (sym f) ∙ h in
-    let text : before 125 xs ++ 125 ∷ r ≡ xs = ap (λ o. before 125 xs ++ delimited 125 o) (sym rest) ∙ joined 125 xs in
-    record {
-      body = body;
-      closed = has_delimiter 125 xs r rest;
-      text = ap (λ n. n ∷ (before 125 xs ++ 125 ∷ r)) (sym e) ∙ ap (λ l. x ∷ l) text;
-      len = omega (arith, ap length text, length-append (before 125 xs) (125 ∷ r), ap length body);
-    }
-
--- its fault, but for the varspecs
-pub prefix_of_body : (at : ℕ) (t b r : List ℕ) → IsBody t b r → moved at (prefix_fault t) ≡ moved (at + 1) (operator_fault b)
-prefix_of_body at t b r k =
-    ap (λ l. moved at (cond l (fault ExpressionNotClosed 0) (moved 1 (operator_fault (body_of t))))) k.closed
-    ∙ (ap (λ l. moved at (moved 1 (operator_fault l))) k.body ∙ moved_moved at 1 (operator_fault b))
-
-pub prefix_not_closed : (at : ℕ) (t : List ℕ) → lacks 125 (tail t) ≡ true → moved at (prefix_fault t) ≡ fault ExpressionNotClosed at
-prefix_not_closed at t h =
-    let z : at + 0 ≡ at = omega arith in
-    ap (λ l. moved at (cond l (fault ExpressionNotClosed 0) (moved 1 (operator_fault (body_of t))))) h ∙ ap (fault ExpressionNotClosed) z
-
 -- ---- literals
 pub prefix_range : (t xs ys : List ℕ) (n : ℕ) → xs ++ ys ≡ t → n ≡ length t - length ys → slice_range t 0 n ≡ xs
 prefix_range t xs ys n e h =
     let z : length xs ≡ n = omega (arith, ap length e, length-append xs ys) in
     range_prefix t n ∙ (ap (take n) (sym e) ∙ take_at xs ys n z)
 
-pub literals_prefix : (b : Bor (List ℕ)) (at : ℕ) (t r : List ℕ) → IsUtf8 t → IsUtf8 b.now → IsPastLiterals t r → length r < length t
-    → b.now ≡ slice_range t 0 (length t - length r) → IsPrefix (part.Literals b) t at r
-literals_prefix b at t r u v k h e =
+pub literals_past : (at : ℕ) (t r : List ℕ) → IsUtf8 t → IsPastLiterals t r → length r < length t → IsPast at t r
+literals_past at t r u k h = record { fault = (literals_passed k.literals at t r k.all u k.text).fault; shorter = h }
+
+pub literals_part : (b : Bor (List ℕ)) (at : ℕ) (t r : List ℕ) → IsUtf8 t → IsUtf8 b.now → IsPastLiterals t r → literal_char (first_of (chars t)) ≡ true
+    → b.now ≡ slice_range t 0 (length t - length r) → IsPart (part.Literals b) at t r
+literals_part b at t r u v k h e =
     let same : encode_utf8_all k.literals ≡ b.now =
     sym (e ∙ prefix_range t (encode_utf8_all k.literals) r (length t - length r) k.text refl) in
     let chars_are : k.literals ≡ chars b.now = chars_from_encodes k.literals b.now v same in
     let p = literals_passed k.literals at t r k.all u k.text in
-    record { pieces = p.pieces ∙ ap (λ cs. map literal cs ++ pieces_of r) chars_are; fault = p.fault; shorter = h; ends = tt; placed = tt }
+    record { past = literals_past at t r u k (passed_some t r k h); pieces = p.pieces ∙ ap (λ cs. map literal cs ++ pieces_of r) chars_are; placed = tt }
 
 -- ---- expressions
 short : (o : Operator) → length (operator_text o) ≤ 1
@@ -308,97 +310,124 @@ short PathParameter = omega arith
 short FormQuery = omega arith
 short FormContinuation = omega arith
 
-operator_len : (b : List ℕ) → length (operator_text (operator_of b)) + length (after_operator b) ≡ length b
+pub operator_len : (b : List ℕ) → length (operator_text (operator_of b)) + length (after_operator b) ≡ length b
 operator_len [] = refl
 operator_len (c ∷ cs) = omega (arith, short (operator_of (c ∷ cs)), length-drop (length (operator_text (operator_of (c ∷ cs)))) (c ∷ cs))
 
--- what is known before the varspecs are read
-known : (l : Bool) (f : Error) (o v : Option Error) → cond l (Some f) (moved 1 o) ≡ None → cond l (Some f) (moved 1 (first o v)) ≡ moved 1 v
-known true f o v h = cc
-known false f None v h = refl
-known false f (Some e) v h = cc
+-- what follows the brace that closes it
+pub closed_rest : (c : ℕ) (o : Option (Bor (List ℕ))) (t r : List ℕ) → Follows o r → now_of o ≡ after c t → lacks c t ≡ false → after c t ≡ Some r
+closed_rest c None t r f e h = let none = no_delimiter c t (sym e) in cc
+closed_rest c (Some x) t r f e h = sym e ∙ ap Some (sym f)
 
-pub expression_prefix : (e : Expression) (at : ℕ) (t r : List ℕ) → IsExpression e t at r → IsPrefix (part.Expression e) t at r
-expression_prefix e at t r k =
-    let b = body_of t in
-    let w = pieces 44 (after_operator b) in
+-- its text, and its faults
+pub body_text : (t r : List ℕ) → first_of t ≡ 123 → after 125 (tail t) ≡ Some r → 123 ∷ (body_of t ++ 125 ∷ r) ≡ t
+body_text [] r e h = absurd (omega arith)
+body_text (x ∷ xs) r e h =
+    ap (λ n. n ∷ (before 125 xs ++ 125 ∷ r)) (sym e) ∙ ap (λ l. x ∷ l) (ap (λ o. before 125 xs ++ delimited 125 o) (sym h) ∙ joined 125 xs)
+
+pub body_len : (t r : List ℕ) → first_of t ≡ 123 → after 125 (tail t) ≡ Some r → length (body_of t) + length r + 2 ≡ length t
+body_len t r e h = omega (arith, ap length (body_text t r e h), length-append (body_of t) (125 ∷ r))
+
+pub closed_fault : (at : ℕ) (t r : List ℕ) → after 125 (tail t) ≡ Some r → moved at (expression_fault t) ≡ moved (at + 1) (body_fault (body_of t))
+closed_fault at t r h =
+    ap (λ l. moved at (cond l (fault ExpressionNotClosed 0) (moved 1 (body_fault (body_of t))))) (has_delimiter 125 (tail t) r h)
+    ∙ moved_moved at 1 (body_fault (body_of t))
+
+pub open_fault : (at : ℕ) (t : List ℕ) → after 125 (tail t) ≡ None → moved at (expression_fault t) ≡ fault ExpressionNotClosed at
+open_fault at t h =
+    let z : at + 0 ≡ at = omega arith in
+    ap (λ l. moved at (cond l (fault ExpressionNotClosed 0) (moved 1 (body_fault (body_of t))))) (no_delimiter 125 (tail t) h)
+    ∙ ap (fault ExpressionNotClosed) z
+
+-- a body whose first byte isn't reserved
+pub free_body : (b : List ℕ) → 0 < length b → is_reserved_operator (get_or b 0 0) ≡ false → operator_fault b ≡ None
+free_body [] n h = absurd (omega arith)
+free_body (x ∷ xs) n h = ap (λ r. cond r (fault UnsupportedOperator 0) None) h
+
+-- a body without a fault of its own has that of its varspecs
+pub rest_fault : (at : ℕ) (b : List ℕ) → operator_fault b ≡ None
+    → moved at (body_fault b) ≡ varspecs_fault (at + (length b - length (after_operator b))) (pieces 44 (after_operator b))
+rest_fault at b h =
     let n = length (operator_text (operator_of b)) in
-    let begins = expression_begins t r k.text in
-    let brace : first_of t ≡ 123 = ap first_of (sym k.text) in
-    let rest = known (lacks 125 (tail t)) _ (operator_fault b) (varspecs_fault n w) k.prefix in
-    let z : at + 1 + n ≡ e.location = omega (arith, k.location, ap length k.varspecs, operator_len b) in
-    let told : moved at (piece_fault t) ≡ varspecs_fault e.location (pieces 44 e.varspecs.now) =
-    ap (moved at) (ap (λ c. fault_at c t) brace ∙ rest) ∙ (moved_moved at 1 (varspecs_fault n w)
-    ∙ (sym (varspecs_moved (at + 1) n w) ∙ (ap (λ m. varspecs_fault m w) z
-    ∙ ap (λ l. varspecs_fault e.location (pieces 44 l)) (sym k.varspecs)))) in
-    record {
-      pieces = begins_pieces (expression_of b) t r begins ∙ pieces_same k.operator k.varspecs;
-      fault = begins_fault (expression_of b) at t r begins ∙ ap (λ f. first f (fault_from 0 (at + (length t - length r)) r)) told;
-      shorter = omega (arith, begins.len, begins.some);
-      ends = omega (arith, k.location, ap length k.text, length-append b (125 ∷ r));
-      placed = sym z ∙ ap (λ o. at + 1 + length (operator_text o)) (sym k.operator);
-    }
+    let z : at + n ≡ at + (length b - length (after_operator b)) = omega (arith, operator_len b) in
+    ap (λ f. moved at (first f (varspecs_fault n (pieces 44 (after_operator b))))) h ∙ sym (varspecs_moved at n (pieces 44 (after_operator b)))
+    ∙ ap (λ m. varspecs_fault m (pieces 44 (after_operator b))) z
+
+-- one that has no fault
+pub closed_fine : (t : List ℕ) → expression_fault t ≡ None → (lacks 125 (tail t) ≡ false) × (body_fault (body_of t) ≡ None)
+closed_fine t h = closed (lacks 125 (tail t)) _ (body_fault (body_of t)) h
   where
-    pieces_same : e.operator ≡ operator_of (body_of t) → e.varspecs.now ≡ after_operator (body_of t)
-        → expression_of (body_of t) ∷ pieces_of r ≡ expression e.operator (map varspec_of (pieces 44 e.varspecs.now)) ∷ pieces_of r
-    pieces_same h j =
-        ap (λ o. expression o (map varspec_of (pieces 44 (after_operator (body_of t)))) ∷ pieces_of r) (sym h)
-        ∙ ap (λ l. expression e.operator (map varspec_of (pieces 44 l)) ∷ pieces_of r) (sym j)
+    closed : (l : Bool) (d : Error) (o : Option Error) → cond l (Some d) (moved 1 o) ≡ None → (l ≡ false) × (o ≡ None)
+    closed true d o k = cc
+    closed false d None k = (refl, refl)
+    closed false d (Some f) k = cc
 
--- a fault that comes before the varspecs
-first_known : (at : ℕ) (l : Bool) (f : Error) (o v : Option Error) (e : Error) → moved at (cond l (Some f) (moved 1 o)) ≡ Some e
-    → moved at (cond l (Some f) (moved 1 (first o v))) ≡ Some e
-first_known at true f o v e h = h
-first_known at false f None v e h = cc
-first_known at false f (Some g) v e h = h
+pub fine_varspecs : (b : List ℕ) → body_fault b ≡ None → varspecs_fault 0 (pieces 44 (after_operator b)) ≡ None
+fine_varspecs b h =
+    let n = length (operator_text (operator_of b)) in
+    let vs = pieces 44 (after_operator b) in
+    varspecs_anywhere n vs (neither (operator_fault b) (varspecs_fault n vs) h).1
 
-some_piece : (t : List ℕ) → first_of t ≡ 123 → 0 < piece_len t
-some_piece t e = let z : piece_len t ≡ length (body_of t) + 2 = ap (λ c. len_at c t) e in omega (arith, z)
+-- an expression whose body is checked
+pub expression_past : (at : ℕ) (t b r : List ℕ) → first_of t ≡ 123 → after 125 (tail t) ≡ Some r → b ≡ body_of t → moved (at + 1) (body_fault b) ≡ None
+    → IsPast at t r
+expression_past at t b r brace rest is fine =
+    begins_past (expression_of (body_of t)) at t r (expression_begins t r (body_text t r brace rest))
+    (brace_fault t brace ∙ unmoved at (expression_fault t) (closed_fault at t r rest ∙ ap (λ l. moved (at + 1) (body_fault l)) (sym is) ∙ fine))
 
-pub expression_error : (at : ℕ) (t : List ℕ) (e : Error) → 0 < length t → first_of t ≡ 123 → moved at (prefix_fault t) ≡ Some e
-    → fault_from 0 at t ≡ Some e
-expression_error at t e some brace h =
-    fault_at_start at t e some (some_piece t brace)
-    (ap (moved at) (ap (λ c. fault_at c t) brace) ∙ first_known at (lacks 125 (tail t)) _ (operator_fault (body_of t)) _ e h)
+pub expression_wrong : (at : ℕ) (t b r : List ℕ) (f : Option Error) → first_of t ≡ 123 → after 125 (tail t) ≡ Some r → b ≡ body_of t
+    → moved (at + 1) (body_fault b) ≡ f → moved at (piece_fault t) ≡ f
+expression_wrong at t b r f brace rest is h =
+    ap (moved at) (brace_fault t brace) ∙ closed_fault at t r rest ∙ ap (λ l. moved (at + 1) (body_fault l)) (sym is) ∙ h
+
+pub expression_part : (o : Operator) (v : VarSpecs) (text : Bor (List ℕ)) (at : ℕ) (t r : List ℕ) → first_of t ≡ 123 → piece_fault t ≡ None
+    → after 125 (tail t) ≡ Some r → o ≡ operator_of (body_of t) → text.now ≡ after_operator (body_of t) → v.text ≡ Some text
+    → v.end ≡ at + 1 + length (body_of t) → IsPart (part.Expression o v) at t r
+expression_part o v text at t r brace fine rest operator varspecs is end =
+    let b = body_of t in
+    let begins = expression_begins t r (body_text t r brace rest) in
+    let z : v.end - left_len v.text ≡ at + 1 + length (operator_text o) =
+    omega (arith, end, operator_len b, ap length varspecs, ap left_len is, ap (λ p. length (operator_text p)) operator) in
+    record {
+      past = begins_past (expression_of b) at t r begins fine;
+      pieces = begins_pieces (expression_of b) t r begins
+          ∙ ap (λ p. expression p (map varspec_of (pieces 44 (after_operator b))) ∷ pieces_of r) (sym operator)
+          ∙ ap (λ l. expression o (map varspec_of (pieces 44 l)) ∷ pieces_of r) (sym varspecs)
+          ∙ ap (λ x. expression o (varspecs_of x) ∷ pieces_of r) (sym is);
+      placed = z;
+    }
 
 -- ---- triplets
-triplet_taken : (t : List ℕ) → triplet_fault t ≡ None → triplet_of (take 3 t) ≡ triplet_of t
-triplet_taken [] h = refl
-triplet_taken (x ∷ []) h = refl
-triplet_taken (x ∷ a ∷ []) h = refl
-triplet_taken (x ∷ a ∷ b ∷ cs) h = refl
+triplet_taken : (t : List ℕ) → first_of t ≡ 37 → triplet_fault t ≡ None
+    → (triplet_of (take 3 t) ≡ triplet_of t) × (take 3 t ≡ template_text (triplet_of t ∷ []))
+triplet_taken [] e h = cc
+triplet_taken (x ∷ []) e h = cc
+triplet_taken (x ∷ a ∷ []) e h = cc
+triplet_taken (x ∷ a ∷ b ∷ cs) e h = (refl, ap (λ n. n ∷ a ∷ b ∷ []) e)
 
-pub triplet_prefix : (b : Bor (List ℕ)) (at : ℕ) (t r : List ℕ) → first_of t ≡ 37 → IsTriplet b.now t r → IsPrefix (part.Triplet b) t at r
-triplet_prefix b at t r e k =
-    let fine = triplet_begins t e k.fault in
-    let begins : Begins (triplet_of t) t r = subst (λ l. Begins (triplet_of t) t l) (sym k.rest) fine.begins in
+pub triplet_hex : (t : List ℕ) → triplet_fault t ≡ None → (3 ≤ length t) × (is_ascii_hexdigit (get_or t 2 0) ≡ true)
+triplet_hex [] h = cc
+triplet_hex (x ∷ []) h = cc
+triplet_hex (x ∷ a ∷ []) h = cc
+triplet_hex (x ∷ a ∷ b ∷ cs) h =
+    (omega arith, (passed (is_ascii_hexdigit b) None _ (passed (is_ascii_hexdigit a) (unless (is_ascii_hexdigit b) (fault InvalidPercentEncoding 2)) _ h).1).0)
+
+pub triplet_part : (b : Bor (List ℕ)) (at : ℕ) (t r : List ℕ) → first_of t ≡ 37 → triplet_fault t ≡ None → b.now ≡ take 3 t → r ≡ drop 3 t
+    → IsPart (part.Triplet b) at t r
+triplet_part b at t r e h is rest =
+    let fine = triplet_begins t e h in
+    let begins : Begins (triplet_of t) t r = subst (λ l. Begins (triplet_of t) t l) (sym rest) fine.begins in
+    let taken = triplet_taken t e h in
+    let same : triplet_of t ≡ triplet_of b.now = sym taken.0 ∙ ap triplet_of (sym is) in
     record {
-      pieces = begins_pieces (triplet_of t) t r begins
-          ∙ ap (λ p. p ∷ pieces_of r) (sym (triplet_taken t k.fault) ∙ ap triplet_of (sym k.triplet));
-      fault = begins_fault (triplet_of t) at t r begins
-          ∙ ap (λ f. first (moved at f) (fault_from 0 (at + (length t - length r)) r)) fine.fault;
-      shorter = omega (arith, begins.len, begins.some);
-      ends = tt;
-      placed = tt;
+      past = begins_past (triplet_of t) at t r begins fine.fault;
+      pieces = begins_pieces (triplet_of t) t r begins ∙ ap (λ p. p ∷ pieces_of r) same;
+      placed = is ∙ taken.1 ∙ ap (λ p. template_text (p ∷ [])) same;
     }
 
-pub triplet_error : (at : ℕ) (t : List ℕ) (e : Error) → 0 < length t → first_of t ≡ 37 → moved at (triplet_fault t) ≡ Some e
-    → fault_from 0 at t ≡ Some e
-triplet_error at t e some percent h =
-    let z : piece_len t ≡ 3 = ap (λ c. len_at c t) percent in
-    fault_at_start at t e some (omega (arith, z)) (ap (λ c. moved at (fault_at c t)) percent ∙ h)
-
--- ---- any other character
-pub character_error : (at : ℕ) (t : List ℕ) → 0 < length t → first_of t ≢ 123 → first_of t ≢ 37 → literal_char (first_of (chars t)) ≡ false
-    → fault_from 0 at t ≡ fault InvalidCharacter at
-character_error at t some a b h =
-    let brace : (first_of t == 123) ≡ false = grind (arith, nat_tests) in
-    let percent : (first_of t == 37) ≡ false = grind (arith, nat_tests) in
-    let z : at + 0 ≡ at = omega arith in
-    let other = other_piece (first_of t) t brace percent in
-    let len : piece_len t ≡ len_utf8 (first_of (chars t)) = other.1 in
-    let told : moved at (piece_fault t) ≡ fault InvalidCharacter at =
-    ap (moved at) (other.2 ∙ ap (λ v. unless v (fault InvalidCharacter 0)) h)
-    ∙ ap (fault InvalidCharacter) z in
-    fault_at_start at t (record { kind = InvalidCharacter; location = at }) some
-    (omega (arith, len, (len_utf8_bounds (first_of (chars t))).0)) told
+pub some_piece : (t : List ℕ) → 0 < piece_len t
+some_piece t =
+    by_test (first_of t) 123 (λ b. 0 < cond b (length (body_of t) + 2) (cond (first_of t == 37) 3 (len_utf8 (first_of (chars t)))))
+    (λ _. omega arith)
+    (λ _. by_test (first_of t) 37 (λ b. 0 < cond b 3 (len_utf8 (first_of (chars t)))) (λ _. omega arith)
+    (λ _. omega (arith, (len_utf8_bounds (first_of (chars t))).0)))

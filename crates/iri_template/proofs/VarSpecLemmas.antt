@@ -64,7 +64,7 @@ varspec_bytes v h =
     (modifier_bytes v.modifier k.1)
 
 -- ---- cutting at the end of the name
-starts : (ℕ → Bool) → List ℕ → Bool
+pub starts : (ℕ → Bool) → List ℕ → Bool
 starts p [] = true
 starts p (c ∷ cs) = p c
 
@@ -78,7 +78,7 @@ any_cut p (x ∷ xs) m h k =
     let more = any_cut p xs m j.1 k in
     rw (not-true (p x) j.0) (ap (λ l. x ∷ l) more.0, more.1)
 
-any_joined : (p : ℕ → Bool) (t : List ℕ) → (before_any p t ++ from_any p t ≡ t) × (starts p (from_any p t) ≡ true)
+pub any_joined : (p : ℕ → Bool) (t : List ℕ) → (before_any p t ++ from_any p t ≡ t) × (starts p (from_any p t) ≡ true)
 unfolding starts
 any_joined p [] = (refl, refl)
 any_joined p (x ∷ xs) =

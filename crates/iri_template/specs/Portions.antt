@@ -3,10 +3,11 @@ use Rattle.std.specs.Prelude.{ℕ, ◌+◌, ◌*◌, Bool, false, cond, ◌||◌
 use Rattle.iri_grammar.specs.Characters.{percent_sign}
 use Rattle.iri_grammar.specs.Classes.{Tests, any_char}
 use Rattle.iri_percent.specs.Encoding.{encoded_char}
-use Rattle.iri_template.specs.Template.{has_some, VarSpec, Piece, literal, triplet, expression, operator_text, varspec_text, piece_text}
+use Rattle.iri_template.specs.Template.{has_some, Piece, literal, triplet, expression, piece_text}
+use Rattle.iri_template.specs.Places.{placed_within}
 use Rattle.iri_template.specs.Expansion.{row_of, value_texts, led}
 use Rattle.iri_template.specs.Fault.{fault}
-use Rattle.iri_template.specs.VarSpecs.{held}
+use Rattle.iri_template.specs.VarSpecs.{Placed}
 use Rattle.iri_template.specs.ShownValues.{ShownValue}
 use Rattle.iri_template.specs.Tells.{Telling, later}
 use Rattle.iri_template.specs.TypeFaults.{is_mistyped}
@@ -35,14 +36,13 @@ varspec_portion s operator at written name modifier mistyped told = record {
   calls = cond mistyped 1 2;
 }
 
--- The varspecs of an expression, a comma between each two. Each takes two calls.
-abbrev pub varspec_portions : Tests → Operator → Telling → ℕ → Bool → List VarSpec → List Portion
-varspec_portions s operator tells at written [] = []
-varspec_portions s operator tells at written (v ∷ vs) =
-    varspec_portion s operator at written v.name (held v.modifier) (is_mistyped (held v.modifier) (tells 0 v.name Typecheck))
-    (tells 1 v.name Expand)
-    ∷ varspec_portions s operator (later 2 tells) (at + length (varspec_text v) + 1)
-    (written || has_some (value_texts s (row_of operator) v.name (held v.modifier) (tells 1 v.name Expand))) vs
+-- The varspecs of an expression. Each takes two calls.
+abbrev pub varspec_portions : Tests → Operator → Telling → Bool → List Placed → List Portion
+varspec_portions s operator tells written [] = []
+varspec_portions s operator tells written (p ∷ ps) =
+    varspec_portion s operator p.location written p.name p.modifier (is_mistyped p.modifier (tells 0 p.name Typecheck)) (tells 1 p.name Expand)
+    ∷ varspec_portions s operator (later 2 tells)
+    (written || has_some (value_texts s (row_of operator) p.name p.modifier (tells 1 p.name Expand))) ps
 
 -- ---- templates
 -- literals and triplets outside expressions; none where there are none
@@ -58,7 +58,7 @@ portions_from s tells at here prefix (literal c ∷ ps) =
 portions_from s tells at here prefix (triplet a b ∷ ps) =
     portions_from s tells at (here + length (piece_text (triplet a b))) (prefix ++ percent_sign ∷ a ∷ b ∷ []) ps
 portions_from s tells at here prefix (expression operator vs ∷ ps) =
-    outside at prefix ++ (varspec_portions s operator tells (here + 1 + length (operator_text operator)) false vs
+    outside at prefix ++ (varspec_portions s operator tells false (placed_within here (expression operator vs))
     ++ portions_from s (later (2 * length vs) tells) (here + length (piece_text (expression operator vs)))
     (here + length (piece_text (expression operator vs))) [] ps)
 

@@ -1,5 +1,5 @@
 -- How a varspec is held.
-use Rattle.std.specs.Prelude.{◌≡◌, ℕ, ◌+◌, ◌-◌, ◌*◌, List, [], ◌∷◌}
+use Rattle.std.specs.Prelude.{ℕ, ◌+◌, ◌-◌, ◌*◌, List, [], ◌∷◌}
 use Rattle.iri_template.specs.Template as template
 use Rattle.iri_template.specs.declared.varspec.VarSpec.{VarSpec}
 use Rattle.iri_template.specs.declared.varspec.Modifier.{Modifier}
@@ -18,7 +18,14 @@ held template.whole = Whole
 held template.explode = Explode
 held (template.prefix ds) = Prefix (number_of ds)
 
--- the same name and modifier
-pub record IsHeld (v : VarSpec) (w : template.VarSpec) : Type 0 where
-  pub name : v.name.text.now ≡ w.name
-  pub modifier : v.modifier ≡ held w.modifier
+-- with its place: how many bytes of the template stand before it
+pub record Placed : Type 0 where
+  pub location : ℕ
+  pub name : List ℕ
+  pub modifier : Modifier
+
+abbrev pub placed_at : ℕ → template.VarSpec → Placed
+placed_at at w = record { location = at; name = w.name; modifier = held w.modifier }
+
+abbrev pub placed_of : VarSpec → Placed
+placed_of v = record { location = v.location; name = v.name.text.now; modifier = v.modifier }

@@ -33,6 +33,7 @@ impl TextSink for ByteCount {
 }
 
 // Whether the text of a value has at most so many bytes. One with more has characters.
+#[tactic(auto, using(crate::proofs::PrefixChars::some_chars))]
 pub(crate) fn is_within<T: Show>(value: &T, limit: usize) -> bool
     ensures within { result ≡ nat_le (length (T.text value.now)) limit }
     ensures longer { result ≡ false → 0 < length (chars (T.text value.now)) }

@@ -2,7 +2,6 @@
 ghost use Rattle.std.specs.Prelude.{◌≡◌, ℕ, List};
 ghost use Rattle.iri_template.specs.ShownValues.{ShownValue};
 ghost use Rattle.iri_template.specs.Events.{telling};
-ghost use Rattle.iri_template.specs.inside.ByPurpose.{untold};
 ghost use Rattle.iri_template.specs.Visits.{Visits};
 ghost use Rattle.iri_template.specs.declared.visitor.Phase.TheVariants.{Fresh, Done};
 
@@ -39,16 +38,4 @@ pub trait Context {
         requires { V.phase visitor.old ≡ Fresh }
         ensures { Visits V.name V.aim V.phase V.hears V.halts V.stops visitor.old
             (telling (value_of self.now (V.name visitor.old))) Done visitor.new result };
-}
-
-// No variable has a value.
-#[derive(Drop)]
-pub(crate) struct NoValues;
-
-impl Context for NoValues {
-    ghost value_of = { λ c. untold };
-
-    fn visit<V: Visitor>(&self, visitor: &mut V) -> Result<(), Stop> {
-        visitor.visit_undefined()
-    }
 }

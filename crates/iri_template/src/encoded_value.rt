@@ -46,6 +46,7 @@ fn put_encoded<S: Spec, W: TextSink>(sink: &mut W, text: &str) -> Result<(), Sto
     PercentEncoded::<&str, S>::unreserve(text).show(sink)
 }
 
+#[tactic(auto, using(crate::proofs::PrefixChars::encoded_one))]
 fn put_char<S: Spec, W: TextSink>(sink: &mut W, c: char) -> Result<(), Stop>
     ensures { Shows W.puts W.halts W.stops sink.old (encoded_char (unreserved S.tests) c) sink.new result }
 {
@@ -121,6 +122,7 @@ impl<'v, T: Show> Show for Lent<'v, T> {
     }
 }
 
+#[tactic(auto, unfolding(iri_percent::specs::Encoding::encoded))]
 fn show_all<T: Show, S: Spec, W: TextSink>(sink: &mut W, value: &T) -> Result<(), Stop>
     ensures { Shows W.puts W.halts W.stops sink.old (shown_text S.tests false None (T.text value.now)) sink.new result }
 {
@@ -152,6 +154,7 @@ impl<'v, T: Show, S: Spec> EncodedValue<'v, T, S> {
     }
 
     // Whether its text is empty. Percent-encoded octets don't stay.
+    #[tactic(auto, using(crate::proofs::PrefixChars::none_of_none, crate::proofs::PrefixChars::value_decides))]
     pub(crate) fn is_empty(&self) -> bool
         requires { self.now.allow ≡ false }
         ensures { result ≡ (length (shown_text S.tests self.now.allow self.now.prefix (T.text self.now.value.now)) == 0) }

@@ -9,9 +9,8 @@ ghost use Rattle.iri_template.specs.TypeFaults.{type_fault, expansion_fault};
 use crate::byte_count::is_within;
 use crate::context::Context;
 use crate::dynamic_context::Typechecked;
-use crate::error::{Error, ErrorKind};
+use crate::error::Error;
 use crate::expansion_writer::write_expansion;
-use crate::fault::find_fault;
 use crate::template::UriTemplateStr;
 use iri_grammar::spec::Spec;
 use iri_owned::error::CreationError;
@@ -19,8 +18,8 @@ use iri_owned::owned::{Owned, RiAbsoluteString, RiReferenceString, RiRelativeStr
 use iri_text::{FormatSink, Show, Stop, TextSink, ToStringFallible};
 use iri_types::kind::Kind;
 use std::alloc::{AllocError, Global};
+use std::fmt;
 use std::marker::PhantomData;
-use std::{fmt, str};
 
 /// A template whose expansion for a URI or an IRI is shown, with the values of a context (RFC 6570 section 3). It
 /// allocates nothing until it is made owned, and the values may put their texts in any pieces.
@@ -109,8 +108,7 @@ impl<'a, S: Spec, C: Context> fmt::Display for Expanded<'a, S, C> {
 impl<'a, S: Spec, C: Context> Expanded<'a, S, C> {
     ghost use Rattle.iri_template.specs.ExpandedTexts.{expanded_text, RefusedAs, IsWithin};
 
-    /// The expansion of a template that stands in bytes, which are looked at once for both kinds of fault. Nothing is
-    /// written and nothing is allocated.
+    /// The expansion of a template that stands in bytes. Nothing is written and nothing is allocated.
     ///
     /// # Errors
     ///
@@ -130,16 +128,9 @@ impl<'a, S: Spec, C: Context> Expanded<'a, S, C> {
         ensures fault { Answers result (expansion_fault (C.value_of context.now) b.now) }
         ensures expanded { IfOk result (λ e. (text e.template ≡ b.now) × (e.context.now ≡ context.now)) }
     {
-        match str::from_utf8(b) {
-            Ok(s) => match find_fault(context, s) {
-                Some(error) => Err(error),
-                None => Ok(Expanded {
-                    template: UriTemplateStr::from_valid(s),
-                    context,
-                    spec: PhantomData,
-                }),
-            },
-            Err(error) => Err(Error::new(ErrorKind::InvalidUtf8, error.valid_up_to())),
+        match UriTemplateStr::try_from_bytes(b) {
+            Ok(template) => template.expand(context),
+            Err(error) => Err(error),
         }
     }
 

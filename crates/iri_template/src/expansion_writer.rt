@@ -1,29 +1,30 @@
 //! Expansions that are written: their expressions (RFC 6570 section 3.2.1), and the literals between them (section 3.1).
 ghost use Rattle.std.specs.Prelude.{◌≡◌, ◌≤◌, ◌<◌, ◌+◌, ◌*◌, ◌^◌, ◌||◌, [], ◌∷◌, false, cond, None, map, length, IfErr};
 ghost use Rattle.std.specs.Prelude.{OnOk, ◌-◌};
-ghost use Rattle.iri_grammar.specs.Pieces.{pieces};
 ghost use Rattle.iri_template.specs.Expansion.{row_of, value_texts};
-ghost use Rattle.iri_template.specs.Fault.{varspecs_fault, text_fault};
+ghost use Rattle.iri_template.specs.Fault.{text_fault};
 ghost use Rattle.iri_template.specs.Portions.{varspec_portion, varspec_portions, portions};
-ghost use Rattle.iri_template.specs.Reading.{varspec_of, pieces_of};
+ghost use Rattle.iri_template.specs.Reading.{pieces_of};
 ghost use Rattle.iri_template.specs.Tells.{WhereTold, MovesBy, Calls};
 ghost use Rattle.iri_template.specs.TypeFaults.{is_mistyped};
 ghost use Rattle.iri_template.specs.Writings.{EndsAs, HasCause, CallsUpTo};
 ghost use Rattle.iri_template.specs.inside.Checked.{state_texts, state_portion};
 ghost use Rattle.iri_template.specs.declared.visitor.Phase.TheVariants.{Fresh};
 ghost use Rattle.iri_template.specs.declared.visitor.VisitPurpose.TheVariants.{Typecheck, Expand};
-ghost use Rattle.iri_template.specs.Template.{has_some, names_of, template_text};
+ghost use Rattle.iri_template.specs.Template.{has_some, names_of};
 ghost use Rattle.iri_template.specs.inside.PartEnds.{PartEnds, PartCalls, calls_of, begin_after, write_result};
-ghost use Rattle.iri_template.specs.inside.Parts.{part_pieces, part_fault, EndsBefore};
+ghost use Rattle.iri_template.specs.Variables.{varspecs_left};
 
 use crate::dynamic_context::DynamicContext;
 use crate::error::{Error, ErrorKind};
 use crate::operator::Operator;
-use crate::part::{Part, read_part};
+use crate::part::Part;
+use crate::parts::Parts;
 use crate::type_check::TypeCheck;
 use crate::units::put_as;
 use crate::value_writer::{ExpressionState, ValueWriter};
-use crate::varspec::{VarSpec, read_first};
+use crate::varspec::VarSpec;
+use crate::varspecs::VarSpecs;
 use iri_grammar::spec::Spec;
 use iri_text::{Stop, TextSink};
 
@@ -71,18 +72,16 @@ fn tell_next<C: DynamicContext, S: Spec, W: TextSink>(
     }
 }
 
-// Looks at the value of a variable, and then writes it, after the operator's first text or its separator. `at` is the place
-// of the varspec.
+// Looks at the value of a variable, and then writes it, after the operator's first text or its separator.
 fn write_varspec<C: DynamicContext, S: Spec, W: TextSink>(
     sink: &mut W,
     context: &mut C,
     operator: Operator,
     varspec: VarSpec<'_>,
-    at: usize,
     written: &mut bool,
 ) -> Result<(), Error>
     ensures written { WhereTold (C.tells context.old)
-        (λ f. EndsAs W.puts W.halts (varspec_portion S.tests operator at written.old varspec.entry.name.text.now
+        (λ f. EndsAs W.puts W.halts (varspec_portion S.tests operator varspec.entry.location written.old varspec.entry.name.text.now
         varspec.entry.modifier (is_mistyped varspec.entry.modifier (f 0 varspec.entry.name.text.now Typecheck))
         (f 1 varspec.entry.name.text.now Expand) ∷ []) sink.old sink.new result) }
     ensures goes_on { OnOk result (WhereTold (C.tells context.old)
@@ -91,7 +90,7 @@ fn write_varspec<C: DynamicContext, S: Spec, W: TextSink>(
     ensures cause { HasCause (W.stops sink.old) (W.stops sink.new) result }
     ensures later { W.stops sink.old ≤ W.stops sink.new }
     ensures moves { OnOk result (MovesBy 2 (C.tells context.old) (C.tells context.new)) }
-    ensures place { IfErr result (λ e. e.location ≡ at) }
+    ensures place { IfErr result (λ e. e.location ≡ varspec.entry.location) }
     ensures calls { WhereTold (C.tells context.old)
         (λ f. MovesBy (cond (is_mistyped varspec.entry.modifier (f 0 varspec.entry.name.text.now Typecheck)) 1 2)
         (C.tells context.old) (C.tells context.new)) }
@@ -99,7 +98,7 @@ fn write_varspec<C: DynamicContext, S: Spec, W: TextSink>(
     ensures same_ends { C.ends context.new ≡ C.ends context.old }
 {
     if looks_mistyped(context, varspec) {
-        return Err(Error::new(ErrorKind::UnexpectedValueType, at));
+        return Err(Error::new(ErrorKind::UnexpectedValueType, varspec.location));
     }
     let state = ExpressionState {
         operator,
@@ -109,58 +108,40 @@ fn write_varspec<C: DynamicContext, S: Spec, W: TextSink>(
         member: false,
     };
     let mut visitor = ValueWriter::<S, W>::new(sink, state);
-    let result = tell_next(&mut visitor, context, at);
+    let result = tell_next(&mut visitor, context, varspec.location);
     *written = visitor.state.written;
     result
 }
 
-// Writes the values of varspecs, which have no fault. `at` is their place, and a brace stands after them.
-pub(crate) fn write_varspecs<C: DynamicContext, S: Spec, W: TextSink>(
+// Writes the values of the varspecs of an expression.
+fn write_varspecs<C: DynamicContext, S: Spec, W: TextSink>(
     sink: &mut W,
     context: &mut C,
     operator: Operator,
-    varspecs: &str,
-    at: usize,
+    varspecs: VarSpecs<'_>,
 ) -> Result<(), Error>
-    requires fine { varspecs_fault 0 (pieces 44 varspecs.now) ≡ None }
-    requires fits { at + length varspecs.now + 1 < 2 ^ 64 }
     ensures written { WhereTold (C.tells context.old)
-        (λ f. EndsAs W.puts W.halts
-        (varspec_portions S.tests operator f at false (map varspec_of (pieces 44 varspecs.now))) sink.old sink.new result) }
+        (λ f. EndsAs W.puts W.halts (varspec_portions S.tests operator f false (varspecs_left varspecs.entry)) sink.old sink.new
+        result) }
     ensures cause { HasCause (W.stops sink.old) (W.stops sink.new) result }
     ensures later { W.stops sink.old ≤ W.stops sink.new }
-    ensures moves { OnOk result (MovesBy (2 * length (map varspec_of (pieces 44 varspecs.now))) (C.tells context.old)
+    ensures moves { OnOk result (MovesBy (2 * length (varspecs_left varspecs.entry)) (C.tells context.old)
         (C.tells context.new)) }
     ensures refused { IfErr result (λ e. WhereTold (C.tells context.old)
-        (λ f. CallsUpTo (varspec_portions S.tests operator f at false (map varspec_of (pieces 44 varspecs.now)))
-        e.location 0 (C.tells context.old) (C.tells context.new))) }
+        (λ f. CallsUpTo (varspec_portions S.tests operator f false (varspecs_left varspecs.entry)) e.location 0
+        (C.tells context.old) (C.tells context.new))) }
     ensures same_starts { C.starts context.new ≡ C.starts context.old }
     ensures same_ends { C.ends context.new ≡ C.ends context.old }
 {
-    let mut rest = varspecs;
+    let mut left = varspecs;
     let mut written = false;
-    'varspecs: loop {
-        match read_first(rest, 0) {
-            Ok((varspec, others)) => {
-                let place = at + (varspecs.len() - rest.len());
-                match write_varspec::<C, S, W>(
-                    sink,
-                    context,
-                    operator,
-                    varspec,
-                    place,
-                    &mut written,
-                ) {
-                    Ok(()) => match others {
-                        Some(more) => rest = more,
-                        None => return Ok(()),
-                    },
-                    Err(error) => return Err(error),
-                }
-            }
-            Err(_) => unreachable!(),
+    'varspecs: while let Some(varspec) = left.next() {
+        match write_varspec::<C, S, W>(sink, context, operator, varspec, &mut written) {
+            Ok(()) => {}
+            Err(error) => return Err(error),
         }
     }
+    Ok(())
 }
 
 // What is answered of literals and percent-encoded octets that begin at this place, where they were put or the sink
@@ -171,19 +152,15 @@ fn write_result(put: Result<(), Stop>, begin: usize) -> Result<(), Error>
     put.map_err(|_| Error::new(ErrorKind::WriteFailed, begin))
 }
 
-// Writes a part with this text. `begin` is the place of the literals and percent-encoded octets to which it belongs, where
-// it is one.
+// Writes a part. `begin` is the place of the literals and percent-encoded octets to which it belongs, where it is one.
 fn write_part<C: DynamicContext, S: Spec, W: TextSink>(
     sink: &mut W,
     context: &mut C,
     part: Part<'_>,
-    text: &str,
     begin: usize,
 ) -> Result<(), Error>
-    requires fine { part_fault part ≡ None }
-    requires before { EndsBefore part (2 ^ 64 - 1) }
     ensures written { WhereTold (C.tells context.old)
-        (PartEnds S.tests W.puts W.halts begin text.now sink.old sink.new result part.entry) }
+        (PartEnds S.tests W.puts W.halts begin sink.old sink.new result part.entry) }
     ensures cause { HasCause (W.stops sink.old) (W.stops sink.new) result }
     ensures later { W.stops sink.old ≤ W.stops sink.new }
     ensures moves { OnOk result (MovesBy (calls_of part.entry) (C.tells context.old) (C.tells context.new)) }
@@ -193,20 +170,20 @@ fn write_part<C: DynamicContext, S: Spec, W: TextSink>(
     ensures same_ends { C.ends context.new ≡ C.ends context.old }
 {
     match part {
-        Part::Expression(e) => {
-            write_varspecs::<C, S, W>(sink, context, e.operator, e.varspecs, e.location)
+        Part::Expression(operator, varspecs) => {
+            write_varspecs::<C, S, W>(sink, context, operator, varspecs)
         }
         Part::Literals(literals) => write_result(put_as::<S, W>(sink, literals, false), begin),
-        Part::Triplet(_) => write_result(sink.put(text), begin),
+        Part::Triplet(triplet) => write_result(sink.put(triplet), begin),
     }
 }
 
 // Where the literals and percent-encoded octets after a part begin, which ends at `end`.
-fn begin_after(part: Part<'_>, begin: usize, end: usize) -> usize
-    ensures { result ≡ begin_after part.entry begin end }
+fn begin_after(part: &Part<'_>, begin: usize, end: usize) -> usize
+    ensures { result ≡ begin_after part.now begin end }
 {
     match part {
-        Part::Expression(_) => end,
+        Part::Expression(_, _) => end,
         _ => begin,
     }
 }
@@ -230,21 +207,13 @@ pub(crate) fn write_expansion<C: DynamicContext, S: Spec, W: TextSink>(
     ensures same_starts { C.starts context.new ≡ C.starts context.old }
     ensures same_ends { C.ends context.new ≡ C.ends context.old }
 {
-    let mut rest = template;
+    let mut left = Parts::of(template);
     let mut begin = 0usize;
-    'parts: while !rest.is_empty() {
-        match read_part(rest, template.len() - rest.len()) {
-            Ok((part, next)) => {
-                let text = &rest[..rest.len() - next.len()];
-                match write_part::<C, S, W>(sink, context, part, text, begin) {
-                    Ok(()) => {
-                        begin = begin_after(part, begin, template.len() - next.len());
-                        rest = next;
-                    }
-                    Err(error) => return Err(error),
-                }
-            }
-            Err(_) => unreachable!(),
+    'parts: while let Some(part) = left.next() {
+        let next = begin_after(&part, begin, left.location());
+        match write_part::<C, S, W>(sink, context, part, begin) {
+            Ok(()) => begin = next,
+            Err(error) => return Err(error),
         }
     }
     Ok(())

@@ -39,6 +39,7 @@ pub fn no_fault_of_templates()
 {}
 
 /// Two templates one after the other are a template.
+#[tactic(auto, using(crate::proofs::Grammar::templates_joined))]
 pub fn joined_templates()
     ensures { (a b : List ℕ) → template_fault a ≡ None → template_fault b ≡ None → template_fault (a ++ b) ≡ None }
 {}
@@ -51,6 +52,7 @@ pub fn units_of_values()
 
 /// Where every call of a context tells the same values, what is written is the expansion with these, and the first fault
 /// is theirs.
+#[tactic(auto, using(crate::proofs::FixedLemmas::fixed_fault, crate::proofs::FixedLemmas::fixed_text))]
 pub fn fixed_values()
     ensures fault { (s : Tests) (value : List ℕ → ShownValue) (ps : List Piece)
         → portions_fault (portions s (always value) ps) ≡ type_fault value ps }
@@ -60,6 +62,7 @@ pub fn fixed_values()
 
 /// What is written where values change is decided by two values of each varspec alone: for the first, that of call 0 for
 /// its type and that of call 1 to be written, for the second those of calls 2 and 3, and so on.
+#[tactic(auto, using(crate::proofs::FixedLemmas::same_portions))]
 pub fn numbered_calls()
     ensures { (s : Tests) (f g : Telling) (ps : List Piece)
         → ((i : ℕ) (name : List ℕ) → f (2 * i) name Typecheck ≡ g (2 * i) name Typecheck)

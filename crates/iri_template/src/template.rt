@@ -10,12 +10,13 @@ ghost use Rattle.iri_template.specs.TypeFaults.{type_fault};
 ghost use Rattle.iri_template.specs.Variables.{names_left, places_left};
 ghost use Rattle.iri_template.specs.Writings.{EndsAs, HasCause, CallsUpTo, IsString, IsOfString};
 
-use crate::context::{Context, NoValues};
+use crate::context::Context;
 use crate::dynamic_context::DynamicContext;
 use crate::error::{Error, ErrorKind};
 use crate::expanded::Expanded;
 use crate::expansion_writer::write_expansion;
-use crate::fault::find_fault;
+use crate::fault::check_template;
+use crate::type_check::check_types;
 use crate::variables::UriTemplateVariables;
 use iri_grammar::spec::Spec;
 use iri_text::{FormatSink, Show, Stop, StringSink, TextSink};
@@ -67,14 +68,13 @@ impl<'a> UriTemplateStr<'a> {
     /// let error = UriTemplateStr::new("/a/{b").err().ok_or("a fault")?;
     /// assert_eq!(rt; error.location(), 3);
     /// ```
-    #[tactic(auto, using(crate::proofs::VarSpecWalk::untold_fault))]
     pub fn new(s: &'a str) -> Result<Self, Error>
         ensures fault { Answers result (text_fault s.now) }
         ensures text { IfOk result (λ v. text v ≡ s.now) }
     {
-        match find_fault(&NoValues, s) {
-            None => Ok(UriTemplateStr { text: s }),
-            Some(error) => Err(error),
+        match check_template(s) {
+            Ok(()) => Ok(UriTemplateStr { text: s }),
+            Err(error) => Err(error),
         }
     }
 
@@ -91,6 +91,7 @@ impl<'a> UriTemplateStr<'a> {
     /// assert_eq!(rt; error.kind(), ErrorKind::InvalidUtf8);
     /// assert_eq!(rt; error.location(), 1);
     /// ```
+    #[tactic(auto, using(crate::proofs::FaultLemmas::of_text, crate::proofs::FaultLemmas::of_bytes))]
     pub fn try_from_bytes(b: &'a [u8]) -> Result<Self, Error>
         ensures fault { Answers result (template_fault b.now) }
         ensures text { IfOk result (λ v. text v ≡ b.now) }
@@ -165,9 +166,9 @@ impl<'a> UriTemplateStr<'a> {
         ensures fault { Answers result (type_fault (C.value_of context.now) (pieces_of (text self.entry))) }
         ensures expanded { IfOk result (λ e. (text e.template ≡ text self.entry) × (e.context.now ≡ context.now)) }
     {
-        match find_fault(context, self.text) {
-            Some(error) => Err(error),
-            None => Ok(Expanded {
+        match check_types(context, self) {
+            Err(error) => Err(error),
+            Ok(()) => Ok(Expanded {
                 template: self,
                 context,
                 spec: PhantomData,

@@ -1,12 +1,20 @@
-//! A visitor that learns whether a value has members.
+//! A visitor that learns whether a value has members, and the first varspec that has no use for its value (RFC 6570 section
+//! 2.4.1).
 ghost use Rattle.std.specs.Prelude.{◌≡◌, false};
-ghost use Rattle.iri_template.specs.ShownValues.{has_members};
+ghost use Rattle.iri_template.specs.Fault.{Answers};
+ghost use Rattle.iri_template.specs.Reading.{pieces_of};
+ghost use Rattle.iri_template.specs.Texts.{text};
+ghost use Rattle.iri_template.specs.TypeFaults.{is_mistyped, type_fault};
 ghost use Rattle.iri_template.specs.inside.TypeHears.{TypeHears, TypeHalts, type_rules};
 ghost use Rattle.iri_template.specs.declared.visitor.VisitPurpose.TheVariants.{Typecheck};
 ghost use Rattle.iri_template.specs.declared.visitor.Phase.TheVariants.{Fresh};
 
 use crate::context::Context;
+use crate::error::{Error, ErrorKind};
+use crate::template::UriTemplateStr;
 use crate::var_name::VarName;
+use crate::variables::UriTemplateVariables;
+use crate::varspec::VarSpec;
 use crate::visitor::{Phase, VisitPurpose, Visitor};
 use iri_text::{Show, Stop};
 
@@ -106,14 +114,27 @@ impl<'a> Visitor for TypeCheck<'a> {
     }
 }
 
-// Whether the value of a variable is a list or an associative array that isn't empty.
+// Whether a varspec has no use for its value.
 #[tactic(auto, using(crate::specs::inside::Members::told_members))]
-pub(crate) fn value_has_members<C: Context>(context: &C, name: VarName) -> bool
-    ensures { result ≡ has_members (C.value_of context.now name.entry.text.now) }
+fn is_mistyped<C: Context>(context: &C, varspec: VarSpec<'_>) -> bool
+    ensures { result ≡ is_mistyped varspec.entry.modifier (C.value_of context.now varspec.entry.name.text.now) }
 {
-    let mut visitor = TypeCheck::new(name);
-    match context.visit(&mut visitor) {
-        Ok(()) => visitor.members,
-        Err(_) => false,
+    let mut visitor = TypeCheck::new(varspec.name);
+    varspec.modifier.prefix().is_some() && context.visit(&mut visitor).is_ok() && visitor.members
+}
+
+// The place of the first varspec of a template that has no use for its value.
+pub(crate) fn check_types<C: Context>(
+    context: &C,
+    template: UriTemplateStr<'_>,
+) -> Result<(), Error>
+    ensures { Answers result (type_fault (C.value_of context.now) (pieces_of (text template.entry))) }
+{
+    let mut left = UriTemplateVariables::of(template.as_str());
+    'varspecs: while let Some(varspec) = left.next_varspec() {
+        if is_mistyped(context, varspec) {
+            return Err(Error::new(ErrorKind::UnexpectedValueType, varspec.location));
+        }
     }
+    Ok(())
 }

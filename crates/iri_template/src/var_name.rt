@@ -57,6 +57,14 @@ impl<'a> VarName<'a> {
         }
     }
 
+    // The name with this text, which is one.
+    pub(crate) fn from_valid(s: &'a str) -> Self
+        requires { is_varname s.now ≡ true }
+        ensures { result.text.now ≡ s.now }
+    {
+        VarName { text: s }
+    }
+
     /// The text.
     pub fn as_str(self) -> &'a str
         ensures text { result.now ≡ self.entry.text.now }

@@ -1,16 +1,14 @@
 //! Varspecs: a variable's name and a modifier (RFC 6570 sections 2.3 and 2.4).
 ghost use Rattle.std.specs.Prelude.{◌≡◌, ◌≤◌, ◌<◌, ◌+◌, ◌^◌, true, length, slice_index, take, drop, MatchResult, IfOk};
-ghost use Rattle.std.specs.Prelude.{Some, None};
-ghost use Rattle.iri_grammar.specs.Cut.{before, after, from_any};
-ghost use Rattle.iri_grammar.specs.OptionalSlices.{now_of};
+ghost use Rattle.std.specs.Prelude.{None};
+ghost use Rattle.iri_grammar.specs.Cut.{from_any};
 ghost use Rattle.iri_template.specs.Reading.{ends_name, name_of, modifier_of, varspec_of};
 ghost use Rattle.iri_template.specs.Fault.{Answers, moved, max_length_fault, modifier_fault, varspec_fault};
-ghost use Rattle.iri_template.specs.VarSpecs.{number_of, held, IsHeld};
+ghost use Rattle.iri_template.specs.VarSpecs.{number_of, held, placed_at, placed_of};
 ghost use Rattle.iri_template.specs.Expansion.{explodes, prefix_of};
 
 use crate::error::{Error, ErrorKind};
-use crate::var_name::VarName;
-use iri_grammar::cutting::cut;
+use crate::var_name::{VarName, is_varname};
 
 // How much of a value is meant (RFC 6570 section 2.4).
 #[derive(Clone, Copy, Debug, PartialEq, Eq)]
@@ -47,6 +45,8 @@ impl Modifier {
 pub(crate) struct VarSpec<'a> {
     pub(crate) name: VarName<'a>,
     pub(crate) modifier: Modifier,
+    // How many bytes of the template stand before it.
+    pub(crate) location: usize,
 }
 
 // How many bytes stand before the first `:` or `*`.
@@ -106,32 +106,70 @@ fn read_modifier(bytes: &[u8], at: usize) -> Result<Modifier, Error>
     }
 }
 
-// The varspec with this text. `at` is its place, and a comma or a brace stands after it.
-pub(crate) fn read_varspec(s: &str, at: usize) -> Result<VarSpec<'_>, Error>
-    requires { at + length s.now + 1 < 2 ^ 64 }
-    ensures fault { Answers result (moved at (varspec_fault s.now)) }
-    ensures value { IfOk result (λ v. IsHeld v (varspec_of s.now)) }
+// What stands before the first `:` or `*`, or all, and the rest.
+fn cut_name(s: &str) -> (&str, &str)
+    ensures name { result.0.now ≡ name_of s.now }
+    ensures modifier { result.1.now ≡ from_any ends_name s.now }
 {
     let n = name_len(s.as_bytes());
-    let name = match VarName::new(&s[..n]) {
-        Ok(name) => name,
-        Err(_) => return Err(Error::new(ErrorKind::InvalidExpression, at)),
-    };
-    let rest = &s[n..];
-    match read_modifier(rest.as_bytes(), at + n) {
-        Ok(modifier) => Ok(VarSpec { name, modifier }),
+    (&s[..n], &s[n..])
+}
+
+// Whether a text is a varspec. `at` is its place, and a comma or a brace stands after it.
+pub(crate) fn check_varspec(s: &str, at: usize) -> Result<(), Error>
+    requires { at + length s.now + 1 < 2 ^ 64 }
+    ensures { Answers result (moved at (varspec_fault s.now)) }
+{
+    let (name, modifier) = cut_name(s);
+    if !is_varname(name.as_bytes()) {
+        return Err(Error::new(ErrorKind::InvalidExpression, at));
+    }
+    match read_modifier(modifier.as_bytes(), at + name.len()) {
+        Ok(_) => Ok(()),
         Err(error) => Err(error),
     }
 }
 
-// The first varspec, and the others, where there are some. `at` is its place, and a brace stands after all of
-// them.
-pub(crate) fn read_first(varspecs: &str, at: usize) -> Result<(VarSpec<'_>, Option<&str>), Error>
-    requires { at + length varspecs.now + 1 < 2 ^ 64 }
-    ensures fault { Answers result (moved at (varspec_fault (before 44 varspecs.now))) }
-    ensures value { IfOk result (λ p. IsHeld p.0 (varspec_of (before 44 varspecs.now))) }
-    ensures others { IfOk result (λ p. now_of p.1 ≡ after 44 varspecs.now) }
+// The length of a prefix, which has no fault.
+fn fine_max_length(digits: &[u8]) -> u16
+    requires fine { max_length_fault digits.now ≡ None }
+    requires fits { length digits.now + 2 < 2 ^ 64 }
+    ensures { result ≡ number_of digits.now }
 {
-    let (first, others) = cut(varspecs, b',');
-    Ok((read_varspec(first, at)?, others))
+    match read_max_length(digits, 0) {
+        Ok(n) => n,
+        Err(_) => 0,
+    }
+}
+
+// What follows a name, which has no fault.
+fn fine_modifier(bytes: &[u8]) -> Modifier
+    requires fine { modifier_fault bytes.now ≡ None }
+    requires fits { length bytes.now + 1 < 2 ^ 64 }
+    ensures { result ≡ held (modifier_of bytes.now) }
+{
+    match bytes.split_first() {
+        None => Modifier::Whole,
+        Some((b, rest)) => {
+            if *b == b':' {
+                Modifier::Prefix(fine_max_length(rest))
+            } else {
+                Modifier::Explode
+            }
+        }
+    }
+}
+
+// The varspec with this text, which is one.
+pub(crate) fn read_varspec(s: &str, location: usize) -> VarSpec<'_>
+    requires fine { varspec_fault s.now ≡ None }
+    requires fits { length s.now + 1 < 2 ^ 64 }
+    ensures { placed_of result ≡ placed_at location (varspec_of s.now) }
+{
+    let (name, modifier) = cut_name(s);
+    VarSpec {
+        name: VarName::from_valid(name),
+        modifier: fine_modifier(modifier.as_bytes()),
+        location,
+    }
 }

@@ -1,4 +1,4 @@
-use Rattle.iri_template.proofs.Common.{◌≡◌, ◌≤◌, length, None, Utf8, shadow, text_fault}
+use Rattle.iri_template.proofs.Common.{◌≡◌, ◌≤◌, length}
 use Rattle.iri_template.proofs.PartWalk.{names_in, ReachedUpTo}
 use Rattle.iri_template.proofs.PortionWalk.{BothTold, HasMoved}
 use Rattle.iri_template.proofs.expansion_writer.write_expansion.Given as goal
@@ -9,16 +9,14 @@ invariant-parts g l =
     let w = g.W.TextSink in
     let d = g.C.DynamicContext in
     record {
-      utf8 : shadow (Utf8 l.rest);
-      len : length l.rest ≤ length l.template;
-      fine : text_fault l.rest ≡ None;
+      len : l.left.len ≡ length l.template;
       far : BothTold (d.tells l.fn.context) (d.tells l.context) (ReachedUpTo g.S.Spec.tests w.puts w.halts g.met.W.TextSink.rules l.template
-          l.fn.sink l.begin l.rest l.sink);
-      moved : HasMoved (d.tells l.fn.context) (names_in l.template) (d.tells l.context) (names_in l.rest);
+          l.fn.sink l.begin l.left.rest.now l.sink);
+      moved : HasMoved (d.tells l.fn.context) (names_in l.template) (d.tells l.context) (names_in l.left.rest.now);
       starts : d.starts l.context ≡ d.starts l.fn.context;
       ends : d.ends l.context ≡ d.ends l.fn.context;
       later : w.stops l.fn.sink ≤ w.stops l.sink;
     }
 
 abbrev pub decreases-parts : goal.decreases-parts
-decreases-parts g l = length l.rest
+decreases-parts g l = length l.left.rest.now

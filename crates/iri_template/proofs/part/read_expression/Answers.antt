@@ -1,44 +1,40 @@
-use Rattle.iri_template.proofs.Common.{◌≡◌, ◌<◌, ℕ, List, [], ◌∷◌, length, Some, sym, ◌∙◌, ap, arith, IsCharBoundary-after_ascii, lacks}
-use Rattle.iri_template.proofs.Common.{now_of, first_of, operator_of, after_operator, prefix_fault}
-use Rattle.iri_template.proofs.FaultLemmas.{unmoved}
-use Rattle.iri_template.proofs.Prefixes.{first_get, body_cut, prefix_of_body, prefix_not_closed, no_delimiter, tail_drop}
+use Rattle.iri_template.proofs.Common.{◌≡◌, ◌+◌, None, length, sym, ◌∙◌, ap, refl, arith, pieces, varspecs_fault}
+use Rattle.iri_grammar.specs.Cut.{tail}
+use Rattle.iri_template.specs.Fault.{body_fault}
+use Rattle.iri_template.specs.Reading.{operator_of, after_operator}
+use Rattle.iri_template.proofs.Grammar.{delimiter_there}
+use Rattle.iri_template.proofs.Prefixes.{brace_fault, closed_fine, closed_rest, body_len, operator_len, fine_varspecs, expression_part}
 use Rattle.iri_template.proofs.part.read_expression.Goals as goal
 
-some : (t : List ℕ) → first_of t ≡ 123 → 0 < length t
-some [] h = absurd (omega arith)
-some (x ∷ xs) h = omega arith
-
-pub range_from-requires : goal.range_from-requires
-range_from-requires c _ =
+pub overflow_add-varspecs-2 : goal.overflow_add-varspecs-2
+overflow_add-varspecs-2 c =
     let t = c.args.s.now in
-    let e = first_get t in
-    IsCharBoundary-after_ascii t 0 c.utf8.s (some t c.requires.brace) (omega (arith, e, c.requires.brace))
+    let k = closed_fine t (sym (brace_fault t c.requires.brace) ∙ c.requires.fine) in
+    let there = delimiter_there 125 (tail t) k.0 in
+    omega (arith, c.requires.fits, ap length c.cut_body.ensures.body, body_len t there.0 c.requires.brace there.1)
 
-pub read_body-requires : goal.read_body-requires
-read_body-requires c =
-    let k = body_cut c.args.s.now c.range_from.result.now c.cut.result.0.now c.in-Some.rest.now c.requires.brace c.range_from.ensures.value c.cut.ensures.before (sym c.cut.ensures.after ∙ ap now_of c.in-Some.is) in
-    omega (arith, k.len, c.requires.fits)
-
-pub returns-in-Ok : goal.returns-in-Ok
-returns-in-Ok c =
+pub invariant_of-varspecs : goal.invariant_of-varspecs
+invariant_of-varspecs c =
     let t = c.args.s.now in
-    let k = body_cut t c.range_from.result.now c.cut.result.0.now c.in-Some.rest.now c.requires.brace c.range_from.ensures.value c.cut.ensures.before (sym c.cut.ensures.after ∙ ap now_of c.in-Some.is) in
+    let b = c.cut_body.result.0.now in
+    let k = closed_fine t (sym (brace_fault t c.requires.brace) ∙ c.requires.fine) in
+    let there = delimiter_there 125 (tail t) k.0 in
+    let text = c.cut_operator-operator.ensures.varspecs in
+    let fine : body_fault b ≡ None = ap body_fault c.cut_body.ensures.body ∙ k.1 in
     record {
-      prefix = unmoved c.args.at (prefix_fault t) (prefix_of_body c.args.at t c.cut.result.0.now c.in-Some.rest.now k ∙ c.in-Ok.ensures.fault);
-      operator = c.in-Ok.ensures.operator ∙ ap operator_of (sym k.body);
-      varspecs = c.in-Ok.ensures.varspecs ∙ ap after_operator (sym k.body);
-      location = omega (arith, c.in-Ok.ensures.location, ap length k.body);
-      text = k.text;
+      fine = record {
+        fault = ap (λ l. varspecs_fault 0 (pieces 44 l)) text ∙ fine_varspecs b fine;
+        within = omega (arith, ap length text, operator_len b);
+        fits = omega (arith, c.requires.fits, ap length c.cut_body.ensures.body, body_len t there.0 c.requires.brace there.1);
+      };
     }
 
-pub returns-in-Err : goal.returns-in-Err
-returns-in-Err c =
+pub returns : goal.returns
+returns c =
     let t = c.args.s.now in
-    let k = body_cut t c.range_from.result.now c.cut.result.0.now c.in-Some.rest.now c.requires.brace c.range_from.ensures.value c.cut.ensures.before (sym c.cut.ensures.after ∙ ap now_of c.in-Some.is) in
-    prefix_of_body c.args.at t c.cut.result.0.now c.in-Some.rest.now k ∙ c.in-Err.ensures.fault
-
-pub returns-in-None : goal.returns-in-None
-returns-in-None c =
-    let t = c.args.s.now in
-    let none = no_delimiter 125 c.range_from.result.now (sym c.cut.ensures.after ∙ ap now_of c.in-None.is) in
-    prefix_not_closed c.args.at t (ap (lacks 125) (tail_drop t ∙ sym c.range_from.ensures.value) ∙ none) ∙ ap Some (sym c.new.ensures)
+    let body = c.cut_body.ensures.body in
+    let k = closed_fine t (sym (brace_fault t c.requires.brace) ∙ c.requires.fine) in
+    let rest = closed_rest 125 c.cut_body.result.1 (tail t) c.or_empty.result.now c.or_empty.ensures c.cut_body.ensures.rest k.0 in
+    expression_part c.cut_operator-operator.result.0 _ c.cut_operator-operator.result.1 c.args.at t c.or_empty.result.now c.requires.brace c.requires.fine
+    rest (c.cut_operator-operator.ensures.operator ∙ ap operator_of body) (c.cut_operator-operator.ensures.varspecs ∙ ap after_operator body) refl
+    (ap (λ l. c.args.at + 1 + length l) body)
