@@ -1,5 +1,5 @@
 -- The answers of `docs`.
-use Rattle.iri_cli.proofs.Common.{◌≡◌, ◌≤◌, ◌∙◌, ℕ, Bool, false, List, [], ◌∷◌, ◌++◌, length, Result, refl, sym, ap, arith, Tests}
+use Rattle.iri_cli.proofs.Common.{◌≡◌, ◌≤◌, ◌∙◌, ℕ, Bool, true, false, List, [], ◌∷◌, ◌++◌, length, Result, refl, sym, ap, arith, Tests}
 use Rattle.iri_cli.proofs.Common.{SinkState, docs_answer, read_answer, Answering, AnswersLine, is_ok, AnswerError}
 use Rattle.iri_docs.specs.Documents.{line_document}
 use Rattle.iri_docs.specs.Held.{Held}
@@ -25,7 +25,7 @@ bad e = refl
 -- one line more
 pub answers_docs : {s : Tests} {base expansion after : List ℕ} {output grown : ℕ} {at : Answering} {line : List ℕ} {ko kn : SinkState}
     {r : Result Bool AnswerError} → IsDocsAt s base expansion output at → length after ≡ length expansion
-    → output ≤ grown → AnswersLine (IsStatelessAt docs_answer takes_memory s base) at line ko kn r
+    → output ≤ grown → AnswersLine (IsStatelessAt docs_answer true takes_memory s base) at line ko kn r
     → AnswersLine (IsDocsAt s base after grown) at line ko kn r
 answers_docs {r = r} is same grows a = record {
   puts = a.puts;

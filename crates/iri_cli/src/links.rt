@@ -70,7 +70,7 @@ pub struct Links;
 impl<S: Spec> Answers<S> for Links {
     type Start = Global;
 
-    ghost use Rattle.std.specs.Prelude.{refl};
+    ghost use Rattle.std.specs.Prelude.{false, refl};
     ghost use Rattle.iri_cli.specs.inside.StatelessAt.{IsStatelessAt};
     ghost use Rattle.iri_cli.specs.links.Answers.{links_answer};
     ghost use Rattle.iri_cli.specs.links.Rules.{links_rules, takes_memory};
@@ -79,7 +79,7 @@ impl<S: Spec> Answers<S> for Links {
 
     ghost begins = { λ alloc. record { line_limit = refl; input_limit = refl; refusal = refl } };
 
-    ghost stands_at = { λ l base at. IsStatelessAt links_answer takes_memory S.tests base at };
+    ghost stands_at = { λ l base at. IsStatelessAt links_answer false takes_memory S.tests base at };
 
     fn open(
         _alloc: Global,

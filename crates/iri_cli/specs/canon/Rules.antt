@@ -1,5 +1,5 @@
 -- The command `canon`: its rules.
-use Rattle.std.specs.Prelude.{ℕ, codes, nat_eq, Bool, true, false, List, []}
+use Rattle.std.specs.Prelude.{ℕ, codes, nat_eq, Bool, false, List, []}
 use Rattle.std.specs.List.{starts_with}
 use Rattle.iri_grammar.specs.Classes.{Tests}
 use Rattle.iri_percent.specs.declared.canon_mode.CanonMode.{CanonMode}
@@ -32,10 +32,10 @@ abbrev pub canon_rules : Tests → Rules
 canon_rules s = canon_rules_in s Default
 
 -- a command that answers each line by the base and that line alone: base, limits and good answers are those of `canon`, but the base line
--- takes memory, and so do some lines
-abbrev pub stateless_rules : (answer_to : Tests → List ℕ → List ℕ → List ℕ) (takes_memory : Tests → List ℕ → Bool) → Tests → Rules
-stateless_rules answer_to takes_memory s = record (canon_rules s) {
+-- may take memory, and so may lines
+abbrev pub stateless_rules : (answer_to : Tests → List ℕ → List ℕ → List ℕ) (base_takes_memory : Bool) (takes_memory : Tests → List ℕ → Bool) → Tests → Rules
+stateless_rules answer_to base_takes_memory takes_memory s = record (canon_rules s) {
   answer = λ base between line. answer_to s base line;
-  base_wants_memory = true;
+  base_wants_memory = base_takes_memory;
   wants_memory = λ base between line. takes_memory s line;
 }

@@ -1,5 +1,5 @@
 -- The command `docs`: its rules.
-use Rattle.std.specs.Prelude.{ℕ, Bool, nat_lt, List, length}
+use Rattle.std.specs.Prelude.{ℕ, Bool, true, nat_lt, List, length}
 use Rattle.iri_grammar.specs.Classes.{Tests}
 use Rattle.iri_cli.specs.canon.Rules.{stateless_rules}
 use Rattle.iri_cli.specs.docs.Answers.{docs_answer}
@@ -9,6 +9,6 @@ use Rattle.iri_cli.specs.run.Ending.{Rules}
 abbrev pub takes_memory : Tests → List ℕ → Bool
 takes_memory s line = nat_lt 0 (length line)
 
--- `docs`: each line is a template document in JSON
+-- `docs`: each line is a template document in JSON, and the base takes the memory for expansions
 abbrev pub docs_rules : Tests → Rules
-docs_rules s = stateless_rules docs_answer takes_memory s
+docs_rules s = stateless_rules docs_answer true takes_memory s

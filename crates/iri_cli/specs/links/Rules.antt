@@ -5,10 +5,10 @@ use Rattle.iri_cli.specs.canon.Rules.{stateless_rules}
 use Rattle.iri_cli.specs.links.Answers.{links_answer}
 use Rattle.iri_cli.specs.run.Ending.{Rules}
 
--- no line takes memory
+-- neither the base nor a line takes memory
 abbrev pub takes_memory : Tests → List ℕ → Bool
 takes_memory s line = false
 
 -- `links`: each line is the value of a `Link` field
 abbrev pub links_rules : Tests → Rules
-links_rules s = stateless_rules links_answer takes_memory s
+links_rules s = stateless_rules links_answer false takes_memory s

@@ -17,7 +17,7 @@ returns-in-Ok g c = λ at is.
     let document = held c.in-Ok.document in
     let expansion = with_items self.expansion c.put_template.new.expansion in
     answers_docs is (sym expansion.ok.0 ∙ self.expansion.ok.0) c.put_template.ensures.capacity
-    (answers_text _ _ s base at is.stands _ _ _ _ _
+    (answers_text _ _ _ s base at is.stands _ _ _ _ _
     (ap (λ v. template_answer s base v c.as_bytes.result.now) c.context.ensures
     ∙ ap (template_answer s base document.value_of) (c.as_bytes.ensures.value ∙ c.template.ensures)
     ∙ docs_read s base c.args.line.now (Ok document) c.in-Ok.ensures.answer)
@@ -34,7 +34,7 @@ returns-in_default g c = λ at is.
     let base = base_text c.args.resolver.now in
     let text = description c.in-Err.error ++ 10 ∷ [] in
     answers_docs is refl (omega arith)
-    (answers_text _ _ s base at is.stands _ _ _ _ _
+    (answers_text _ _ _ s base at is.stands _ _ _ _ _
     (docs_read s base c.args.line.now (Err c.in-Err.error) (c.in-Err.ensures.answer c.in_default.not-Memory))
     (said_line false _ text text _ c.say_good.ensures (bad c.in-Err.error) refl c.put_refusal.ensures)
     (said_room false _ text text _ c.say_good.ensures refl c.put_refusal.ensures))
