@@ -102,6 +102,23 @@ unfolding fault_from
 nothing_left s [] b m n h = refl
 nothing_left s (c ∷ cs) b m n h = let w : fault_from s after_param (c ∷ cs) ≡ Some (record { kind = NoParam; rest = c ∷ cs }) = rw (b, m, n) refl in cc
 
+no_params : (s : Tests) (t a next : List ℕ) (ls : List LinkValue) → t ≡ a ++ next → is_blanks a ≡ true → Ends s next ls → HasParams s t
+no_params s t a next ls e h k = record { prefix = []; blanks = a; rest = next; params = []; links = ls; whole = e; fits = none; all = h; ends = k }
+
+-- parameters before others
+grown_by : (s : Tests) (t y c : List ℕ) → t ≡ c ++ y → (i : HasParams s y) → (ps : List LinkParam) → IsParams (c ++ i.prefix) ps → HasParams s t
+grown_by s t y c e i ps fits = record {
+  prefix = c ++ i.prefix;
+  blanks = i.blanks;
+  rest = i.rest;
+  params = ps;
+  links = i.links;
+  whole = e ∙ (ap (λ l. c ++ l) i.whole ∙ sym (append_assoc c i.prefix (i.blanks ++ i.rest)));
+  fits = fits;
+  all = i.all;
+  ends = i.ends;
+}
+
 params_in : (s : Tests) (n : ℕ) (t : List ℕ) → length t < n → ((y : List ℕ) → length y < length t → fault_from s before_link y ≡ None → Found s y)
     → fault_from s after_param t ≡ None → HasParams s t
 params_in s zero t lt again h = absurd (omega (arith, lt))
@@ -126,47 +143,18 @@ params_in s (suc n) t lt again h =
           let d = p.2 in
           let shorter : length p.0 < length t = omega (arith, short, ap length d.whole, length-append d.prefix p.0) in
           let i = params_in s n p.0 (omega (arith, lt, shorter)) (λ y l. again y (omega (arith, l, shorter))) (sym (d.goes s) ∙ named) in
-          let z = i.blanks ++ i.rest in
-          record {
-            prefix = a ++ 59 ∷ (b ++ (d.prefix ++ i.prefix));
-            blanks = i.blanks;
-            rest = i.rest;
-            params = p.1 ∷ i.params;
-            links = i.links;
-            whole = whole ∙ (ap (λ l. a ++ 59 ∷ (b ++ l)) (d.whole ∙ (ap (λ l. d.prefix ++ l) i.whole ∙ sym (append_assoc d.prefix i.prefix z))) ∙ params-parts a b (d.prefix ++ i.prefix) z);
-            fits = param a b d.prefix i.prefix p.1 i.params r.all k.all d.param i.fits;
-            all = i.all;
-            ends = i.ends;
-          })
+          grown_by s t p.0 (a ++ 59 ∷ (b ++ d.prefix)) (whole ∙ (ap (λ l. a ++ 59 ∷ (b ++ l)) d.whole ∙ params-parts a b d.prefix p.0)) i (p.1 ∷ i.params)
+          (subst (λ z. IsParams z (p.1 ∷ i.params)) (params-parts a b d.prefix i.prefix) (param a b d.prefix i.prefix p.1 i.params r.all k.all d.param i.fits)))
           (λ bare.
           let i = params_in s n x (omega (arith, lt, short)) (λ y l. again y (omega (arith, l, short))) (sym (semicolon_ready s x k.ends bare) ∙ goes) in
-          record {
-            prefix = a ++ 59 ∷ (b ++ i.prefix);
-            blanks = i.blanks;
-            rest = i.rest;
-            params = i.params;
-            links = i.links;
-            whole = whole ∙ (ap (λ l. a ++ 59 ∷ (b ++ l)) i.whole ∙ params-parts a b i.prefix (i.blanks ++ i.rest));
-            fits = empty a b i.prefix i.params r.all k.all i.fits;
-            all = i.all;
-            ends = i.ends;
-          })
+          grown_by s t x (a ++ 59 ∷ b) (whole ∙ sym (append_assoc a (59 ∷ b) x)) i i.params
+          (subst (λ z. IsParams z i.params) (sym (append_assoc a (59 ∷ b) i.prefix)) (empty a b i.prefix i.params r.all k.all i.fits)))
       | inl other ↦ elim (mark 44 next) [
         | inr m ↦
             let short : length m.0 < length t = omega (arith, ap length r.whole, length-append a next, ap length m.1) in
             let f = again m.0 short (sym (ap (fault_from s after_param) m.1 ∙ ap (λ o. o.0) (comma-same s m.0).1) ∙ g) in
-            record { prefix = []; blanks = a; rest = next; params = []; links = f.links; whole = r.whole; fits = none; all = r.all; ends = subst (λ z. Ends s z f.links) (sym m.1) (comma m.0 f.links f.field f.valid) }
-        | inl none_there ↦ record {
-          prefix = [];
-          blanks = a;
-          rest = next;
-          params = [];
-          links = [];
-          whole = r.whole;
-          fits = none;
-          all = r.all;
-          ends = subst (λ z. Ends s z []) (sym (nothing_left s next r.ends other none_there g)) nothing;
-        }
+            no_params s t a next f.links r.whole r.all (subst (λ z. Ends s z f.links) (sym m.1) (comma m.0 f.links f.field f.valid))
+        | inl none_there ↦ no_params s t a next [] r.whole r.all (subst (λ z. Ends s z []) (sym (nothing_left s next r.ends other none_there g)) nothing)
       ]
     ]
 
