@@ -57,22 +57,9 @@ pub one_kept : (s : Tests) (base x : List ℕ) (kept others : List LinkValue) �
 one_kept s base x kept others a b =
     a.resolves ∙ (ap (map (resolved s base)) (one_list s x a.links b.links a.has.field b.has.field) ∙ sym b.resolves)
 
--- link-values whose targets are references, and whose parameters are those of a field value
-pub record AreKept (s : Tests) (ls : List LinkValue) : Type 0 where
-  pub valid : All (HasReference s) ls
-  pub params : All HasKeptParams ls
-
 module _ (s : Tests) (k : IsSpec s) where
   one_read : (l : LinkValue) → HasReference s l → HasKeptParams l → IsElement (written_link l) (l ∷ [])
   one_read l valid kept = link_read l (reference-closed s k l.target valid) kept
-
-  written_read : (ls : List LinkValue) → AreKept s ls → IsField (written ls) ls
-  written_read [] h = last [] [] (empty [] refl)
-  written_read (l ∷ []) h = last (written_link l) (l ∷ []) (one_read l (All-head (HasReference s) l [] h.valid) (All-head HasKeptParams l [] h.params))
-  written_read (l ∷ m ∷ ls) h =
-      more (written_link l) (32 ∷ written (m ∷ ls)) (l ∷ []) (m ∷ ls) (one_read l (All-head (HasReference s) l (m ∷ ls) h.valid) (All-head HasKeptParams l (m ∷ ls) h.params))
-      (blank_field (written (m ∷ ls)) (m ∷ ls)
-      (written_read (m ∷ ls) (record { valid = All-tail (HasReference s) l (m ∷ ls) h.valid; params = All-tail HasKeptParams l (m ∷ ls) h.params })))
 
   -- ---- as UTF-8
   value_utf8 : (v : Option (List ℕ)) → IsKeptValue v → IsUtf8 (written_value v)
@@ -96,48 +83,56 @@ module _ (s : Tests) (k : IsSpec s) where
       (IsUtf8-append l.target (62 ∷ flat_map written_param l.params) (reference-utf8 s l.target ((reference-law s k l.target).0 valid))
       (delimited-utf8 62 (flat_map written_param l.params) (omega arith) (params_utf8 l.params kept)))
 
-  written_utf8 : (ls : List LinkValue) → AreKept s ls → IsUtf8 (written ls)
-  written_utf8 [] h = IsUtf8-nil
-  written_utf8 (l ∷ []) h = link_utf8 l (All-head (HasReference s) l [] h.valid) (All-head HasKeptParams l [] h.params)
-  written_utf8 (l ∷ m ∷ ls) h =
-      IsUtf8-append (written_link l) (44 ∷ 32 ∷ written (m ∷ ls)) (link_utf8 l (All-head (HasReference s) l (m ∷ ls) h.valid) (All-head HasKeptParams l (m ∷ ls) h.params))
-      (delimited-utf8 44 (32 ∷ written (m ∷ ls)) (omega arith) (delimited-utf8 32 (written (m ∷ ls)) (omega arith)
-      (written_utf8 (m ∷ ls) (record { valid = All-tail (HasReference s) l (m ∷ ls) h.valid; params = All-tail HasKeptParams l (m ∷ ls) h.params }))))
+  -- link-values whose targets are references, and whose parameters are those of a field value
+  written_as_field : (ls : List LinkValue) → All (HasReference s) ls → All HasKeptParams ls → IsField (written ls) ls × IsUtf8 (written ls)
+  written_as_field [] v p = (last [] [] (empty [] refl), IsUtf8-nil)
+  written_as_field (l ∷ []) v p =
+      let a = All-head (HasReference s) l [] v in
+      let b = All-head HasKeptParams l [] p in
+      (last (written_link l) (l ∷ []) (one_read l a b), link_utf8 l a b)
+  written_as_field (l ∷ m ∷ ls) v p =
+      let a = All-head (HasReference s) l (m ∷ ls) v in
+      let b = All-head HasKeptParams l (m ∷ ls) p in
+      let w = written (m ∷ ls) in
+      let i = written_as_field (m ∷ ls) (All-tail (HasReference s) l (m ∷ ls) v) (All-tail HasKeptParams l (m ∷ ls) p) in (
+        more (written_link l) (32 ∷ w) (l ∷ []) (m ∷ ls) (one_read l a b) (blank_field w (m ∷ ls) i.0),
+        IsUtf8-append (written_link l) (44 ∷ 32 ∷ w) (link_utf8 l a b) (delimited-utf8 44 (32 ∷ w) (omega arith) (delimited-utf8 32 w (omega arith) i.1)),
+      )
 
-  written_has : (ls : List LinkValue) → AreKept s ls → HasLinks s (written ls) ls
-  written_has ls h = record { utf8 = written_utf8 ls h; field = written_read ls h; valid = h.valid }
+  written_has : (ls : List LinkValue) → All (HasReference s) ls → All HasKeptParams ls → HasLinks s (written ls) ls
+  written_has ls v p = let k = written_as_field ls v p in record { utf8 = k.1; field = k.0; valid = v }
 
   -- the written form of the link-values of a field value
   pub written_again : (x : List ℕ) (ls : List LinkValue) → HasLinks s x ls → HasLinks s (written ls) ls
-  written_again x ls h = written_has ls (record { valid = h.valid; params = field-kept x ls h.field h.utf8 })
+  written_again x ls h = written_has ls h.valid (field-kept x ls h.field h.utf8)
 
   -- ---- with canonical targets
   module _ (base other : List ℕ) (absolute : IsAbsolute s base) where
-    canonical_reference : (l : LinkValue) → HasReference s l → HasReference s (resolved s base l)
-    canonical_reference l h =
-        let i = canonical-iri s base l.target k absolute ((reference-law s k l.target).0 h) in (reference-law s k (canonical s base l.target)).1 (i.0, i.1)
-
-    resolved_again : (l : LinkValue) → HasReference s l → resolved s base l ≡ resolved s other (resolved s base l)
+    resolved_again : (l : LinkValue) → HasReference s l → HasReference s (resolved s base l) × (resolved s base l ≡ resolved s other (resolved s base l))
     resolved_again l h =
-        ap (λ t. record { target = t; params = l.params }) (sym (canonical-own s base l.target other k absolute ((reference-law s k l.target).0 h)))
+        let r = (reference-law s k l.target).0 h in
+        let i = canonical-iri s base l.target k absolute r in
+        ((reference-law s k (canonical s base l.target)).1 (i.0, i.1), ap (λ t. record { target = t; params = l.params }) (sym (canonical-own s base l.target other k absolute r)))
 
-    resolved_kept : (ls : List LinkValue) → AreKept s ls → AreKept s (map (resolved s base) ls) × (map (resolved s base) ls ≡ map (resolved s other) (map (resolved s base) ls))
-    resolved_kept [] h = (record { valid = All-nil (HasReference s); params = All-nil HasKeptParams }, refl)
-    resolved_kept (l ∷ ls) h =
-        let valid = All-head (HasReference s) l ls h.valid in
-        let i = resolved_kept ls (record { valid = All-tail (HasReference s) l ls h.valid; params = All-tail HasKeptParams l ls h.params }) in
-        let again = map (resolved s other) (map (resolved s base) ls) in (
-          record {
-            valid = All-cons (HasReference s) (resolved s base l) (map (resolved s base) ls) (canonical_reference l valid) i.0.valid;
-            params = All-cons HasKeptParams (resolved s base l) (map (resolved s base) ls) (All-head HasKeptParams l ls h.params) i.0.params;
-          },
-          ap (λ r. r ∷ map (resolved s base) ls) (resolved_again l valid) ∙ ap (λ r. resolved s other (resolved s base l) ∷ r) i.1,
-        )
+    resolved_kept : (ls : List LinkValue) → All (HasReference s) ls → All HasKeptParams ls
+        → HasLinks s (written (map (resolved s base) ls)) (map (resolved s base) ls) × (map (resolved s base) ls ≡ map (resolved s other) (map (resolved s base) ls))
+    resolved_kept ls v p = let i = each ls v p in (written_has (map (resolved s base) ls) i.0 i.1, i.2)
+      where
+        each : (ms : List LinkValue) → All (HasReference s) ms → All HasKeptParams ms
+            → All (HasReference s) (map (resolved s base) ms) × All HasKeptParams (map (resolved s base) ms) × (map (resolved s base) ms ≡ map (resolved s other) (map (resolved s base) ms))
+        each [] v p = (All-nil (HasReference s), All-nil HasKeptParams, refl)
+        each (l ∷ ms) v p =
+            let r = resolved_again l (All-head (HasReference s) l ms v) in
+            let i = each ms (All-tail (HasReference s) l ms v) (All-tail HasKeptParams l ms p) in
+            let rs = map (resolved s base) ms in (
+              All-cons (HasReference s) (resolved s base l) rs r.0 i.0,
+              All-cons HasKeptParams (resolved s base l) rs (All-head HasKeptParams l ms p) i.1,
+              ap (λ z. z ∷ rs) r.1 ∙ ap (λ z. resolved s other (resolved s base l) ∷ z) i.2,
+            )
 
     -- what is read of a field value is read again of its written form, against any base
     pub read_again : (x : List ℕ) (kept : List LinkValue) → IsRead s base x kept → IsRead s other (written kept) kept
     read_again x kept r =
         let h = r.has in
-        let m = resolved_kept r.links (record { valid = h.valid; params = field-kept x r.links h.field h.utf8 }) in
-        subst (λ ls. IsRead s other (written ls) ls) (sym r.resolves)
-        (record { links = map (resolved s base) r.links; has = written_has (map (resolved s base) r.links) m.0; resolves = m.1 })
+        let m = resolved_kept r.links h.valid (field-kept x r.links h.field h.utf8) in
+        subst (λ ls. IsRead s other (written ls) ls) (sym r.resolves) (record { links = map (resolved s base) r.links; has = m.0; resolves = m.1 })
