@@ -40,7 +40,8 @@ varspec_portion s operator at written name modifier mistyped told = record {
 abbrev pub varspec_portions : Tests → Operator → Telling → Bool → List Placed → List Portion
 varspec_portions s operator tells written [] = []
 varspec_portions s operator tells written (p ∷ ps) =
-    varspec_portion s operator p.location written p.name p.modifier (is_mistyped p.modifier (tells 0 p.name Typecheck)) (tells 1 p.name Expand)
+    varspec_portion s operator p.location written p.name p.modifier (is_mistyped p.modifier (tells 0 p.name Typecheck))
+    (tells 1 p.name Expand)
     ∷ varspec_portions s operator (later 2 tells)
     (written || has_some (value_texts s (row_of operator) p.name p.modifier (tells 1 p.name Expand))) ps
 

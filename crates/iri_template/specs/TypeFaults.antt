@@ -19,7 +19,8 @@ is_mistyped m v = false
 -- the first of these varspecs with such a value, at its first byte
 abbrev pub placed_type_fault : (List ℕ → ShownValue) → List Placed → Option Error
 placed_type_fault value [] = None
-placed_type_fault value (p ∷ ps) = cond (is_mistyped p.modifier (value p.name)) (fault UnexpectedValueType p.location) (placed_type_fault value ps)
+placed_type_fault value (p ∷ ps) =
+    cond (is_mistyped p.modifier (value p.name)) (fault UnexpectedValueType p.location) (placed_type_fault value ps)
 
 -- the first in a template's pieces
 abbrev pub type_fault : (List ℕ → ShownValue) → List Piece → Option Error

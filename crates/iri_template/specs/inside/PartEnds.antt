@@ -28,7 +28,8 @@ abbrev pub PartEnds : {W : Type 0} → Tests → (W → List ℕ → W → Type 
     → Result (Unit {0}) Error → Part → Telling → Type 0
 PartEnds s puts halts at old new r (part.Literals l) tells = LiteralsEnd puts halts at (encoded (any_char s) l.now) old new r
 PartEnds s puts halts at old new r (part.Triplet l) tells = LiteralsEnd puts halts at l.now old new r
-PartEnds s puts halts at old new r (part.Expression o v) tells = EndsAs puts halts (varspec_portions s o tells false (varspecs_left v)) old new r
+PartEnds s puts halts at old new r (part.Expression o v) tells =
+    EndsAs puts halts (varspec_portions s o tells false (varspecs_left v)) old new r
 
 -- the calls of the context that were made where a part was refused at this place
 abbrev pub PartCalls : Tests → ℕ → ℕ → Option Telling → Option Telling → Part → Telling → Type 0
