@@ -125,9 +125,9 @@ fn obey<I: Source, O: Sink>(
 /// - 4: the source failed: exactly the lines that an LF ended in what was read were answered
 /// - 5: the sink failed: what was written is a prefix of the output. It never comes where the sink
 ///   is known to have room
-/// - 6: allocation failed; with `canon` nothing was read or written; with the other commands that
-///   may be so, or it failed at a base line that is taken or at a line whose answer takes memory,
-///   and the lines before it were answered
+/// - 6: allocation failed; with `canon` and `links` nothing was read or written; with the others
+///   that may be so, or it failed at a base line that is taken or at a line whose answer takes
+///   memory, and the lines before it were answered
 /// - 7: a line has more than [`LARGEST_LINE_LIMIT`](iri_text::LARGEST_LINE_LIMIT) bytes before its
 ///   LF; 8: the input has more than 1,073,741,824 bytes; the lines before are answered
 ///
