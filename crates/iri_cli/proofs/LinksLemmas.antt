@@ -15,8 +15,7 @@ use Rattle.iri_link.specs.Readings.{links_in}
 use Rattle.iri_link.specs.Resolved.{IsRead, resolved}
 use Rattle.iri_link.specs.Written.{written}
 use Rattle.iri_link.proofs.FieldLemmas.{links_of_faultless}
-use Rattle.iri_link.proofs.NoFaultLemmas.{links_without_fault}
-use Rattle.iri_link.proofs.OneListLemmas.{field-given}
+use Rattle.iri_link.proofs.GrammarLemmas.{field-given, links_without_fault}
 use Rattle.iri_link.proofs.WrittenLemmas.{read_again}
 use Rattle.iri_cli.specs.links.Answers.{field_refusal, links_answer, links_line, unless_told}
 use Rattle.iri_cli.proofs.BytesLemmas.{base_absolute}
@@ -26,7 +25,7 @@ pub links_answered : (s : Tests) (base line : List ℕ) (links : List LinkValue)
     → links_line s base links ≡ links_answer s base line
 unfolding links_answer
 links_answered s base line links has =
-    ap (links_line s base) (sym (field-given line links has.field))
+    ap (links_line s base) (sym (field-given s line links has.field).0)
     ∙ ap (λ f. unless_told f (links_line s base (links_in line))) (sym (links_without_fault s line links has))
 
 pub read_answered : (s : Tests) (base line : List ℕ) (kept : List LinkValue) → IsRead s base line kept

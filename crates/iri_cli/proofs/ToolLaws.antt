@@ -8,7 +8,7 @@ use Rattle.iri_docs.specs.Expanded.{within_limit}
 use Rattle.iri_docs.specs.Held.{Held}
 use Rattle.iri_docs.specs.declared.doc_error.DocError.{DocError}
 use Rattle.iri_docs.specs.declared.expand_error.DocExpandError.TheVariants.{Template, TooLong}
-use Rattle.iri_link.proofs.OneListLemmas.{one_list}
+use Rattle.iri_link.proofs.GrammarLemmas.{one_list}
 use Rattle.iri_robots.proofs.Decisions.{allowed_is}
 use Rattle.iri_robots.specs.Compared.{subject}
 use Rattle.iri_robots.specs.Records.{FileRule, rules_for}
@@ -31,7 +31,7 @@ use Rattle.iri_cli.proofs.RegisterLaws.{shared_by_steps, shared_by_targets}
 -- ---- `links`
 pub answers_are_links : (s : Tests) → IsSpec s → AnswersAreLinks s
 answers_are_links s k = record {
-  one = λ line ls others h i. one_list line ls others h i;
+  one = one_list s;
   links = λ base line ls has. sym (links_answered s base line ls has);
   others = others_refused s;
   again = answered_again s k;
