@@ -28,7 +28,7 @@ async function copy(text) {
 async function copyBy(made, text) {
   const said = document.getElementById("said");
   made.dataset.label ??= made.textContent;
-  made.textContent = said.textContent = await copy(text) ? "Copied" : "This browser lets nothing be copied";
+  made.textContent = said.textContent = await copy(text) ? "Copied" : "This browser doesn’t allow copying";
   setTimeout(() => {
     made.textContent = made.dataset.label;
     said.textContent = "";
