@@ -548,8 +548,8 @@ uint8_t irikit_robots_allows(uint32_t grammar, const char *rules, size_t rules_l
 
 /* The statuses of a run of the program. */
 enum irikit_run_status {
-    IRIKIT_RUN_OK = 0,            /* the input was read to its end, and every answer is `ok` */
-    IRIKIT_RUN_BAD_ANSWER = 1,    /* the input was read to its end, and an answer isn't `ok` */
+    IRIKIT_RUN_OK = 0,            /* the input was read to its end, and no answer is bad (`bad`, or of `expand` and `docs` `template`) */
+    IRIKIT_RUN_BAD_ANSWER = 1,    /* the input was read to its end, and an answer is bad */
     IRIKIT_RUN_NO_COMMAND = 2,    /* the words are no command */
     IRIKIT_RUN_BAD_BASE = 3,      /* the base, or what stands in its place, is refused */
     IRIKIT_RUN_SHORT = 5,         /* the output has no room: what was written is a prefix of it */
