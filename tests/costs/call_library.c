@@ -1,6 +1,7 @@
 /* call_library CALL uri|iri: one call of the library for C over what stands on standard input, and on standard output the text that it
  * writes. So tests/costs/shares counts what a call takes for a byte. CALL is a name of CALLS; where a call takes two texts, the name after the
- * hyphen says which of them is given, and the other is short. The status is 0, or 2 where there is no such call. */
+ * hyphen says which of them is given, and the other is short, or after a base what follows its line. The status is 0, or 2 where there is no
+ * such call. */
 #include <irikit.h>
 #include <stdio.h>
 #include <stdlib.h>
@@ -11,23 +12,25 @@
 /* A short text, as a pointer and a length. */
 #define SHORT_TEXT(text) text, sizeof text - 1
 #define BASE SHORT_TEXT("http://a/b/c")
-#define REFERENCE SHORT_TEXT("../x")
+/* What follows the first line of the text, or a short reference. */
+#define REST rest, rest_len
 #define AUTHORITY SHORT_TEXT("http://u:p@h:80/p")
 #define WITH SHORT_TEXT("w")
 
 static char text[MOST + 64], out[ROOM];
-static size_t len, detail, consumed, place;
+static const char *rest = "../x";
+static size_t len, base_len, rest_len = 4, detail, consumed, place;
 static uint32_t grammar;
 static struct irikit_parts parts;
 static struct irikit_slot slots[MOST / 2];
 
 static uint8_t canonical(void) { return irikit_canonical(grammar, IRIKIT_NORMAL, BASE, text, len, out, ROOM, &detail); }
-static uint8_t canonical_base(void) { return irikit_canonical(grammar, IRIKIT_NORMAL, text, len, REFERENCE, out, ROOM, &detail); }
+static uint8_t canonical_base(void) { return irikit_canonical(grammar, IRIKIT_NORMAL, text, base_len, REST, out, ROOM, &detail); }
 static uint8_t canonical_scheme(void) { return irikit_canonical(grammar, IRIKIT_BY_SCHEME, BASE, text, len, out, ROOM, &detail); }
 static uint8_t resolve(void) { return irikit_resolve(grammar, BASE, text, len, out, ROOM, &detail); }
-static uint8_t resolve_base(void) { return irikit_resolve(grammar, text, len, REFERENCE, out, ROOM, &detail); }
+static uint8_t resolve_base(void) { return irikit_resolve(grammar, text, base_len, REST, out, ROOM, &detail); }
 static uint8_t target(void) { return irikit_target(grammar, BASE, text, len, out, ROOM, &detail); }
-static uint8_t target_base(void) { return irikit_target(grammar, text, len, REFERENCE, out, ROOM, &detail); }
+static uint8_t target_base(void) { return irikit_target(grammar, text, base_len, REST, out, ROOM, &detail); }
 static uint8_t normalize(void) { return irikit_normalize(grammar, IRIKIT_NORMAL, text, len, out, ROOM, &detail); }
 static uint8_t normalize_scheme(void) { return irikit_normalize(grammar, IRIKIT_BY_SCHEME, text, len, out, ROOM, &detail); }
 static uint8_t preserve(void) { return irikit_normalize(grammar, IRIKIT_PRESERVING, text, len, out, ROOM, &detail); }
@@ -117,9 +120,7 @@ static uint8_t build_many(void)
 /* The base stands on the first line, as for `canon`. */
 static uint8_t lines(void)
 {
-	const char *end = memchr(text, '\n', len);
-	size_t base = end ? (size_t)(end - text) : len, rest = end ? base + 1 : len;
-	return irikit_canonical_lines(grammar, IRIKIT_NORMAL, text, base, text + rest, len - rest, out, ROOM, &consumed, &detail);
+	return irikit_canonical_lines(grammar, IRIKIT_NORMAL, text, base_len, REST, out, ROOM, &consumed, &detail);
 }
 
 static uint8_t robots_rules(void) { return irikit_robots_rules(SHORT_TEXT("bot"), text, len, out, ROOM, &detail); }
@@ -146,6 +147,12 @@ static const struct {
 int main(int argc, char **argv)
 {
 	len = fread(text, 1, MOST, stdin);
+	const char *end = memchr(text, '\n', len);
+	base_len = end ? (size_t)(end - text) : len;
+	if (end) {
+		rest = end + 1;
+		rest_len = len - base_len - 1;
+	}
 	for (size_t i = 0; argc == 3 && i < sizeof CALLS / sizeof *CALLS; i++)
 		if (strcmp(argv[1], CALLS[i].name) == 0) {
 			grammar = strcmp(argv[2], "iri") == 0 ? IRIKIT_IRI : IRIKIT_URI;
