@@ -56,7 +56,7 @@ pub use Rattle.iri_grammar.specs.declared.error.ErrorKind.TheVariants.{InvalidUt
 pub use Rattle.iri_grammar.specs.inside.Delimiters.{ends_authority, IsPastAuthority, SchemeAt, ends_at_start}
 unfoldable pub use Rattle.iri_grammar.specs.inside.Delimiters.{ends_scheme}
 pub use Rattle.iri_grammar.specs.inside.Halves.{high_bit, low_bits, row_test}
-pub use Rattle.iri_grammar.specs.inside.Ipv6Counts.{count, plus}
+pub use Rattle.iri_grammar.specs.inside.Ipv6Reading.{is_whole, is_whole_around, completes}
 pub use Rattle.iri_grammar.specs.inside.PiecesLaws.{more_pieces}
 pub use Rattle.iri_grammar.specs.inside.PlainAuthority.{is_small_name, name_len}
 pub use Rattle.iri_grammar.specs.inside.Runs.{HasNoUnit, begins_with_triplet, AreUnits}

@@ -1,4 +1,3 @@
-pub mod DoubleColons
 pub mod Ipv4Octets
 pub mod Ipv6Groups
 pub mod Ipv6Laws

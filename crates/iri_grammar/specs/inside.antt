@@ -1,7 +1,7 @@
 -- What private contracts cite, and laws that an `impl` cites.
 pub mod CutNotes
 pub mod Halves
-pub mod Ipv6Counts
+pub mod Ipv6Reading
 pub mod LastColon
 pub mod Laws
 pub mod Delimiters

@@ -39,15 +39,13 @@ pub(crate) fn is_ipv4(s: &str) -> bool
         if !is_dec_octet(octet.as_bytes()) {
             return false;
         }
-        match more {
-            Some(next) => {
-                if left == 0 {
-                    return false;
-                }
-                left -= 1;
-                rest = next;
-            }
-            None => return left == 0,
+        let Some(next) = more else {
+            return left == 0;
+        };
+        if left == 0 {
+            return false;
         }
+        left -= 1;
+        rest = next;
     }
 }

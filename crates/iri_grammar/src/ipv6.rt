@@ -1,11 +1,8 @@
 // IPv6 texts (RFC 3986 section 3.2.2).
-ghost use Rattle.std.specs.Prelude.{◌≡◌};
+ghost use Rattle.std.specs.Prelude.{◌≡◌, [], ◌∷◌, ◌==◌, cond, nat_lt};
 ghost use Rattle.iri_grammar.specs.Ipv6.{is_group};
-ghost use Rattle.iri_grammar.specs.Pieces.{pieces};
-ghost use Rattle.iri_grammar.specs.Ipv6Test.{before_double, after_double, group_texts, is_full, is_shortened, is_ipv6};
-ghost use Rattle.iri_grammar.specs.inside.Ipv6Counts.{count};
-ghost use Rattle.iri_grammar.specs.OptionalSlices.{now_of};
-ghost use Rattle.iri_grammar.specs.Characters.{colon};
+ghost use Rattle.iri_grammar.specs.Ipv6Test.{is_ipv6};
+ghost use Rattle.iri_grammar.specs.inside.Ipv6Reading.{is_whole, completes};
 
 use crate::cutting::cut;
 use crate::digits::all_hex;
@@ -19,73 +16,53 @@ fn is_group(s: &str) -> bool
     all_hex(s.as_bytes()) && 0 < s.len() && s.len() < 5
 }
 
-// How many groups are between the colons; an IPv4 text counts as two, and may be the last part where that is said.
-fn count_parts(s: &str, ipv4: bool) -> Option<usize>
-    ensures { result ≡ count ipv4 (pieces colon s.now) }
+// Whether a `::` and so many more groups, or so many alone, are what an IPv6 text has before its last part.
+fn is_count(n: usize, most: usize, shortened: bool) -> bool
+    ensures { result ≡ cond shortened (nat_lt n most) (n == most) }
+{
+    if shortened { n < most } else { n == most }
+}
+
+// Whether the last part makes an IPv6 text whole, after so many groups and, where that is said, a `::`.
+fn is_last(part: &str, n: usize, shortened: bool) -> bool
+    ensures { result ≡ is_whole shortened n (part.now ∷ []) }
+{
+    if is_group(part) {
+        is_count(n, 7, shortened)
+    } else {
+        is_ipv4(part) && is_count(n, 6, shortened)
+    }
+}
+
+// Whether the groups from the left on complete an IPv6 text; a `::`, which stands for all groups that are missing and for one
+// at least, may come before them, where that is said, or after one of them.
+fn completes(s: &str, shortened: bool) -> bool
+    ensures { result ≡ completes shortened 0 s.now }
 {
     let mut rest = s;
+    let mut shortened = shortened;
     let mut n = 0usize;
     'groups: loop {
-        let (piece, more) = cut(rest, b':');
-        match more {
-            Some(next) => {
-                if !is_group(piece) {
-                    return None;
-                }
-                n += 1;
-                rest = next;
-            }
-            None => {
-                return if is_group(piece) {
-                    Some(n + 1)
-                } else if ipv4 && is_ipv4(piece) {
-                    Some(n + 2)
-                } else {
-                    None
-                };
-            }
+        let (group, more) = cut(rest, b':');
+        let Some(next) = more else {
+            return is_last(group, n, shortened);
+        };
+        if !is_group(group) {
+            return false;
         }
-    }
-}
-
-// How many groups the parts of a text are; it may have no part.
-fn count_groups(s: &str, ipv4: bool) -> Option<usize>
-    ensures { result ≡ count ipv4 (group_texts s.now) }
-{
-    if s.is_empty() {
-        Some(0)
-    } else {
-        count_parts(s, ipv4)
-    }
-}
-
-// What comes before the first `::`, or all, and what comes after it.
-fn cut_double(s: &str) -> (&str, Option<&str>)
-    ensures before { result.0.now ≡ before_double s.now }
-    ensures after { now_of result.1 ≡ after_double s.now }
-{
-    match s.split_once("::") {
-        Some((before, after)) => (before, Some(after)),
-        None => (s, None),
-    }
-}
-
-#[tactic(auto, using(crate::proofs::hosts::Ipv6Groups::full_count, crate::proofs::hosts::Ipv6Groups::full_none))]
-fn is_full(s: &str) -> bool
-    ensures { result ≡ is_full (group_texts s.now) }
-{
-    match count_groups(s, true) {
-        Some(n) => n == 8,
-        None => false,
-    }
-}
-
-fn is_shortened(prefix: &str, back: &str) -> bool
-    ensures { result ≡ is_shortened (group_texts prefix.now) (group_texts back.now) }
-{
-    match (count_groups(prefix, false), count_groups(back, true)) {
-        (Some(m), Some(n)) => m < 8 && n < 8 - m,
-        _ => false,
+        n += 1;
+        let Some(back) = next.strip_prefix(":") else {
+            rest = next;
+            continue;
+        };
+        if shortened {
+            return false;
+        }
+        if back.is_empty() {
+            return n < 8;
+        }
+        shortened = true;
+        rest = back;
     }
 }
 
@@ -94,8 +71,8 @@ fn is_shortened(prefix: &str, back: &str) -> bool
 pub(crate) fn is_ipv6(s: &str) -> bool
     ensures { result ≡ is_ipv6 s.now }
 {
-    match cut_double(s) {
-        (prefix, Some(back)) => is_shortened(prefix, back),
-        (prefix, None) => is_full(prefix),
+    match s.strip_prefix("::") {
+        Some(back) => back.is_empty() || completes(back, true),
+        None => completes(s, false),
     }
 }

@@ -32,9 +32,9 @@ octets-preserved c =
           ∙ c.octets.invariant.same;
     }
 
-pub returns-in-None : goal.returns-in-None
-returns-in-None c =
-    let e = sym c.cut.ensures.after ∙ ap now_of c.in-None.is in
+pub returns-in_default : goal.returns-in_default
+returns-in_default c =
+    let e = sym c.cut.ensures.after ∙ ap now_of c.in_default.is in
     let prefix = c.as_bytes.ensures.value ∙ c.cut.ensures.before in
     let right = ap is_dec_octet (sym prefix) ∙ (sym c.is_dec_octet.ensures ∙ c.if-not-is_dec_octet.false) in
     sym (last_octet c.octets.left c.octets.rest.now e right) ∙ c.octets.invariant.same

@@ -1,12 +1,12 @@
-use Rattle.iri_grammar.proofs.Common.{◌≡◌, ◌+◌, ◌≤◌, length, pieces, count, plus}
+use Rattle.iri_grammar.proofs.Common.{◌≡◌, ◌+◌, ◌≤◌, length, completes}
 use denote.Text.{Utf8}
 use denote.Shadow.{shadow}
-use Rattle.iri_grammar.proofs.ipv6.count_parts.Given as goal
+use Rattle.iri_grammar.proofs.ipv6.completes.Given as goal
 
 abbrev pub invariant-groups : goal.invariant-groups
 invariant-groups l = record {
   utf8 : shadow (Utf8 l.rest);
-  same : plus l.n (count l.ipv4 (pieces 58 l.rest)) ≡ count l.ipv4 (pieces 58 l.s);
+  same : completes l.shortened l.n l.rest ≡ completes l.fn.shortened 0 l.s;
   small : l.n + length l.rest ≤ length l.s;
 }
 
