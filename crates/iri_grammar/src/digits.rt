@@ -4,6 +4,8 @@ ghost use Rattle.std.specs.List.{list_all};
 ghost use Rattle.std.specs.Char.{is_ascii_digit, is_ascii_hexdigit};
 ghost use Rattle.iri_grammar.specs.Runs.{run_of};
 
+use crate::cutting::run_len;
+
 // Whether each byte is a digit.
 pub(crate) fn all_digits(s: &[u8]) -> bool
     ensures { result ≡ list_all is_ascii_digit s.now }
@@ -23,10 +25,5 @@ pub(crate) fn digits_len(s: &[u8]) -> usize
     ensures len { result ≡ run_of is_ascii_digit s.now }
     ensures within { result ≤ length s.now }
 {
-    for (i, b) in s.iter().enumerate() {
-        if !b.is_ascii_digit() {
-            return i;
-        }
-    }
-    s.len()
+    run_len(s, |b| b.is_ascii_digit())
 }

@@ -6,6 +6,7 @@ ghost use Rattle.iri_grammar.specs.inside.Halves.{high_bit, low_bits, row_test, 
 ghost use Rattle.iri_grammar.specs.inside.PlainAuthority.{is_small_name_char};
 
 use crate::class::Class;
+use crate::cutting;
 use std::simd::prelude::*;
 
 // For the classes in the order of their ranks, and then the characters of names in lower case, and for each low half of a byte: a
@@ -100,12 +101,7 @@ fn row_run_len(row: usize, bytes: &[u8]) -> usize
 fn short_run_len(class: Class, bytes: &[u8]) -> usize
     ensures { result ≡ run_of (ascii_test class) bytes.now }
 {
-    for (i, b) in bytes.iter().enumerate() {
-        if !class.has_byte(*b) {
-            return i;
-        }
-    }
-    bytes.len()
+    cutting::run_len(bytes, |b| class.has_byte(b))
 }
 
 // How many bytes at the start are ASCII characters of the class, by 16 bytes at a time: web's lines take 3 instructions a byte fewer than by `short_run_len` alone.

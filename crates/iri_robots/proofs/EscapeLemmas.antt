@@ -1,8 +1,8 @@
 -- Escapes, counted byte by byte.
 use Rattle.iri_robots.proofs.Common.{◌≡◌, ℕ, ◌+◌, ◌-◌, ◌<◌, ◌||◌, Bool, true, false, cond, List, [], ◌∷◌, ◌++◌, drop, Some, None, refl, sym}
 use Rattle.iri_robots.proofs.Common.{◌∙◌, ap, arith, ◌==◌, nat_lt, nat_tests, compared, escapes}
-use Rattle.std.proofs.Common.{zero-add}
-use Rattle.iri_grammar.proofs.splits.CutLaws.{at_byte}
+use Rattle.std.proofs.Common.{zero-add, subst}
+use Rattle.iri_grammar.proofs.splits.CutLaws.{by_test}
 use Rattle.iri_robots.specs.Patterns.{begins_escape}
 use Rattle.iri_robots.specs.inside.EscapeScans.{begun_then, begun_after, ends_escape, Counts}
 use Rattle.iri_robots.specs.declared.escape.Begun.{Begun}
@@ -11,6 +11,9 @@ use Rattle.iri_robots.specs.declared.escape.Scan.{Scan}
 use Rattle.iri_robots.proofs.Forms.{compared_nil}
 
 -- ---- one byte
+at_byte : (b k : ℕ) (P : ℕ → Type 0) → P k → ((b == k) ≡ false → P b) → P b
+at_byte b k P at other = by_test b k (λ t. (b == k) ≡ t → P b) (λ e _. subst P (sym e) at) (λ _ e. other e) refl
+
 other_way : (b k : ℕ) → (b == k) ≡ false → (k == b) ≡ false
 other_way b k e = grind (arith, nat_tests)
 

@@ -11,9 +11,6 @@ by_test x c P same other =
       | false ↦ λ e. let o : x ≢ c = grind (arith, nat_tests) in other o
     ] refl
 
-pub at_byte : (b k : ℕ) (P : ℕ → Type 0) → P k → ((b == k) ≡ false → P b) → P b
-at_byte b k P at other = by_test b k (λ t. (b == k) ≡ t → P b) (λ e _. subst P (sym e) at) (λ _ e. other e) refl
-
 pub and_three : (a b c : Bool) → (a && b && c) ≡ true → (a ≡ true) × (b ≡ true) × (c ≡ true)
 and_three a b c h =
     let last = both (a && b) c h in
