@@ -12,6 +12,7 @@ pub mod Takings
 pub mod Reader
 pub mod Examples
 pub mod Shown
+pub mod Appending
 pub mod SliceText
 pub mod StringText
 pub mod Prefix

@@ -1,5 +1,6 @@
 -- What a slice sink holds, and what a text does to it.
-use Rattle.std.specs.Prelude.{◌≡◌, ◌<◌, ℕ, ◌+◌, List, ◌++◌, length, take, drop}
+use Rattle.std.specs.Prelude.{◌≡◌, ℕ, List, ◌++◌, length, take, drop}
+use Rattle.iri_text.specs.Appending.{Appended, StopsWithin}
 use Rattle.iri_text.specs.declared.shown.slice_sink.SliceSink.{SliceSink}
 
 -- the text that was taken
@@ -12,19 +13,20 @@ pub record SameBehind (a b : SliceSink) : Type 0 where
   pub room : length b.buf.now ≡ length a.buf.now
   pub behind : drop b.len b.buf.now ≡ drop b.len a.buf.now
 
+-- how many bytes that are, and how many the slice has
+abbrev pub slice_len : SliceSink → ℕ
+slice_len s = s.len
+
+abbrev pub slice_room : SliceSink → ℕ
+slice_room s = length s.buf.now
+
 -- one text more
-pub record SlicePuts (a : SliceSink) (t : List ℕ) (b : SliceSink) : Type 0 where
-  pub taken : slice_taken b ≡ slice_taken a ++ t
-  pub slice : SameBehind a b
+abbrev pub SlicePuts : SliceSink → List ℕ → SliceSink → Type 0
+SlicePuts = Appended slice_taken slice_len SameBehind
 
 -- a prefix of a text that is longer than the rest of the slice
-pub record SliceHalts (a : SliceSink) (t : List ℕ) (b : SliceSink) : Type 0 where
-  pub prefix : List ℕ
-  pub rest : List ℕ
-  pub split : prefix ++ rest ≡ t
-  pub taken : slice_taken b ≡ slice_taken a ++ prefix
-  pub slice : SameBehind a b
-  pub long : length a.buf.now < length (slice_taken a) + length t
+abbrev pub SliceHalts : SliceSink → List ℕ → SliceSink → Type 0
+SliceHalts = StopsWithin SlicePuts slice_len slice_room
 
 -- bytes with a text over their start
 abbrev pub over_start : List ℕ → List ℕ → List ℕ

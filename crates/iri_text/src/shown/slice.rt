@@ -3,7 +3,7 @@ ghost use Rattle.std.specs.Prelude.{◌≡◌, ◌≤◌, ◌<◌, ◌+◌, ◌+
 ghost use Rattle.std.specs.Str.{IsUtf8};
 ghost use Rattle.iri_text.specs.Shown.{Shows};
 ghost use Rattle.iri_text.specs.SliceText.{slice_taken, SlicePuts, SliceHalts, BeginsWithin, over_start};
-ghost use Rattle.iri_text.specs.inside.SliceLaws.{slice_none, slice_both, slice_until, slice_within};
+ghost use Rattle.iri_text.specs.inside.AppendingLaws.{slice_rules};
 
 use crate::copying::copy_to;
 use crate::shown::slice_sink::SliceSink;
@@ -26,7 +26,7 @@ impl<'b> TextSink for SliceSink<'b> {
 
     ghost stops = { λ s. s.stops };
 
-    ghost rules = { record { none = slice_none; both = slice_both; until = slice_until; within = slice_within } };
+    ghost rules = { slice_rules };
 
     /// Takes the piece.
     ///

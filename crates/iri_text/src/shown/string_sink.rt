@@ -36,7 +36,7 @@ impl<'b> TextSink for StringSink<'b> {
     ghost use Rattle.std.specs.Prelude.{◌≡◌, OnErr};
     ghost use Rattle.iri_text.specs.Shown.{Shows};
     ghost use Rattle.iri_text.specs.StringText.{string_taken, StringPuts, StringHalts};
-    ghost use Rattle.iri_text.specs.inside.StringLaws.{string_none, string_both, string_until, string_within};
+    ghost use Rattle.iri_text.specs.inside.AppendingLaws.{string_rules};
 
     ghost puts = { StringPuts };
 
@@ -44,7 +44,7 @@ impl<'b> TextSink for StringSink<'b> {
 
     ghost stops = { λ s. s.stops };
 
-    ghost rules = { record { none = string_none; both = string_both; until = string_until; within = string_within } };
+    ghost rules = { string_rules };
 
     /// Takes the piece.
     ///
