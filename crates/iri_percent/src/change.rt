@@ -1,15 +1,15 @@
 // What a change of a text writes: a letter in lower case, a decoded character, or a percent-encoded octet with capital
 // digits.
 ghost use Rattle.std.specs.Prelude.{◌≡◌, ◌<◌, ◌≤◌, ◌+◌, ◌∷◌, ◌++◌, ◌&&◌, ◌==◌, not, [], true, false, cond, drop, length, slice_index, take};
-ghost use Rattle.std.specs.Char.{is_ascii_hexdigit, encode_utf8};
+ghost use Rattle.std.specs.Char.{encode_utf8};
 ghost use Rattle.std.specs.Str.{IsUtf8};
-ghost use lib.Utf8.{next};
 ghost use Rattle.iri_percent.specs.Units.{whole_triplets};
 ghost use Rattle.iri_percent.specs.inside.Pieces.{case_of, octet_text, stays, Writes};
 ghost use Rattle.iri_grammar.specs.Characters.{percent_sign};
 
 use crate::character::char_past_ascii;
-use crate::octets::{capital, octet_of_digits};
+use crate::octets::octet_of_digits;
+use crate::spelling::capital_digit;
 use iri_grammar::class::Class;
 use iri_grammar::spec::Spec;
 
@@ -59,41 +59,30 @@ fn put_four(buf: &mut [u8; 64], at: usize, w: u8, x: u8, y: u8, z: u8) -> usize
     at + 4
 }
 
-// The last octet of the UTF-8 of a character of this code.
-fn next_octet(code: u32) -> u8
-    ensures { result ≡ next code }
+// Puts the UTF-8 of a character past ASCII.
+fn put_bytes(buf: &mut [u8; 64], at: usize, bytes: &[u8]) -> usize
+    requires { (at ≤ 60) × (2 ≤ length bytes.now) × (length bytes.now ≤ 4) }
+    ensures within { result ≤ at + 4 }
+    ensures text { take result buf.new ≡ take at buf.old ++ bytes.now }
 {
-    (0x80 + code % 64) as u8
+    match bytes {
+        [x, y] => put_two(buf, at, *x, *y),
+        [x, y, z] => put_three(buf, at, *x, *y, *z),
+        [w, x, y, z] => put_four(buf, at, *w, *x, *y, *z),
+        _ => at,
+    }
 }
 
-// Writes a character past ASCII (RFC 3629 section 3).
+// Writes a character past ASCII.
+#[tactic(auto, using(std::proofs::lemmas::Bool::Decides::nat_tests))]
 #[inline(always)]
 fn write_char(c: char, buf: &mut [u8; 64], at: usize) -> usize
     requires { (at ≤ 60) × (128 ≤ c) }
     ensures within { result ≤ at + 4 }
     ensures text { take result buf.new ≡ take at buf.old ++ encode_utf8 c }
 {
-    let code = u32::from(c);
-    if code < 0x800 {
-        return put_two(buf, at, (0xC0 + code / 64) as u8, next_octet(code));
-    }
-    if code < 0x1_0000 {
-        return put_three(
-            buf,
-            at,
-            (0xE0 + code / 4096) as u8,
-            next_octet(code / 64),
-            next_octet(code),
-        );
-    }
-    put_four(
-        buf,
-        at,
-        (0xF0 + code / 262_144) as u8,
-        next_octet(code / 4096),
-        next_octet(code / 64),
-        next_octet(code),
-    )
+    let mut room = [0; 4];
+    put_bytes(buf, at, c.encode_utf8(&mut room).as_bytes())
 }
 
 fn lead_of(decodes: bool, octet: u8) -> u8
@@ -111,15 +100,15 @@ fn len_of(decodes: bool) -> usize
 // An octet alone: three bytes are written in either case, and counted where the percent-encoded octet stays. So no branch
 // depends on the octet.
 #[inline(always)]
-fn write_octet(octet: u8, high: u8, low: u8, lower: bool, buf: &mut [u8; 64], at: usize) -> usize
-    requires { (is_ascii_hexdigit high ≡ true) × (is_ascii_hexdigit low ≡ true) × (at ≤ 60) }
+fn write_octet(octet: u8, lower: bool, buf: &mut [u8; 64], at: usize) -> usize
+    requires { at ≤ 60 }
     ensures within { result ≤ at + 3 }
-    ensures text { take result buf.new ≡ take at buf.old ++ octet_text lower octet high low }
+    ensures text { take result buf.new ≡ take at buf.old ++ octet_text lower octet }
 {
     let decodes = Class::Unreserved.has_byte(octet);
     buf[at] = lead_of(decodes, in_case(octet, lower));
-    buf[at + 1] = capital(high);
-    buf[at + 2] = capital(low);
+    buf[at + 1] = capital_digit(octet / 16);
+    buf[at + 2] = capital_digit(octet % 16);
     at + len_of(decodes)
 }
 
@@ -136,9 +125,7 @@ fn write_triplet<S: Spec>(text: &[u8], lower: bool, buf: &mut [u8; 64], at: usiz
     ensures writes { Writes S.tests lower text.now buf.old buf.new at result.read result.written }
     ensures within { result.written ≤ at + 4 }
 {
-    let high = text[1];
-    let low = text[2];
-    let octet = octet_of_digits(high, low);
+    let octet = octet_of_digits(text[1], text[2]);
     if octet >= 0xC0 {
         if let Some(c) = char_past_ascii::<S>(octet, after_triplet(text)) {
             return Run {
@@ -149,7 +136,7 @@ fn write_triplet<S: Spec>(text: &[u8], lower: bool, buf: &mut [u8; 64], at: usiz
     }
     Run {
         read: 3,
-        written: write_octet(octet, high, low, lower, buf, at),
+        written: write_octet(octet, lower, buf, at),
     }
 }
 

@@ -20,6 +20,7 @@ pub(crate) enum Context {
 }
 
 // The class of the characters that are kept. A userinfo has the colon beside those of a reg-name.
+#[tactic(auto, using(crate::proofs::coding::EncodedRuns::user_is_reg_name))]
 pub(crate) fn class_of<S: Spec>(context: Context) -> Class
     ensures { (c : ℕ) → class_test S.tests result c ≡ keeps S.tests context c }
 {

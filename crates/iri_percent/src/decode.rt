@@ -103,6 +103,7 @@ impl<'a> PercentDecodedWhatwgBytes<'a> {
     /// assert_eq!(rt; decode_whatwg_bytes(b"50%").to_bytes(), Some(b"50%".as_slice()));
     /// assert_eq!(rt; decode_whatwg_bytes(b"%20").to_bytes(), None);
     /// ```
+    #[tactic(auto, using(crate::proofs::coding::Fragments::decoded_texts))]
     pub fn to_bytes(&self) -> Option<&'a [u8]>
         ensures triplet { MatchOption result (has_triplet self.now.source.now ≡ true)
             (λ _. has_triplet self.now.source.now ≡ false) }

@@ -89,50 +89,12 @@ pub fn is_ascii_host(host: &[u8]) -> bool
     true
 }
 
-// For each byte `0` where it is ASCII, no `%` and no capital letter, otherwise `1`.
-static PLAIN_BYTES: [u8; 256] = *b"\
-    00000000000000000000000000000000\
-    00000100000000000000000000000000\
-    01111111111111111111111111100000\
-    00000000000000000000000000000000\
-    11111111111111111111111111111111\
-    11111111111111111111111111111111\
-    11111111111111111111111111111111\
-    11111111111111111111111111111111";
-
+// Whether the byte is ASCII, no `%` and no capital letter, without a branch.
 #[inline(always)]
 fn is_plain_byte(b: u8) -> bool
     ensures { result ≡ is_plain_byte b }
 {
-    PLAIN_BYTES[usize::from(b)] % 2 == 0
-}
-
-// Whether four bytes are plain, without a branch.
-#[inline(always)]
-fn are_plain(w: u8, x: u8, y: u8, z: u8) -> bool
-    ensures { result ≡ (((is_plain_byte w && is_plain_byte x) && is_plain_byte y) && is_plain_byte z) }
-{
-    is_plain_byte(w) & is_plain_byte(x) & is_plain_byte(y) & is_plain_byte(z)
-}
-
-// What is left where plain bytes are taken from the start, four at a time.
-fn past_plain_fours(text: &[u8]) -> &[u8]
-    ensures { list_all is_plain_byte result.now ≡ list_all is_plain_byte text.now }
-{
-    let mut rest = text;
-    'fours: while let [w, x, y, z, next @ ..] = rest {
-        if !are_plain(*w, *x, *y, *z) {
-            return rest;
-        }
-        rest = next;
-    }
-    rest
-}
-
-fn is_plain_byte_by_byte(text: &[u8]) -> bool
-    ensures { result ≡ list_all is_plain_byte text.now }
-{
-    text.iter().all(|b| is_plain_byte(*b))
+    (b < 128) & ((b != b'%') & !b.is_ascii_uppercase())
 }
 
 /// Whether the text is ASCII without a percent-encoded octet and a capital letter: as a host or a scheme it is in normal
@@ -140,7 +102,7 @@ fn is_plain_byte_by_byte(text: &[u8]) -> bool
 pub fn is_plain(text: &[u8]) -> bool
     ensures { result ≡ list_all is_plain_byte text.now }
 {
-    is_plain_byte_by_byte(past_plain_fours(text))
+    text.iter().all(|b| is_plain_byte(*b))
 }
 
 impl<S: Spec> Show for NormalizedHost<'_, S> {

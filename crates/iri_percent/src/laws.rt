@@ -66,6 +66,7 @@ pub fn delimiters_part_triplet_forms<S: Spec>()
 {}
 
 /// No part of a reference has a stray `%`.
+#[tactic(auto, using(crate::proofs::units::OfParts::parts_whole))]
 pub fn parts_have_whole_triplets<S: Spec>()
     ensures userinfo { (t : List ℕ) → is_userinfo S.tests t ≡ true → whole_triplets t ≡ true }
     ensures host { (t : List ℕ) → is_host S.tests t ≡ true → whole_triplets t ≡ true }
@@ -76,6 +77,7 @@ pub fn parts_have_whole_triplets<S: Spec>()
 {}
 
 /// The triplet normal form of a part is a part of the same kind.
+#[tactic(auto, using(crate::proofs::forms::Classes::parts_in_form))]
 pub fn triplet_forms_keep_their_class<S: Spec>()
     ensures userinfo { (t : List ℕ) → is_userinfo S.tests t ≡ true → is_userinfo S.tests (pct S.tests t) ≡ true }
     ensures reg_name { (t : List ℕ) → is_reg_name S.tests t ≡ true → is_reg_name S.tests (pct S.tests t) ≡ true }
@@ -107,6 +109,7 @@ pub fn mapped_texts_are_uris<S: Spec>()
 
 /// The fragments of a text, joined, are what it decodes to. A text decodes to itself exactly where it has no percent-encoded
 /// octet.
+#[tactic(auto, using(crate::proofs::coding::Fragments::decoded_texts))]
 pub fn decoding_of_texts()
     ensures joined { (t : List ℕ) → flat_map fragment_bytes (fragments t) ≡ decoding t }
     ensures same { (t : List ℕ) → (decoding t ≡ t) ↔ (has_triplet t ≡ false) }

@@ -72,6 +72,7 @@ fn split_run(bytes: &[u8], past: bool) -> (&[u8], &[u8])
     bytes.split_at(run_len(bytes, past))
 }
 
+#[tactic(auto, using(crate::proofs::coding::SpelledTriplets::spelled_texts))]
 fn put_ascii<W: TextSink>(sink: &mut W, bytes: &[u8]) -> Result<(), Stop>
     requires { IsAscii bytes.now }
     ensures { Shows W.puts W.halts W.stops sink.old bytes.now sink.new result }

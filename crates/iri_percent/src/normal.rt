@@ -19,40 +19,13 @@ fn is_candidate(b: u8, lower: bool) -> bool
     b == b'%' || (lower && b.is_ascii_uppercase())
 }
 
-#[inline(always)]
-fn stay(w: u8, x: u8, y: u8, z: u8) -> bool
-    ensures { OnTrue result ((stays false w ≡ true) × (stays false x ≡ true) × (stays false y ≡ true) × (stays false z ≡ true)) }
+fn find_in_short(text: &[u8], lower: bool) -> Option<usize>
+    ensures { MatchOption result (NoCandidate lower text.now (length text.now)) (λ i. CandidateAt lower text.now i) }
 {
-    !is_candidate(w, false)
-        && !is_candidate(x, false)
-        && !is_candidate(y, false)
-        && !is_candidate(z, false)
-}
-
-// How many bytes at the start have no `%`, four at a time.
-fn past_fours(text: &[u8]) -> usize
-    ensures within { result ≤ length text.now }
-    ensures run { NoCandidate false text.now result }
-{
-    let mut i = 0;
-    'fours: while i + 4 <= text.len() {
-        if !stay(text[i], text[i + 1], text[i + 2], text[i + 3]) {
-            return i;
-        }
-        i += 4;
-    }
-    i
-}
-
-fn find_near_percent(text: &[u8]) -> Option<usize>
-    ensures { MatchOption result (NoCandidate false text.now (length text.now)) (λ i. CandidateAt false text.now i) }
-{
-    let mut i = past_fours(text);
-    'bytes: while i < text.len() {
-        if is_candidate(text[i], false) {
+    for (i, b) in text.iter().enumerate() {
+        if is_candidate(*b, lower) {
             return Some(i);
         }
-        i += 1;
     }
     None
 }
@@ -62,28 +35,17 @@ fn find_percent(text: &[u8]) -> Option<usize>
     ensures { MatchOption result (NoCandidate false text.now (length text.now)) (λ i. CandidateAt false text.now i) }
 {
     if text.len() < 32 {
-        find_near_percent(text)
+        find_in_short(text, false)
     } else {
         memchr(b'%', text)
     }
-}
-
-fn find_percent_or_capital(text: &[u8]) -> Option<usize>
-    ensures { MatchOption result (NoCandidate true text.now (length text.now)) (λ i. CandidateAt true text.now i) }
-{
-    for (i, b) in text.iter().enumerate() {
-        if is_candidate(*b, true) {
-            return Some(i);
-        }
-    }
-    None
 }
 
 fn find_candidate(text: &[u8], lower: bool) -> Option<usize>
     ensures { MatchOption result (NoCandidate lower text.now (length text.now)) (λ i. CandidateAt lower text.now i) }
 {
     if lower {
-        find_percent_or_capital(text)
+        find_in_short(text, true)
     } else {
         find_percent(text)
     }

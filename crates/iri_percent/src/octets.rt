@@ -1,6 +1,6 @@
 // Percent-encoded octets.
 ghost use Rattle.std.specs.Prelude.{◌≡◌, ◌<◌, ◌+◌, ◌∷◌, [], true, false, ◌&&◌, MatchOption, drop};
-ghost use Rattle.std.specs.Char.{is_ascii_hexdigit, digit_value, to_ascii_uppercase};
+ghost use Rattle.std.specs.Char.{is_ascii_hexdigit, digit_value};
 ghost use Rattle.iri_percent.specs.Units.{octet, octets};
 ghost use Rattle.iri_grammar.specs.inside.Runs.{begins_with_more};
 
@@ -21,27 +21,6 @@ fn hex_value(digit: u8) -> Option<u8>
 {
     let value = VALUES[usize::from(digit)];
     if value < b'@' { Some(value % 16) } else { None }
-}
-
-// For each hex digit its capital form.
-static CAPITALS: [u8; 256] = *b"\
-    ................................\
-    ................0123456789......\
-    .ABCDEF.........................\
-    .ABCDEF.........................\
-    ................................\
-    ................................\
-    ................................\
-    ................................";
-
-// The capital form of a hex digit, by a table: an unpredictable branch costs more.
-#[tactic(auto, using(crate::proofs::characters::HexDigits::capital_here))]
-#[inline(always)]
-pub(crate) fn capital(digit: u8) -> u8
-    requires { is_ascii_hexdigit digit ≡ true }
-    ensures { result ≡ to_ascii_uppercase digit }
-{
-    CAPITALS[usize::from(digit)]
 }
 
 #[tactic(auto, using(crate::proofs::characters::HexDigits::value_here))]

@@ -8,16 +8,16 @@ use iri_text::{Stop, TextSink};
 // So many octets are spelled in one piece.
 const MOST: usize = 8;
 
+static DIGITS: [u8; 16] = *b"0123456789ABCDEF";
+
 /// The hex digit of this value: a capital letter from ten on. It has a condition: the value is below 16.
+#[tactic(auto, using(crate::proofs::characters::HexDigits::capital_here))]
+#[inline(always)]
 pub fn capital_digit(value: u8) -> u8
     requires { value < 16 }
     ensures { result ≡ capital_hex value }
 {
-    if value < 10 {
-        b'0' + value
-    } else {
-        b'A' - 10 + value
-    }
+    DIGITS[usize::from(value)]
 }
 
 // Spells octets at the start of the buffer, and answers the length of what they are spelled by.

@@ -1,9 +1,10 @@
 -- The table of hex digits agrees with what they stand for at each of the 256 bytes, by computing.
-use Rattle.iri_percent.proofs.Common.{◌≡◌, ℕ, ◌<◌, ◌≤◌, Bool, true, false, not, get_or, refl, sym, ◌∙◌, subst, arith, eqb-true, nat_lt, ◌%◌}
-use Rattle.iri_percent.proofs.Common.{◌||◌, is_ascii_hexdigit, digit_value, to_ascii_uppercase, agree_below, agree_below_at, lt-ltb, le-ltb}
+use Rattle.iri_percent.proofs.Common.{◌≡◌, ℕ, ◌<◌, ◌≤◌, Bool, true, false, not, get_or, refl, sym, ◌∙◌, subst, arith, eqb-true, nat_lt, ◌%◌, [], ◌∷◌}
+use Rattle.iri_percent.proofs.Common.{◌||◌, ◌+◌, ◌*◌, ◌/◌, nat_tests, octet, capital_hex, triplet, is_ascii_hexdigit, digit_value, to_ascii_uppercase, agree_below, agree_below_at, lt-ltb, le-ltb}
 use Rattle.std.specs.Prelude.{nat_eq}
 use Rattle.std.proofs.lemmas.Nat.{mod_below}
-use Rattle.iri_percent.specs.declared.octets.TheConstants.{VALUES, CAPITALS}
+use Rattle.iri_percent.specs.declared.octets.TheConstants.{VALUES}
+use Rattle.iri_percent.specs.declared.spelling.TheConstants.{DIGITS}
 
 abbrev is_value : ℕ → Bool
 is_value b = nat_lt (get_or VALUES b 0) 64
@@ -43,12 +44,31 @@ none_here b n e h = subst (λ m. 64 ≤ get_or VALUES m 0 → is_ascii_hexdigit 
 
 -- ---- the capital form
 abbrev is_capital : ℕ → Bool
-is_capital b = not (is_ascii_hexdigit b) || nat_eq (get_or CAPITALS b 0) (to_ascii_uppercase b)
+is_capital v = nat_eq (get_or DIGITS v 0) (capital_hex v)
 
-capitals : agree_below is_capital (λ _. true) 256 ≡ true
+capitals : agree_below is_capital (λ _. true) 16 ≡ true
 capitals = refl
 
-pub capital_here : (b n : ℕ) → b ≡ n → b < 256 → is_ascii_hexdigit b ≡ true → get_or CAPITALS n 0 ≡ to_ascii_uppercase b
-capital_here b n e l h = subst (λ m. get_or CAPITALS m 0 ≡ to_ascii_uppercase b) e
-    (eqb-true (get_or CAPITALS b 0) (to_ascii_uppercase b) (second (is_ascii_hexdigit b) (nat_eq (get_or CAPITALS b 0) (to_ascii_uppercase b)) h
-    (agree_below_at is_capital (λ _. true) 256 b capitals l)))
+pub capital_here : (v n : ℕ) → v ≡ n → v < 16 → get_or DIGITS n 0 ≡ capital_hex v
+capital_here v n e l = subst (λ m. get_or DIGITS m 0 ≡ capital_hex v) e
+    (eqb-true (get_or DIGITS v 0) (capital_hex v) (agree_below_at is_capital (λ _. true) 16 v capitals l))
+
+capital_of : (a : ℕ) → is_ascii_hexdigit a ≡ true → capital_hex (digit_value a) ≡ to_ascii_uppercase a
+capital_of a h = grind (arith, nat_tests)
+
+pub value_small : (a : ℕ) → is_ascii_hexdigit a ≡ true → digit_value a < 16
+value_small a h = grind (arith, nat_tests)
+
+high_part : (x y : ℕ) → y < 16 → (x * 16 + y) / 16 ≡ x
+high_part x y h = omega arith
+
+low_part : (x y : ℕ) → y < 16 → (x * 16 + y) % 16 ≡ y
+low_part x y h = omega arith
+
+-- two hex digits in capital are the triplet of the octet that they spell
+pub capital_triplet : (a b : ℕ) → is_ascii_hexdigit a ≡ true → is_ascii_hexdigit b ≡ true
+    → triplet (octet a b) ≡ 37 ∷ to_ascii_uppercase a ∷ to_ascii_uppercase b ∷ []
+capital_triplet a b p q = rw (
+  high_part (digit_value a) (digit_value b) (value_small b q),
+  low_part (digit_value a) (digit_value b) (value_small b q),
+) (rw (capital_of a p, capital_of b q) refl)

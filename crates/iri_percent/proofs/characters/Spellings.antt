@@ -99,30 +99,6 @@ decide os rest code least spells seen =
       ] refl
     ] refl
 
--- the UTF-8 of a character past ASCII
-pub encode_two : (c code y : ℕ) → code ≡ c → 128 ≤ c → code < 2048 → y ≡ next code → (192 + code / 64) ∷ y ∷ [] ≡ encode c
-unfolding encode
-encode_two c code y e l h p =
-    ap (λ n. (192 + code / 64) ∷ n ∷ []) p ∙ ap (λ n. (192 + n / 64) ∷ next n ∷ []) e
-    ∙ rw (le-ltb c 128 l, lt-ltb c 2048 (omega (arith, e, h))) refl
-
-pub encode_three : (c code y z : ℕ) → code ≡ c → 2048 ≤ code → code < 65536 → y ≡ next (code / 64) → z ≡ next code
-    → (224 + code / 4096) ∷ y ∷ z ∷ [] ≡ encode c
-unfolding encode
-encode_three c code y z e l h p q =
-    ap (λ n. (224 + code / 4096) ∷ n ∷ z ∷ []) p ∙ ap (λ n. (224 + code / 4096) ∷ next (code / 64) ∷ n ∷ []) q
-    ∙ ap (λ n. (224 + n / 4096) ∷ next (n / 64) ∷ next n ∷ []) e
-    ∙ rw (le-ltb c 128 (omega (arith, e, l)), le-ltb c 2048 (omega (arith, e, l)), lt-ltb c 65536 (omega (arith, e, h))) refl
-
-pub encode_four : (c code x y z : ℕ) → code ≡ c → 65536 ≤ code → x ≡ next (code / 4096) → y ≡ next (code / 64) → z ≡ next code
-    → (240 + code / 262144) ∷ x ∷ y ∷ z ∷ [] ≡ encode c
-unfolding encode
-encode_four c code x y z e l p q r =
-    ap (λ n. (240 + code / 262144) ∷ n ∷ y ∷ z ∷ []) p ∙ ap (λ n. (240 + code / 262144) ∷ next (code / 4096) ∷ n ∷ z ∷ []) q
-    ∙ ap (λ n. (240 + code / 262144) ∷ next (code / 4096) ∷ next (code / 64) ∷ n ∷ []) r
-    ∙ ap (λ n. (240 + n / 262144) ∷ next (n / 4096) ∷ next (n / 64) ∷ next n ∷ []) e
-    ∙ rw (le-ltb c 128 (omega (arith, e, l)), le-ltb c 2048 (omega (arith, e, l)), le-ltb c 65536 (omega (arith, e, l))) refl
-
 pub two_octets : (lead a : ℕ) (os : List ℕ) → 192 ≤ lead → lead < 224 → a < 64
     → char_from ((lead - 192) * 64 + a) 128 ≡ first_char (lead ∷ (128 + a) ∷ os)
 two_octets lead a os l u p = decide (lead ∷ (128 + a) ∷ os) os ((lead - 192) * 64 + a) 128

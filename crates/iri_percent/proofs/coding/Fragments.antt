@@ -274,3 +274,6 @@ decoding-fewer (x ∷ a ∷ b ∷ xs) h =
 pub same-decoding : (t : List ℕ) → decoding t ≡ t → has_triplet t ≡ false
 same-decoding t h = elim (has_triplet t) as (λ b. has_triplet t ≡ b
     → b ≡ false) [ true ↦ λ e. absurd (omega (arith, decoding-fewer t e, ap length h)) | false ↦ λ _. refl ] refl
+
+-- what the law of decoding says
+pub ruleset decoded_texts = (fragments-joined, same-decoding, decoding-same)

@@ -53,3 +53,6 @@ triplets_split done os few more n f m =
     ap (λ l. done ++ triplets l) (sym (take-append-drop n os) ∙ ap (λ l. l ++ drop n os) (sym f) ∙ ap (λ l. few ++ l) (sym m))
     ∙ ap (λ l. done ++ l) (triplets-append few more)
     ∙ sym (append_assoc done (triplets few) (triplets more))
+
+-- what is in ASCII is a text
+pub ruleset spelled_texts = (triplets-utf8, IsUtf8-from_ascii)

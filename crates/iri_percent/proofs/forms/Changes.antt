@@ -1,7 +1,7 @@
 -- Changes of a text, and the runs between them.
 use Rattle.iri_percent.proofs.Common.{◌==◌, is_ascii_hexdigit, is_ascii_uppercase, to_ascii_uppercase, to_ascii_lowercase, encode_utf8}
 use Rattle.iri_percent.proofs.Common.{len_utf8, scalar, encode_ascii, length-encode, len_utf8_bounds, IsUtf8, ltb, drop_at, nat_tests}
-use Rattle.iri_percent.proofs.Common.{IsAscii-cons, IsAscii-nil, Tests, IsSpec, unreserved, is_ascii_unreserved, both, octet, octets}
+use Rattle.iri_percent.proofs.Common.{IsAscii-cons, IsAscii-nil, Tests, IsSpec, unreserved, is_ascii_unreserved, both, octet, octets, triplet}
 use Rattle.iri_percent.proofs.Common.{whole_triplets, normal, decoded, case_of, stays, NoCandidate, Becomes, Gathered, Writes}
 use Rattle.std.proofs.Common.{◌≡◌, ℕ, zero, suc, ◌+◌, ◌-◌, ◌*◌, ◌<◌, ◌≤◌, Bool, true, false, not, ◌&&◌, List, [], ◌∷◌, ◌++◌, Option, Some}
 use Rattle.std.proofs.Common.{None, length, take, drop, get_or, refl, sym, ◌∙◌, ap, subst, arith, append_assoc, length-append, length-drop}
@@ -10,6 +10,7 @@ use Rattle.std.specs.Prelude.{MatchOption}
 use Rattle.std.proofs.lemmas.Str.{IsUtf8-encode, IsUtf8-from_ascii, lead_after_ascii}
 use Rattle.std.proofs.lemmas.List.{get_or_append_left}
 use Rattle.iri_grammar.proofs.units.FirstUnits.{hex_is_ascii}
+use Rattle.iri_percent.proofs.characters.HexDigits.{capital_triplet}
 use Rattle.iri_percent.proofs.characters.Spellings.{ascii_decoded, low_decoded, past_ascii, unreserved_low}
 use Rattle.iri_percent.proofs.units.AtStart.{octets_triplet, Spells, none, more, spelled, Spelled, length-spelled}
 use Rattle.iri_percent.proofs.forms.ByUnits.{normal_nil, normal_plain, normal_decoded, normal_kept}
@@ -29,22 +30,6 @@ not_upper x h = grind (arith, nat_tests)
 stays_case : (lower : Bool) (x : ℕ) → stays lower x ≡ true → case_of lower x ≡ x
 stays_case true x h = not_upper x (both (not (x == 37)) (not (is_ascii_uppercase x)) h).1
 stays_case false x h = refl
-
-one_more : (t : List ℕ) (i : ℕ) → NoCandidate false t i → stays false (get_or t i 0) ≡ true → NoCandidate false t (i + 1)
-one_more t i n s k h =
-    elim (ltb k i) as (λ b. ltb k i ≡ b → stays false (get_or t k 0) ≡ true) [
-      | true ↦ λ e. n k (ltb-true k i e)
-      | false ↦ λ e. let same : i ≡ k = omega (arith, h, ltb-false k i e) in subst (λ m. stays false (get_or t m 0) ≡ true) same s
-    ] refl
-
-pub four_more : (t : List ℕ) (i : ℕ) → NoCandidate false t i
-    → (stays false (get_or t i 0) ≡ true) × (stays false (get_or t (i + 1) 0) ≡ true)
-    × (stays false (get_or t (i + 2) 0) ≡ true) × (stays false (get_or t (i + 3) 0) ≡ true) → NoCandidate false t (i + 4)
-four_more t i n s k h =
-    let two : i + 2 ≡ i + 1 + 1 = omega arith in
-    let three : i + 3 ≡ i + 1 + 1 + 1 = omega arith in
-    one_more t (i + 1 + 1 + 1) (one_more t (i + 1 + 1) (one_more t (i + 1) (one_more t i n s.0) s.1)
-    (subst (λ m. stays false (get_or t m 0) ≡ true) two s.2)) (subst (λ m. stays false (get_or t m 0) ≡ true) three s.3) k (omega (arith, h))
 
 pub record Run (s : Tests) (lower : Bool) (t : List ℕ) (n : ℕ) : Type 0 where
   pub text : normal s (case_of lower) t ≡ take n t ++ normal s (case_of lower) (drop n t)
@@ -195,10 +180,19 @@ pub at_octet : (t : List ℕ) (o : ℕ) → whole_triplets t ≡ true → 0 < le
     → o ≡ octet (get_or t 1 0) (get_or t 2 0) → octets t ≡ o ∷ octets (drop 3 t)
 at_octet t o w l e is = (digits t w l e).octets_are ∙ ap (λ n. n ∷ octets (drop 3 t)) (sym is)
 
+-- what is written for an octet of these digits
+abbrev spelled_text : Bool → ℕ → ℕ → ℕ → List ℕ
+spelled_text lower o a b = cond (is_ascii_unreserved o) (case_of lower o ∷ []) (37 ∷ to_ascii_uppercase a ∷ to_ascii_uppercase b ∷ [])
+
+octet_same : (lower : Bool) (o a b : ℕ) → is_ascii_hexdigit a ≡ true → is_ascii_hexdigit b ≡ true → o ≡ octet a b
+    → octet_text lower o ≡ spelled_text lower o a b
+octet_same lower o a b p q is =
+    ap (λ l. cond (is_ascii_unreserved o) (case_of lower o ∷ []) l) (ap triplet is ∙ capital_triplet a b p q)
+
 -- an octet that begins no character past ASCII
 octet_becomes : (s : Tests) (lower : Bool) (t : List ℕ) (o : ℕ) → IsSpec s → whole_triplets t ≡ true → 0 < length t → get_or t 0 0 ≡ 37
     → o ≡ octet (get_or t 1 0) (get_or t 2 0) → (192 ≤ o → decoded s (octets t) ≡ None)
-    → Becomes s lower t 0 3 (octet_text lower o (get_or t 1 0) (get_or t 2 0))
+    → Becomes s lower t 0 3 (spelled_text lower o (get_or t 1 0) (get_or t 2 0))
 octet_becomes s lower t o i w l e is high =
     elim (is_ascii_unreserved o) as (λ b. is_ascii_unreserved o ≡ b → Becomes s lower t 0 3
     (cond b (case_of lower o ∷ []) (37 ∷ to_ascii_uppercase (get_or t 1 0) ∷ to_ascii_uppercase (get_or t 2 0) ∷ []))) [
@@ -226,7 +220,7 @@ octet_becomes s lower t o i w l e is high =
 pub upper_digit : (a : ℕ) → is_ascii_hexdigit a ≡ true → to_ascii_uppercase a < 128
 upper_digit a h = grind (arith, nat_tests)
 
-octet_utf8 : (lower : Bool) (o a b : ℕ) → is_ascii_hexdigit a ≡ true → is_ascii_hexdigit b ≡ true → IsUtf8 (octet_text lower o a b)
+octet_utf8 : (lower : Bool) (o a b : ℕ) → is_ascii_hexdigit a ≡ true → is_ascii_hexdigit b ≡ true → IsUtf8 (spelled_text lower o a b)
 octet_utf8 lower o a b p q =
     elim (is_ascii_unreserved o) as (λ v. is_ascii_unreserved o ≡ v
     → IsUtf8 (cond v (case_of lower o ∷ []) (37 ∷ to_ascii_uppercase a ∷ to_ascii_uppercase b ∷ []))) [
@@ -238,14 +232,14 @@ octet_utf8 lower o a b p q =
 
 pub writes_octet : (s : Tests) (lower : Bool) (t old new : List ℕ) (at written o : ℕ) → IsSpec s → whole_triplets t ≡ true → 0 < length t
     → get_or t 0 0 ≡ 37 → o ≡ octet (get_or t 1 0) (get_or t 2 0) → (192 ≤ o → decoded s (octets t) ≡ None)
-    → take written new ≡ take at old ++ octet_text lower o (get_or t 1 0) (get_or t 2 0) → Writes s lower t old new at 3 written
+    → take written new ≡ take at old ++ octet_text lower o → Writes s lower t old new at 3 written
 writes_octet s lower t old new at written o i w l e is high put =
     let d = digits t w l e in
     record {
-      text = octet_text lower o (get_or t 1 0) (get_or t 2 0);
+      text = spelled_text lower o (get_or t 1 0) (get_or t 2 0);
       becomes = octet_becomes s lower t o i w l e is high;
       utf8 = octet_utf8 lower o (get_or t 1 0) (get_or t 2 0) d.high d.low;
-      put = put;
+      put = put ∙ ap (λ l. take at old ++ l) (octet_same lower o (get_or t 1 0) (get_or t 2 0) d.high d.low is);
     }
 
 -- a decoded character past ASCII, which has no case

@@ -222,3 +222,6 @@ lowered-reg_name s t k h = normal-over s to_ascii_lowercase (reg_name_char s) t 
       unreserved = in_reg_name s;
       case = λ c q. lower_kept s (reg_name_char s) c (in_reg_name s) q;
     }) h
+
+-- what the law of the parts says of each
+pub ruleset parts_in_form = (pct-userinfo, pct-reg_name, pct-path, pct-segment, pct-query, pct-fragment)

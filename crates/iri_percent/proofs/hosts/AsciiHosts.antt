@@ -46,19 +46,6 @@ plain_ascii (x ∷ xs) h =
     let n : (x == 37) ≡ false = not-true (x == 37) (both (not (x == 37)) (not (is_ascii_uppercase x)) j.1).0 in
     rw (j.0, n) (plain_ascii xs k.1)
 
-pub plain_four : (t : List ℕ) → 4 ≤ length t
-    → (((is_plain_byte (get_or t 0 0) && is_plain_byte (get_or t 1 0)) && is_plain_byte (get_or t 2 0)) && is_plain_byte (get_or t 3 0)) ≡ true
-    → list_all is_plain_byte t ≡ list_all is_plain_byte (drop 4 t)
-plain_four [] l h = absurd (omega arith)
-plain_four (w ∷ []) l h = absurd (omega arith)
-plain_four (w ∷ x ∷ []) l h = absurd (omega arith)
-plain_four (w ∷ x ∷ y ∷ []) l h = absurd (omega arith)
-plain_four (w ∷ x ∷ y ∷ z ∷ r) l h =
-    let a = both ((is_plain_byte w && is_plain_byte x) && is_plain_byte y) (is_plain_byte z) h in
-    let b = both (is_plain_byte w && is_plain_byte x) (is_plain_byte y) a.0 in
-    let c = both (is_plain_byte w) (is_plain_byte x) b.0 in
-    rw (c.0, c.1, b.1, a.1) refl
-
 plain_stays : (t : List ℕ) → list_all is_plain_byte t ≡ true → NoCandidate true t (length t)
 plain_stays [] h k j = absurd (omega arith)
 plain_stays (x ∷ xs) h zero j = (both (nat_lt x 128) (stays true x) (both (is_plain_byte x) (list_all is_plain_byte xs) h).0).1

@@ -18,29 +18,11 @@ use Rattle.iri_percent.specs.Mapping.{mapped_char}
 use Rattle.iri_percent.proofs.mapping.Texts.{mapped-low, mapped-high, mapped-append, mapped-triplet, mapped-spelled, mapped-spells, is_high}
 use Rattle.iri_percent.proofs.mapping.Texts.{high_past, high_small, first_digit, second_digit, encode-high, uri-spec}
 pub use Rattle.iri_percent.proofs.characters.Spellings.{unreserved_low as unreserved_ascii}
+pub use Rattle.iri_percent.proofs.characters.HexDigits.{value_small}
+use Rattle.iri_percent.proofs.characters.HexDigits.{capital_triplet}
 use Rattle.iri_percent.proofs.Common.{flat_map}
 
 -- ---- triplets in capital
-capital_of : (a : ℕ) → is_ascii_hexdigit a ≡ true → capital_hex (digit_value a) ≡ to_ascii_uppercase a
-capital_of a h = grind (arith, nat_tests)
-
-pub value_small : (a : ℕ) → is_ascii_hexdigit a ≡ true → digit_value a < 16
-value_small a h = grind (arith, nat_tests)
-
-high_part : (x y : ℕ) → y < 16 → (x * 16 + y) / 16 ≡ x
-high_part x y h = omega arith
-
-low_part : (x y : ℕ) → y < 16 → (x * 16 + y) % 16 ≡ y
-low_part x y h = omega arith
-
--- two hex digits in capital are the triplet of the octet that they spell
-capital_triplet : (a b : ℕ) → is_ascii_hexdigit a ≡ true → is_ascii_hexdigit b ≡ true
-    → triplet (octet a b) ≡ 37 ∷ to_ascii_uppercase a ∷ to_ascii_uppercase b ∷ []
-capital_triplet a b p q = rw (
-  high_part (digit_value a) (digit_value b) (value_small b q),
-  low_part (digit_value a) (digit_value b) (value_small b q),
-) (rw (capital_of a p, capital_of b q) refl)
-
 -- triplets of bytes past ASCII, in capital
 upper-spelled : (sp os : List ℕ) → Spells sp os → list_all is_high os ≡ true → map to_ascii_uppercase sp ≡ mapped os
 upper-spelled sp os none h = refl

@@ -101,3 +101,6 @@ host-whole s x k h =
       | true ↦ λ e _. lacks-whole x (literal-lacks x e)
       | false ↦ λ _ r. text_over-whole (reg_name_char s) x (reg_name_percent s k) r
     ] refl h
+
+-- what the law of the parts says of each
+pub ruleset parts_whole = (userinfo-whole, host-whole, path-whole, segment-whole, query-whole, fragment-whole)

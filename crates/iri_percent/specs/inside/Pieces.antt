@@ -1,22 +1,21 @@
 -- How a text is rewritten, place by place.
 use Rattle.std.specs.Prelude.{◌≡◌, ℕ, ◌+◌, ◌-◌, ◌<◌, ◌≤◌, Bool, true, false, cond, not, ◌&&◌, ◌==◌, List, [], ◌∷◌, ◌++◌, length, take, drop}
 use Rattle.std.specs.Prelude.{slice_index}
-use Rattle.std.specs.Char.{to_ascii_uppercase, to_ascii_lowercase, is_ascii_uppercase}
+use Rattle.std.specs.Char.{to_ascii_lowercase, is_ascii_uppercase}
 use Rattle.std.specs.Str.{IsUtf8}
 use Rattle.iri_grammar.specs.Classes.{Tests, is_ascii_unreserved}
 use Rattle.iri_percent.specs.Units.{whole_triplets}
 use Rattle.iri_percent.specs.Triplets.{normal, as_it_is}
-use Rattle.iri_grammar.specs.Characters.{percent_sign}
+use Rattle.iri_percent.specs.Mapping.{triplet}
 
 -- whether letters outside triplets are lowered
 abbrev pub case_of : Bool → ℕ → ℕ
 case_of true = to_ascii_lowercase
 case_of false = as_it_is
 
--- what is written for an octet that begins no character past ASCII: it alone where it is unreserved, otherwise the triplet of these digits,
--- which get capital
-abbrev pub octet_text : Bool → ℕ → ℕ → ℕ → List ℕ
-octet_text lower o a b = cond (is_ascii_unreserved o) (case_of lower o ∷ []) (percent_sign ∷ to_ascii_uppercase a ∷ to_ascii_uppercase b ∷ [])
+-- what is written for an octet that begins no character past ASCII: it alone where it is unreserved, otherwise its triplet
+abbrev pub octet_text : Bool → ℕ → List ℕ
+octet_text lower o = cond (is_ascii_unreserved o) (case_of lower o ∷ []) (triplet o)
 
 -- a byte that begins no change
 abbrev pub stays : Bool → ℕ → Bool

@@ -33,9 +33,6 @@ write_char-requires g c = (
       (sym c.in-Some.ensures),
 )
 
-pub write_octet-requires : goal.write_octet-requires
-write_octet-requires g c = let d = digits c.args.text.now c.requires.0 c.requires.1 c.requires.2 in (d.high, d.low, c.requires.3)
-
 pub returns-clause-writes : goal.returns-clause-writes
 returns-clause-writes g c =
     let s = g.S.Spec.tests in
