@@ -106,6 +106,7 @@ impl<'a> Iterator for PercentDecodedBytesFragments<'a> {
     ghost remaining = { item_count fragments_left };
 
     /// The next fragment; `None` exactly where every fragment was given.
+    #[tactic(auto, using(crate::proofs::coding::Fragments::fragment_counts))]
     fn next(&mut self) -> Option<DecodedFragment<'a>> {
         if self.rest.is_empty() {
             return None;
@@ -116,6 +117,7 @@ impl<'a> Iterator for PercentDecodedBytesFragments<'a> {
     }
 
     /// From one fragment to as many as bytes are left, and none where none is.
+    #[tactic(auto, using(crate::proofs::coding::Fragments::fragment_counts))]
     fn size_hint(&self) -> (usize, Option<usize>)
         ensures lower { IsWithinCount result.0 (at_most (length (fragments self.now.rest.now))) }
         ensures upper { IfSome result.1 (UpTo (at_most (length (fragments self.now.rest.now)))) }

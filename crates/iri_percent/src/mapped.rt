@@ -95,6 +95,7 @@ fn put_runs<W: TextSink>(sink: &mut W, bytes: &[u8]) -> Result<(), Stop>
     Ok(())
 }
 
+#[tactic(auto, using(crate::proofs::mapping::Runs::ascii_stays))]
 fn show_mapped<W: TextSink>(sink: &mut W, text: &str) -> Result<(), Stop>
     ensures { Shows W.puts W.halts W.stops sink.old (mapped text.now) sink.new result }
 {

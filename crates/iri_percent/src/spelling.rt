@@ -8,6 +8,7 @@ use iri_text::{Stop, TextSink};
 // So many octets are spelled in one piece.
 const MOST: usize = 8;
 
+// The hex digits by their values.
 static DIGITS: [u8; 16] = *b"0123456789ABCDEF";
 
 /// The hex digit of this value: a capital letter from ten on. It has a condition: the value is below 16.

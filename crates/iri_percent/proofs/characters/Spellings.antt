@@ -2,7 +2,7 @@
 use Rattle.iri_percent.proofs.Common.{◌≡◌, ℕ, ◌+◌, ◌-◌, ◌<◌, ◌≤◌, Bool, true, false, cond, ◌||◌, List, [], ◌∷◌, ◌++◌, Option, Some, None}
 use Rattle.iri_percent.proofs.Common.{zero, suc, length, take, drop, take-append-drop, refl, sym, ◌∙◌, ap, arith, ltb-true, ltb-false, ◌/◌}
 use Rattle.iri_percent.proofs.Common.{◌*◌, ◌%◌, chars, ltb, encode, next, scalar, low_scalar, encode_ascii, length-encode, len_utf8_bounds}
-use Rattle.iri_percent.proofs.Common.{nat_tests, lt-ltb, le-ltb, Tests, IsSpec, unreserved, is_ascii_unreserved, first_char, decoded}
+use Rattle.iri_percent.proofs.Common.{nat_tests, le-ltb, Tests, IsSpec, unreserved, is_ascii_unreserved, first_char, decoded}
 use Rattle.iri_percent.proofs.Common.{unreserved_only, char_from}
 use Rattle.iri_grammar.specs.inside.Runs.{begins_with_more}
 use Rattle.iri_grammar.proofs.units.WideChars.{spelled_in_three, spelled_in_two}

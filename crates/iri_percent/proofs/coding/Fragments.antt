@@ -277,3 +277,6 @@ same-decoding t h = elim (has_triplet t) as (λ b. has_triplet t ≡ b
 
 -- what the law of decoding says
 pub ruleset decoded_texts = (fragments-joined, same-decoding, decoding-same)
+
+-- what a call for the next fragment cites
+pub ruleset fragment_counts = (none-left, fragments-some, fragments-most)

@@ -1,6 +1,6 @@
 -- Hosts, byte by byte.
 use Rattle.iri_percent.proofs.Common.{◌≡◌, ℕ, zero, suc, ◌-◌, ◌<◌, Bool, true, false, cond, not, ◌&&◌, List, [], ◌∷◌, length, take, drop}
-use Rattle.iri_percent.proofs.Common.{get_or, ◌≤◌, refl, sym, ◌∙◌, ap, subst, arith, ◌==◌, nat_lt, list_all, is_ascii_uppercase}
+use Rattle.iri_percent.proofs.Common.{get_or, refl, sym, ◌∙◌, ap, subst, arith, ◌==◌, nat_lt, list_all, is_ascii_uppercase}
 use Rattle.iri_percent.proofs.Common.{to_ascii_lowercase, take_rest, not-true, Tests, both, two_digits, whole_triplets, normal}
 use Rattle.iri_percent.proofs.Common.{is_ascii_host, is_plain_byte, normal_host, case_of, stays, NoCandidate}
 use mathlib.Core.Bool.{and_assoc}

@@ -1,10 +1,10 @@
 -- The mapping and triplet normal form, and what the mapping does.
-use Rattle.iri_percent.proofs.Common.{◌≡◌, ℕ, zero, suc, ◌+◌, ◌*◌, ◌<◌, ◌≤◌, Bool, true, false, cond, List, [], ◌∷◌, ◌++◌, Option, Some}
+use Rattle.iri_percent.proofs.Common.{◌≡◌, ℕ, zero, suc, ◌<◌, ◌≤◌, Bool, true, false, cond, List, [], ◌∷◌, ◌++◌, Option, Some}
 use Rattle.iri_percent.proofs.Common.{None, length, map, refl, sym, ◌∙◌, ap, subst, arith, length-append, ltb-true, ltb-false, ◌==◌, ◌/◌}
-use Rattle.iri_percent.proofs.Common.{◌%◌, nat_lt, list_all, is_ascii_hexdigit, digit_value, to_ascii_uppercase, encode, encodes, scalar}
+use Rattle.iri_percent.proofs.Common.{◌%◌, nat_lt, list_all, is_ascii_hexdigit, to_ascii_uppercase, encode, encodes, scalar}
 use Rattle.iri_percent.proofs.Common.{scalars, chars, IsAscii, IsUtf8, encode_ascii, encodes-chars, scalars-chars, nat_tests, lt-ltb}
 use Rattle.iri_percent.proofs.Common.{IsAscii-cons, IsAscii-nil, Tests, IsSpec, uri_tests, unreserved, is_ascii_unreserved, both, text_over}
-use Rattle.iri_percent.proofs.Common.{octet, octets, first_char, normal, decoded, unreserved_only, capital_hex, triplet, mapped, triplets}
+use Rattle.iri_percent.proofs.Common.{octet, octets, first_char, normal, decoded, unreserved_only, triplet, mapped, triplets}
 use Rattle.std.proofs.lemmas.Str.{IsAscii-append}
 use Rattle.std.proofs.Math.Bool.{or-false}
 use Rattle.iri_percent.proofs.forms.Classes.{IsText, ended, letter, escape, text-from_over, after_spelled}

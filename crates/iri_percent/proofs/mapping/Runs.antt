@@ -75,3 +75,6 @@ shorter_by rest tail last h q r =
 pub mapped-none : (t : List ℕ) → length t ≡ 0 → mapped t ≡ []
 mapped-none [] h = refl
 mapped-none (x ∷ xs) h = absurd (omega arith)
+
+-- a text in ASCII stays
+pub ruleset ascii_stays = (mapped-of_ascii)

@@ -20,33 +20,24 @@ is_stray (Lone a b) = false
 is_stray Stray = true
 is_stray (IllFormed b) = false
 
-no_stray : (u : TextUnit) → is_stray u ≡ false → u ≢ Stray
-no_stray u h = λ is. true≢false (sym (ap is_stray is) ∙ h)
-
 -- no unit is a stray `%`
-abbrev NoStray : List TextUnit → Type 0
-NoStray us = All (λ u. u ≢ Stray) us
+abbrev all_free : List TextUnit → Bool
+all_free us = list_all (λ u. not (is_stray u)) us
 
-others : (u : TextUnit) (us : List TextUnit) → NoStray (u ∷ us) → NoStray us
-others u us h = λ k d l. h (suc k) d (omega (arith, l))
-
-units_read : (t : List ℕ) → Reading t → NoStray (units t)
+free_read : (t : List ℕ) → Reading t → all_free (units t) ≡ true
 unfolding units_from
-units_read _ done = λ k d l. absurd (omega (arith, l))
-units_read _ (plain x xs e r) = subst NoStray (sym (units_plain x xs e))
-    (All-cons (λ u. u ≢ Stray) (Plain x) (units xs) (no_stray (Plain x) refl) (units_read xs r))
-units_read _ (char c sp xs h k r) = subst NoStray (sym (units_char c sp xs h k))
-    (All-cons (λ u. u ≢ Stray) (Char c sp) (units xs) (no_stray (Char c sp) refl) (units_read xs r))
-units_read _ (lone a b xs p q e r) = subst NoStray (sym (units_lone a b xs p q e))
-    (All-cons (λ u. u ≢ Stray) (Lone a b) (units xs) (no_stray (Lone a b) refl) (units_read xs r))
+free_read _ done = refl
+free_read _ (plain x xs e r) = ap all_free (units_plain x xs e) ∙ free_read xs r
+free_read _ (char c sp xs h k r) = ap all_free (units_char c sp xs h k) ∙ free_read xs r
+free_read _ (lone a b xs p q e r) = ap all_free (units_lone a b xs p q e) ∙ free_read xs r
 
 whole_at : (n : ℕ) (a b : ℕ) (ys : List ℕ) → length ys ≤ n → is_ascii_hexdigit a ≡ true → is_ascii_hexdigit b ≡ true
-    → NoStray (units (37 ∷ a ∷ b ∷ ys))
-    → ((t : List ℕ) → length t ≤ n → NoStray (units t) → whole_triplets t ≡ true) → whole_triplets (37 ∷ a ∷ b ∷ ys) ≡ true
+    → all_free (units (37 ∷ a ∷ b ∷ ys)) ≡ true
+    → ((t : List ℕ) → length t ≤ n → all_free (units t) ≡ true → whole_triplets t ≡ true) → whole_triplets (37 ∷ a ∷ b ∷ ys) ≡ true
 whole_at n a b ys l p q h rest =
     elim (first_char (octets (37 ∷ a ∷ b ∷ ys))) as (λ o. first_char (octets (37 ∷ a ∷ b ∷ ys)) ≡ o
     → whole_triplets (37 ∷ a ∷ b ∷ ys) ≡ true) [
-      | None ↦ λ e. whole_triplet a b ys p q ∙ rest ys l (others (Lone a b) (units ys) (subst NoStray (units_lone a b ys p q e) h))
+      | None ↦ λ e. whole_triplet a b ys p q ∙ rest ys l (sym (ap all_free (units_lone a b ys p q e)) ∙ h)
       | Some c ↦ λ e. let g = first_char_is (octets (37 ∷ a ∷ b ∷ ys)) c e in at c g.is_scalar (prefix_triplet c a b ys p q g)
     ] refl
   where
@@ -56,44 +47,37 @@ whole_at n a b ys l p q h rest =
         let read : units (37 ∷ a ∷ b ∷ ys) ≡ Char c (37 ∷ a ∷ b ∷ r.sp) ∷ units r.rest =
         ap (λ t. units (37 ∷ a ∷ b ∷ t)) r.text ∙ units_char c (37 ∷ a ∷ b ∷ r.sp) r.rest s r.whole in
         ap (λ t. whole_triplets (37 ∷ a ∷ b ∷ t)) r.text ∙ whole_after (37 ∷ a ∷ b ∷ r.sp) _ r.rest r.whole
-        ∙ rest r.rest short (others (Char c (37 ∷ a ∷ b ∷ r.sp)) (units r.rest) (subst NoStray read h))
+        ∙ rest r.rest short (sym (ap all_free read) ∙ h)
 
 -- after a `%`
-whole_percent : (n : ℕ) (xs : List ℕ) → length xs ≤ n → NoStray (units (37 ∷ xs))
-    → ((t : List ℕ) → length t ≤ n → NoStray (units t) → whole_triplets t ≡ true) → whole_triplets (37 ∷ xs) ≡ true
+whole_percent : (n : ℕ) (xs : List ℕ) → length xs ≤ n → all_free (units (37 ∷ xs)) ≡ true
+    → ((t : List ℕ) → length t ≤ n → all_free (units t) ≡ true → whole_triplets t ≡ true) → whole_triplets (37 ∷ xs) ≡ true
 whole_percent n xs l h rest =
     elim (two_digits xs) as (λ b. two_digits xs ≡ b → whole_triplets (37 ∷ xs) ≡ true) [
       | true ↦ λ e. at (digits_follow xs e)
-      | false ↦ λ e. absurd (subst NoStray (units_stray xs e) h 0 Stray (omega arith) refl)
+      | false ↦ λ e. let no : all_free (units (37 ∷ xs)) ≡ false = ap all_free (units_stray xs e) in cc
     ] refl
   where
     at : Follows xs → whole_triplets (37 ∷ xs) ≡ true
     at f =
         let size : length xs ≡ length (f.a ∷ f.b ∷ f.ys) = ap length f.text in
         ap (λ t. whole_triplets (37 ∷ t)) f.text ∙ whole_at n f.a f.b f.ys (omega (arith, size, l)) f.first f.second
-        (subst (λ t. NoStray (units (37 ∷ t))) f.text h) rest
+        (sym (ap (λ t. all_free (units (37 ∷ t))) f.text) ∙ h) rest
 
-whole_within : (n : ℕ) (t : List ℕ) → length t ≤ n → NoStray (units t) → whole_triplets t ≡ true
+whole_within : (n : ℕ) (t : List ℕ) → length t ≤ n → all_free (units t) ≡ true → whole_triplets t ≡ true
 unfolding whole_triplets
 whole_within n [] l h = refl
 whole_within zero (x ∷ xs) l h = absurd (omega arith)
 whole_within (suc n) (x ∷ xs) l h =
     elim (x == 37) as (λ b. (x == 37) ≡ b → whole_triplets (x ∷ xs) ≡ true) [
-      | false ↦ λ e. whole_plain x xs e ∙ whole_within n xs (omega arith)
-          (others (Plain x) (units xs) (subst NoStray (units_plain x xs e) h))
+      | false ↦ λ e. whole_plain x xs e ∙ whole_within n xs (omega arith) (sym (ap all_free (units_plain x xs e)) ∙ h)
       | true ↦ λ e.
           let same : x ≡ 37 = eqb-true x 37 e in
           subst (λ y. whole_triplets (y ∷ xs) ≡ true) (sym same)
-          (whole_percent n xs (omega arith) (subst (λ y. NoStray (units (y ∷ xs))) same h) (λ t. whole_within n t))
+          (whole_percent n xs (omega arith) (sym (ap (λ y. all_free (units (y ∷ xs))) same) ∙ h) (λ t. whole_within n t))
     ] refl
 
-pub whole-iff-no-stray : (t : List ℕ) → (whole_triplets t ≡ true) ↔ All (λ u. u ≢ Stray) (units t)
-whole-iff-no-stray t = (λ w. units_read t (read t w), λ h. whole_within (length t) t (omega arith) h)
-
--- ---- the same of units of characters
-abbrev all_free : List TextUnit → Bool
-all_free us = list_all (λ u. not (is_stray u)) us
-
+-- ---- units of characters
 plains_free : (os : List ℕ) (us : List TextUnit) → all_free (plains os ++ us) ≡ all_free us
 plains_free [] us = refl
 plains_free (o ∷ os) us = plains_free os us
@@ -113,22 +97,27 @@ is_free (Lone a b) h = refl
 is_free Stray h = absurd (h refl)
 is_free (IllFormed b) h = refl
 
-all_free-from : (us : List TextUnit) → NoStray us → all_free us ≡ true
+-- ---- none of them, one by one
+all_free-from : (us : List TextUnit) → All (λ u. u ≢ Stray) us → all_free us ≡ true
 all_free-from [] h = refl
-all_free-from (u ∷ us) h = rw (is_free u (h 0 u (omega arith))) (all_free-from us (others u us h))
+all_free-from (u ∷ us) h = rw (is_free u (h 0 u (omega arith))) (all_free-from us (λ k d l. h (suc k) d (omega (arith, l))))
 
-no_stray-from : (us : List TextUnit) → all_free us ≡ true → NoStray us
+no_stray-from : (us : List TextUnit) → all_free us ≡ true → All (λ u. u ≢ Stray) us
 no_stray-from [] h = λ k d l. absurd (omega (arith, l))
 no_stray-from (u ∷ us) h =
     let k = both (not (is_stray u)) (all_free us) h in
-    All-cons (λ v. v ≢ Stray) u us (no_stray u (not-true (is_stray u) k.0)) (no_stray-from us k.1)
+    let free = not-true (is_stray u) k.0 in
+    All-cons (λ v. v ≢ Stray) u us (λ is. true≢false (sym (ap is_stray is) ∙ free)) (no_stray-from us k.1)
 
-same_free : (t : List ℕ) → all_free (units t) ≡ all_free (char_units t)
-same_free t = ap all_free (units-by_chars t) ∙ bytes_free (char_units t)
+pub whole-iff-no-stray : (t : List ℕ) → (whole_triplets t ≡ true) ↔ All (λ u. u ≢ Stray) (units t)
+whole-iff-no-stray t = (
+  λ w. no_stray-from (units t) (free_read t (read t w)),
+  λ h. whole_within (length t) t (omega arith) (all_free-from (units t) h),
+)
 
 pub whole-iff-no-stray-char : (t : List ℕ) → (whole_triplets t ≡ true) ↔ All (λ u. u ≢ Stray) (char_units t)
 whole-iff-no-stray-char t =
-    let k = whole-iff-no-stray t in (
-      λ h. no_stray-from (char_units t) (sym (same_free t) ∙ all_free-from (units t) (k.0 h)),
-      λ h. k.1 (no_stray-from (units t) (same_free t ∙ all_free-from (char_units t) h)),
+    let same : all_free (units t) ≡ all_free (char_units t) = ap all_free (units-by_chars t) ∙ bytes_free (char_units t) in (
+      λ w. no_stray-from (char_units t) (sym same ∙ free_read t (read t w)),
+      λ h. whole_within (length t) t (omega arith) (same ∙ all_free-from (char_units t) h),
     )
