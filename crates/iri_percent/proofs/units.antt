@@ -1,5 +1,6 @@
 -- The units of a text: at its start, joined, by bytes and by characters; texts with whole triplets.
 pub mod AtStart
+pub mod Readings
 pub mod Joined
 pub mod ByBytes
 pub mod ByCharacters

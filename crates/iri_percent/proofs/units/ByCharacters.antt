@@ -1,14 +1,14 @@
 -- The units of a text, character by character and byte by byte.
 use Rattle.iri_percent.proofs.Common.{◌≡◌, ℕ, zero, suc, ◌-◌, ◌≤◌, true, false, cond, ◌&&◌, List, [], ◌∷◌, ◌++◌, Some, None, length, drop}
-use Rattle.iri_percent.proofs.Common.{refl, sym, ◌∙◌, ap, subst, arith, length-append, eqb-true, ltb-true, ltb-false, ◌==◌, nat_lt}
+use Rattle.iri_percent.proofs.Common.{refl, sym, ◌∙◌, ap, subst, arith, ltb-true, ltb-false, ◌==◌, nat_lt}
 use Rattle.iri_percent.proofs.Common.{flat_map, list_all, is_ascii_hexdigit, chars, IsUtf8, encode, encodes, scalar, scalars, drop_at}
 use Rattle.iri_percent.proofs.Common.{encode_ascii, encodes-chars, scalars-chars, nat_tests, both, TextUnit, Plain, Char, Lone, Stray}
 use Rattle.iri_percent.proofs.Common.{IllFormed, octet, octets, first_char, triplet_unit, first_unit, unit_text, units_from, units}
 use Rattle.iri_percent.proofs.Common.{two_digits, by_character, char_unit_text, char_units_from, char_units, plains, byte_units}
-use Rattle.iri_percent.proofs.units.AtStart.{Spells, none, more, octets_other, octets_triplet, octets_spelled, first_char_is, char_first}
+use Rattle.iri_percent.proofs.units.AtStart.{Spells, none, more, octets_other, octets_triplet, octets_spelled, char_first}
 use Rattle.iri_percent.proofs.units.AtStart.{encode_bytes, encodes_triplet, byte_other, units_plain, units_lone, units_char}
 use Rattle.iri_percent.proofs.units.ByBytes.{percent_same, units-by_chars}
-use Rattle.iri_percent.proofs.forms.ByUnits.{PrefixTriplet, prefix_triplet}
+use Rattle.iri_percent.proofs.units.Readings.{TextReading, nothing, other, spelled_char, lone_triplet, stray_percent, read_text}
 use Rattle.iri_percent.proofs.mapping.Texts.{is_high, encode-high}
 use Rattle.iri_percent.proofs.units.Joined.{units-text}
 use Rattle.iri_percent.specs.CharUnits.{first_char_unit}
@@ -82,45 +82,15 @@ suffix : (xs ys : List ℕ) → scalars (xs ++ ys) ≡ true → scalars ys ≡ t
 suffix [] ys h = h
 suffix (x ∷ xs) ys h = suffix xs ys (both (scalar x) (scalars (xs ++ ys)) h).1
 
-prefix : (n a b : ℕ) (ys : List ℕ) → length (37 ∷ a ∷ b ∷ ys) ≤ suc n → is_ascii_hexdigit a ≡ true → is_ascii_hexdigit b ≡ true
-    → scalars ys ≡ true → ((t : List ℕ) → length t ≤ n → scalars t ≡ true → CharReading t) → CharReading (37 ∷ a ∷ b ∷ ys)
-prefix n a b ys l p q w read =
-    elim (first_char (octets (37 ∷ a ∷ b ∷ ys))) as (λ o. first_char (octets (37 ∷ a ∷ b ∷ ys)) ≡ o → CharReading (37 ∷ a ∷ b ∷ ys)) [
-      | None ↦ λ e. lone a b ys p q e (read ys (omega arith) w)
-      | Some c ↦ λ e. let g = first_char_is (octets (37 ∷ a ∷ b ∷ ys)) c e in at c g.is_scalar (prefix_triplet c a b ys p q g)
-    ] refl
-  where
-    at : (c : ℕ) → scalar c ≡ true → PrefixTriplet c a b ys → CharReading (37 ∷ a ∷ b ∷ ys)
-    at c h r =
-        let short : length r.rest ≤ n = omega (arith, l, ap length r.text, length-append r.sp r.rest) in
-        let ok : scalars r.rest ≡ true = suffix r.sp r.rest (ap scalars (sym r.text) ∙ w) in
-        subst (λ t. CharReading (37 ∷ a ∷ b ∷ t)) (sym r.text) (char c (37 ∷ a ∷ b ∷ r.sp) r.rest h r.whole (read r.rest short ok))
-
-percent : (n : ℕ) (xs : List ℕ) → length (37 ∷ xs) ≤ suc n → scalars xs ≡ true
-    → ((t : List ℕ) → length t ≤ n → scalars t ≡ true → CharReading t) → CharReading (37 ∷ xs)
-percent n [] l w read = stray [] refl refl done
-percent n (a ∷ []) l w read = stray (a ∷ []) refl (two_encoded (a ∷ []) w) (read (a ∷ []) (omega arith) w)
-percent n (a ∷ b ∷ ys) l w read =
-    let k = both (scalar a) (scalars (b ∷ ys)) w in
-    elim (is_ascii_hexdigit a && is_ascii_hexdigit b) as (λ v. (is_ascii_hexdigit a && is_ascii_hexdigit b) ≡ v
-    → CharReading (37 ∷ a ∷ b ∷ ys)) [
-      | true ↦ λ e. let d = both (is_ascii_hexdigit a) (is_ascii_hexdigit b) e in
-          prefix n a b ys l d.0 d.1 (both (scalar b) (scalars ys) k.1).1 read
-      | false ↦ λ e. stray (a ∷ b ∷ ys) e (two_encoded (a ∷ b ∷ ys) w ∙ e) (read (a ∷ b ∷ ys) (omega arith) w)
-    ] refl
-
-read_within : (n : ℕ) (t : List ℕ) → length t ≤ n → scalars t ≡ true → CharReading t
-read_within n [] l w = done
-read_within zero (x ∷ xs) l w = absurd (omega arith)
-read_within (suc n) (x ∷ xs) l w =
-    let k = both (scalar x) (scalars xs) w in
-    elim (x == 37) as (λ b. (x == 37) ≡ b → CharReading (x ∷ xs)) [
-      | false ↦ λ e. plain x xs k.0 e (read_within n xs (omega arith) k.1)
-      | true ↦ λ e. subst (λ y. CharReading (y ∷ xs)) (sym (eqb-true x 37 e)) (percent n xs l k.1 (λ t. read_within n t))
-    ] refl
+of_text : (t : List ℕ) → TextReading t → scalars t ≡ true → CharReading t
+of_text _ nothing w = done
+of_text _ (other x xs e r) w = let k = both (scalar x) (scalars xs) w in plain x xs k.0 e (of_text xs r k.1)
+of_text _ (spelled_char c sp xs h k r) w = char c sp xs h k (of_text xs r (suffix sp xs w))
+of_text _ (lone_triplet a b xs p q n r) w = lone a b xs p q n (of_text xs r (suffix (37 ∷ a ∷ b ∷ []) xs w))
+of_text _ (stray_percent xs e r) w = let k = suffix (37 ∷ []) xs w in stray xs e (two_encoded xs k ∙ e) (of_text xs r k)
 
 pub read : (t : List ℕ) → scalars t ≡ true → CharReading t
-read t w = read_within (length t) t (omega arith) w
+read t w = of_text t (read_text t) w
 
 -- ---- octets
 pub encodes_percent : (cs : List ℕ) → encodes (37 ∷ cs) ≡ 37 ∷ encodes cs

@@ -1,9 +1,9 @@
 -- A text without stray `%` is a row of characters as they stand, characters in triplets, and lone triplets.
-use Rattle.iri_percent.proofs.Common.{◌≡◌, ℕ, zero, suc, ◌≤◌, true, false, List, [], ◌∷◌, ◌++◌, Some, None, length, refl, sym, ◌∙◌, ap}
-use Rattle.iri_percent.proofs.Common.{subst, arith, length-append, eqb-true, ◌==◌, is_ascii_hexdigit, encode_utf8, scalar, both, octets}
+use Rattle.iri_percent.proofs.Common.{◌≡◌, ℕ, true, false, List, [], ◌∷◌, ◌++◌, None, refl, sym, ◌∙◌}
+use Rattle.iri_percent.proofs.Common.{◌==◌, is_ascii_hexdigit, encode_utf8, scalar, both, octets}
 use Rattle.iri_percent.proofs.Common.{first_char, two_digits, whole_triplets}
-use Rattle.iri_percent.proofs.units.AtStart.{Spells, none, more, hex_apart, first_char_is}
-use Rattle.iri_percent.proofs.forms.ByUnits.{PrefixTriplet, prefix_triplet}
+use Rattle.iri_percent.proofs.units.AtStart.{Spells, none, more, hex_apart}
+use Rattle.iri_percent.proofs.units.Readings.{TextReading, nothing, other, spelled_char, lone_triplet, stray_percent, read_text}
 
 pub data Reading : List ℕ → Type 0 where
   done : Reading []
@@ -44,41 +44,13 @@ pub whole_after : (sp os xs : List ℕ) → Spells sp os → whole_triplets (sp 
 whole_after sp os xs none = refl
 whole_after sp os xs (more a b sp' os' p q k) = whole_triplet a b (sp' ++ xs) p q ∙ whole_after sp' os' xs k
 
--- the unit at the start, and what is read after it
-prefix : (n : ℕ) (a b : ℕ) (ys : List ℕ) → length (37 ∷ a ∷ b ∷ ys) ≤ suc n → is_ascii_hexdigit a ≡ true → is_ascii_hexdigit b ≡ true
-    → whole_triplets ys ≡ true
-    → ((t : List ℕ) → length t ≤ n → whole_triplets t ≡ true → Reading t) → Reading (37 ∷ a ∷ b ∷ ys)
-prefix n a b ys l p q w read =
-    elim (first_char (octets (37 ∷ a ∷ b ∷ ys))) as (λ o. first_char (octets (37 ∷ a ∷ b ∷ ys)) ≡ o → Reading (37 ∷ a ∷ b ∷ ys)) [
-      | None ↦ λ e. lone a b ys p q e (read ys (omega arith) w)
-      | Some c ↦ λ e. let g = first_char_is (octets (37 ∷ a ∷ b ∷ ys)) c e in at c g.is_scalar (prefix_triplet c a b ys p q g)
-    ] refl
-  where
-    at : (c : ℕ) → scalar c ≡ true → PrefixTriplet c a b ys → Reading (37 ∷ a ∷ b ∷ ys)
-    at c h r =
-        let short : length r.rest ≤ n = omega (arith, l, ap length r.text, length-append r.sp r.rest) in
-        let after : whole_triplets r.rest ≡ true = sym (whole_after r.sp r.tail r.rest r.part) ∙ sym (ap whole_triplets r.text) ∙ w in
-        subst (λ t. Reading (37 ∷ a ∷ b ∷ t)) (sym r.text) (char c (37 ∷ a ∷ b ∷ r.sp) r.rest h r.whole (read r.rest short after))
-
-read_within : (n : ℕ) (t : List ℕ) → length t ≤ n → whole_triplets t ≡ true → Reading t
-read_within n [] l w = done
-read_within zero (x ∷ xs) l w = absurd (omega arith)
-read_within (suc n) (x ∷ xs) l w =
-    elim (x == 37) as (λ b. (x == 37) ≡ b → Reading (x ∷ xs)) [
-      | false ↦ λ e. plain x xs e (read_within n xs (omega arith) (sym (whole_plain x xs e) ∙ w))
-      | true ↦ λ e.
-          let same : x ≡ 37 = eqb-true x 37 e in
-          let f = percent_follows xs (ap (λ y. whole_triplets (y ∷ xs)) (sym same) ∙ w) in
-          subst (λ y. Reading (y ∷ xs)) (sym same) (at same f (λ t. read_within n t))
-    ] refl
-  where
-    at : x ≡ 37 → Follows xs → ((t : List ℕ) → length t ≤ n → whole_triplets t ≡ true → Reading t) → Reading (37 ∷ xs)
-    at same f read =
-        let size : length xs ≡ length (f.a ∷ f.b ∷ f.ys) = ap length f.text in
-        let w37 : whole_triplets (37 ∷ f.a ∷ f.b ∷ f.ys) ≡ true =
-        ap (λ t. whole_triplets (37 ∷ t)) (sym f.text) ∙ ap (λ y. whole_triplets (y ∷ xs)) (sym same) ∙ w in
-        subst (λ t. Reading (37 ∷ t)) (sym f.text)
-        (prefix n f.a f.b f.ys (omega (arith, size, l)) f.first f.second (sym (whole_triplet f.a f.b f.ys f.first f.second) ∙ w37) read)
+of_text : (t : List ℕ) → TextReading t → whole_triplets t ≡ true → Reading t
+unfolding whole_triplets
+of_text _ nothing w = done
+of_text _ (other x xs e r) w = plain x xs e (of_text xs r (sym (whole_plain x xs e) ∙ w))
+of_text _ (spelled_char c sp xs h k r) w = char c sp xs h k (of_text xs r (sym (whole_after sp (encode_utf8 c) xs k) ∙ w))
+of_text _ (lone_triplet a b xs p q n r) w = lone a b xs p q n (of_text xs r (sym (whole_triplet a b xs p q) ∙ w))
+of_text _ (stray_percent xs e r) w = let no : false ≡ true = sym e ∙ (both (two_digits xs) (whole_triplets xs) w).0 in cc
 
 pub read : (t : List ℕ) → whole_triplets t ≡ true → Reading t
-read t w = read_within (length t) t (omega arith) w
+read t w = of_text t (read_text t) w
