@@ -1,5 +1,5 @@
 -- The units of a text, character by character and byte by byte.
-use Rattle.iri_percent.proofs.Common.{◌≡◌, ℕ, zero, suc, ◌-◌, ◌≤◌, true, false, cond, ◌&&◌, List, [], ◌∷◌, ◌++◌, Some, None, length, drop}
+use Rattle.iri_percent.proofs.Common.{◌≡◌, ℕ, zero, suc, ◌-◌, ◌≤◌, true, false, cond, ◌&&◌, List, [], ◌∷◌, ◌++◌, Some, length, drop}
 use Rattle.iri_percent.proofs.Common.{refl, sym, ◌∙◌, ap, subst, arith, ltb-true, ltb-false, ◌==◌, nat_lt}
 use Rattle.iri_percent.proofs.Common.{flat_map, list_all, is_ascii_hexdigit, chars, IsUtf8, encode, encodes, scalar, scalars, drop_at}
 use Rattle.iri_percent.proofs.Common.{encode_ascii, encodes-chars, scalars-chars, nat_tests, both, TextUnit, Plain, Char, Lone, Stray}
@@ -54,7 +54,7 @@ two_second c d ds h =
           ap (λ l. two_digits (c ∷ (l ++ encodes ds))) p.split ∙ ap (λ v. is_ascii_hexdigit c && v) (p.digit ∙ sym p.itself)
     ] refl
 
-two_encoded : (cs : List ℕ) → scalars cs ≡ true → two_digits (encodes cs) ≡ two_digits cs
+pub two_encoded : (cs : List ℕ) → scalars cs ≡ true → two_digits (encodes cs) ≡ two_digits cs
 two_encoded [] h = refl
 two_encoded (c ∷ cs) h =
     let k = both (scalar c) (scalars cs) h in
@@ -69,28 +69,9 @@ two_encoded (c ∷ cs) h =
     rest c [] h = refl
     rest c (d ∷ ds) h = two_second c d ds (both (scalar d) (scalars ds) h).0
 
--- ---- a list of characters is a row of characters as they stand, characters in triplets, lone triplets and stray percents
-pub data CharReading : List ℕ → Type 0 where
-  done : CharReading []
-  plain : (c : ℕ) (cs : List ℕ) → scalar c ≡ true → (c == 37) ≡ false → CharReading cs → CharReading (c ∷ cs)
-  char : (c : ℕ) (sp cs : List ℕ) → scalar c ≡ true → Spells sp (encode c) → CharReading cs → CharReading (sp ++ cs)
-  lone : (a b : ℕ) (cs : List ℕ) → is_ascii_hexdigit a ≡ true → is_ascii_hexdigit b ≡ true → first_char (octets (37 ∷ a ∷ b ∷ cs)) ≡ None
-      → CharReading cs → CharReading (37 ∷ a ∷ b ∷ cs)
-  stray : (cs : List ℕ) → two_digits cs ≡ false → two_digits (encodes cs) ≡ false → CharReading cs → CharReading (37 ∷ cs)
-
-suffix : (xs ys : List ℕ) → scalars (xs ++ ys) ≡ true → scalars ys ≡ true
+pub suffix : (xs ys : List ℕ) → scalars (xs ++ ys) ≡ true → scalars ys ≡ true
 suffix [] ys h = h
 suffix (x ∷ xs) ys h = suffix xs ys (both (scalar x) (scalars (xs ++ ys)) h).1
-
-of_text : (t : List ℕ) → TextReading t → scalars t ≡ true → CharReading t
-of_text _ nothing w = done
-of_text _ (other x xs e r) w = let k = both (scalar x) (scalars xs) w in plain x xs k.0 e (of_text xs r k.1)
-of_text _ (spelled_char c sp xs h k r) w = char c sp xs h k (of_text xs r (suffix sp xs w))
-of_text _ (lone_triplet a b xs p q n r) w = lone a b xs p q n (of_text xs r (suffix (37 ∷ a ∷ b ∷ []) xs w))
-of_text _ (stray_percent xs e r) w = let k = suffix (37 ∷ []) xs w in stray xs e (two_encoded xs k ∙ e) (of_text xs r k)
-
-pub read : (t : List ℕ) → scalars t ≡ true → CharReading t
-read t w = of_text t (read_text t) w
 
 -- ---- octets
 pub encodes_percent : (cs : List ℕ) → encodes (37 ∷ cs) ≡ 37 ∷ encodes cs
@@ -106,18 +87,19 @@ octets_stray [] h = refl
 octets_stray (a ∷ []) h = refl
 octets_stray (a ∷ b ∷ xs) h = rw h refl
 
-pub octets_encoded : (cs : List ℕ) → CharReading cs → octets (encodes cs) ≡ octets cs
-octets_encoded cs done = refl
-octets_encoded cs (plain c cs' h e r) =
+pub octets_encoded : (cs : List ℕ) → TextReading cs → scalars cs ≡ true → octets (encodes cs) ≡ octets cs
+octets_encoded cs nothing w = refl
+octets_encoded cs (other c cs' e r) w =
     let b = encode_bytes c in
     ap (λ l. octets (l ++ encodes cs')) b.split ∙ octets_other b.lead (b.tail ++ encodes cs') (b.percent ∙ e) ∙ sym (octets_other c cs' e)
-octets_encoded cs (char c sp cs' h k r) =
+octets_encoded cs (spelled_char c sp cs' h k r) w =
     ap octets (encodes_spelled sp (encode c) cs' k) ∙ octets_spelled sp (encode c) (encodes cs') k
-    ∙ ap (λ l. encode c ++ l) (octets_encoded cs' r) ∙ sym (octets_spelled sp (encode c) cs' k)
-octets_encoded cs (lone a b cs' p q n r) =
-    ap octets (encodes_triplet a b cs' p q) ∙ octets_triplet a b (encodes cs') p q ∙ ap (λ l. octet a b ∷ l) (octets_encoded cs' r)
+    ∙ ap (λ l. encode c ++ l) (octets_encoded cs' r (suffix sp cs' w)) ∙ sym (octets_spelled sp (encode c) cs' k)
+octets_encoded cs (lone_triplet a b cs' p q n r) w =
+    ap octets (encodes_triplet a b cs' p q) ∙ octets_triplet a b (encodes cs') p q ∙ ap (λ l. octet a b ∷ l) (octets_encoded cs' r (suffix (37 ∷ a ∷ b ∷ []) cs' w))
     ∙ sym (octets_triplet a b cs' p q)
-octets_encoded cs (stray cs' e f r) = ap octets (encodes_percent cs') ∙ octets_stray (encodes cs') f ∙ sym (octets_stray cs' e)
+octets_encoded cs (stray_percent cs' e r) w =
+    ap octets (encodes_percent cs') ∙ octets_stray (encodes cs') (two_encoded cs' (suffix (37 ∷ []) cs' w) ∙ e) ∙ sym (octets_stray cs' e)
 
 -- ---- units
 pub units_stray : (xs : List ℕ) → two_digits xs ≡ false → units (37 ∷ xs) ≡ Stray ∷ units xs
@@ -176,26 +158,29 @@ char_units_plain c xs h n =
     ∙ ap char_units (drop_at b.tail xs (length b.tail) refl))
 
 -- the units of a list of characters, and those of its UTF-8
-units_encoded : (cs : List ℕ) → CharReading cs → char_units (encodes cs) ≡ units cs
+units_encoded : (cs : List ℕ) → TextReading cs → scalars cs ≡ true → char_units (encodes cs) ≡ units cs
 unfolding units_from char_units_from
-units_encoded cs done = refl
-units_encoded cs (plain c cs' h e r) = char_units_plain c (encodes cs') h e ∙ ap (λ l. Plain c ∷ l) (units_encoded cs' r)
-    ∙ sym (units_plain c cs' e)
-units_encoded cs (char c sp cs' h k r) =
+units_encoded cs nothing w = refl
+units_encoded cs (other c cs' e r) w =
+    let k = both (scalar c) (scalars cs') w in
+    char_units_plain c (encodes cs') k.0 e ∙ ap (λ l. Plain c ∷ l) (units_encoded cs' r k.1) ∙ sym (units_plain c cs' e)
+units_encoded cs (spelled_char c sp cs' h k r) w =
     ap char_units (encodes_spelled sp (encode c) cs' k) ∙ char_units_char c sp (encode c) (encodes cs') h k refl
-    ∙ ap (λ l. Char c sp ∷ l) (units_encoded cs' r) ∙ sym (units_char c sp cs' h k)
-units_encoded cs (lone a b cs' p q n r) =
+    ∙ ap (λ l. Char c sp ∷ l) (units_encoded cs' r (suffix sp cs' w)) ∙ sym (units_char c sp cs' h k)
+units_encoded cs (lone_triplet a b cs' p q n r) w =
     let same : octets (37 ∷ a ∷ b ∷ encodes cs') ≡ octets (37 ∷ a ∷ b ∷ cs') =
-    ap octets (sym (encodes_triplet a b cs' p q)) ∙ octets_encoded (37 ∷ a ∷ b ∷ cs') (lone a b cs' p q n r) in
+    ap octets (sym (encodes_triplet a b cs' p q)) ∙ octets_encoded (37 ∷ a ∷ b ∷ cs') (lone_triplet a b cs' p q n r) w in
     ap char_units (encodes_triplet a b cs' p q) ∙ percent_unit (a ∷ b ∷ []) (encodes cs') (Lone a b) (units (encodes cs'))
     (units_lone a b (encodes cs') p q (ap first_char same ∙ n)) refl
-    ∙ ap (λ l. Lone a b ∷ l) (units_encoded cs' r) ∙ sym (units_lone a b cs' p q n)
-units_encoded cs (stray cs' e f r) =
+    ∙ ap (λ l. Lone a b ∷ l) (units_encoded cs' r (suffix (37 ∷ a ∷ b ∷ []) cs' w)) ∙ sym (units_lone a b cs' p q n)
+units_encoded cs (stray_percent cs' e r) w =
+    let v = suffix (37 ∷ []) cs' w in
+    let f = two_encoded cs' v ∙ e in
     ap char_units (encodes_percent cs') ∙ percent_unit [] (encodes cs') Stray (units (encodes cs')) (units_stray (encodes cs') f) refl
-    ∙ ap (λ l. Stray ∷ l) (units_encoded cs' r) ∙ sym (units_stray cs' e)
+    ∙ ap (λ l. Stray ∷ l) (units_encoded cs' r v) ∙ sym (units_stray cs' e)
 
 pub units-of_chars : (t : List ℕ) → IsUtf8 t → char_units t ≡ units (chars t)
-units-of_chars t u = ap char_units (sym (encodes-chars t u)) ∙ units_encoded (chars t) (read (chars t) (scalars-chars t u))
+units-of_chars t u = ap char_units (sym (encodes-chars t u)) ∙ units_encoded (chars t) (read_text (chars t)) (scalars-chars t u)
 
 -- ---- the text of the units
 plains_text : (os : List ℕ) (us : List TextUnit) → flat_map unit_text (plains os ++ us) ≡ os ++ flat_map unit_text us

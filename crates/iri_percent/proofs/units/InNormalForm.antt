@@ -1,6 +1,6 @@
 -- The units of a triplet normal form, character by character.
 use Rattle.iri_percent.proofs.Common.{◌≡◌, ℕ, true, false, cond, List, [], ◌∷◌, ◌++◌, None, refl, sym, ◌∙◌, ap, subst, ◌==◌, map}
-use Rattle.iri_percent.proofs.Common.{is_ascii_hexdigit, to_ascii_uppercase, chars, IsUtf8, encode, encodes, scalar, encodes-chars}
+use Rattle.iri_percent.proofs.Common.{is_ascii_hexdigit, to_ascii_uppercase, chars, IsUtf8, encode, encodes, scalar, scalars, encodes-chars}
 use Rattle.iri_percent.proofs.Common.{scalars-chars, map-id, Tests, IsSpec, unreserved, both, Plain, Char, Lone, octets, first_char, units}
 use Rattle.iri_percent.proofs.Common.{two_digits, whole_triplets, char_units, char_units_from, pct, as_it_is, normal_unit, flat_map}
 use Rattle.iri_percent.specs.Triplets.{unit_in_form}
@@ -8,7 +8,8 @@ use Rattle.iri_percent.proofs.units.AtStart.{Spells, encodes_triplet, units_lone
 use Rattle.iri_percent.proofs.forms.ByUnits.{normal_nil, normal_plains, normal_lone, normal_char}
 use Rattle.iri_percent.proofs.units.WholeTriplets.{whole_triplet, whole_after}
 use Rattle.iri_percent.proofs.forms.Stability.{as_it_is-case, upper_spells, unreserved_percent, encode_percent, whole_plains, units-normal}
-use Rattle.iri_percent.proofs.units.ByCharacters.{CharReading, done, plain, char, lone, stray, read, percent_unit, char_units_char, char_units_plain}
+use Rattle.iri_percent.proofs.units.Readings.{TextReading, nothing, other, spelled_char, lone_triplet, stray_percent, read_text}
+use Rattle.iri_percent.proofs.units.ByCharacters.{percent_unit, char_units_char, char_units_plain, suffix, two_encoded}
 use Rattle.iri_percent.proofs.units.ByCharacters.{encodes_spelled, encodes_percent, octets_encoded}
 
 abbrev IsFormed : Tests → List ℕ → Type 0
@@ -57,28 +58,29 @@ nothing_formed : (s : Tests) → char_units [] ≡ map (unit_in_form s) (char_un
 unfolding char_units_from
 nothing_formed s = refl
 
-encoded_formed : (s : Tests) (cs : List ℕ) → IsSpec s → CharReading cs → whole_triplets (encodes cs) ≡ true → IsFormed s (encodes cs)
+encoded_formed : (s : Tests) (cs : List ℕ) → IsSpec s → TextReading cs → scalars cs ≡ true → whole_triplets (encodes cs) ≡ true → IsFormed s (encodes cs)
 unfolding whole_triplets
-encoded_formed s cs i done w = ap char_units (normal_nil s as_it_is) ∙ nothing_formed s
-encoded_formed s cs i (plain c cs' h e r) w = plain_formed s c (encodes cs') h e
-    (encoded_formed s cs' i r (sym (whole_plains (encode c) (encodes cs') (encode_percent c e)) ∙ w))
-encoded_formed s cs i (char c sp cs' h k r) w =
+encoded_formed s cs i nothing v w = ap char_units (normal_nil s as_it_is) ∙ nothing_formed s
+encoded_formed s cs i (other c cs' e r) v w =
+    let k = both (scalar c) (scalars cs') v in
+    plain_formed s c (encodes cs') k.0 e (encoded_formed s cs' i r k.1 (sym (whole_plains (encode c) (encodes cs') (encode_percent c e)) ∙ w))
+encoded_formed s cs i (spelled_char c sp cs' h k r) v w =
     let same = encodes_spelled sp (encode c) cs' k in
     subst (IsFormed s) (sym same) (char_formed s c sp (encodes cs') i h k
-    (encoded_formed s cs' i r (sym (ap whole_triplets same ∙ whole_after sp (encode c) (encodes cs') k) ∙ w)))
-encoded_formed s cs i (lone a b cs' p q n r) w =
+    (encoded_formed s cs' i r (suffix sp cs' v) (sym (ap whole_triplets same ∙ whole_after sp (encode c) (encodes cs') k) ∙ w)))
+encoded_formed s cs i (lone_triplet a b cs' p q n r) v w =
     let same = encodes_triplet a b cs' p q in
     let rest : whole_triplets (encodes cs') ≡ true = sym (ap whole_triplets same ∙ whole_triplet a b (encodes cs') p q) ∙ w in
     let none : first_char (octets (37 ∷ a ∷ b ∷ encodes cs')) ≡ None =
-    ap first_char (ap octets (sym same) ∙ octets_encoded (37 ∷ a ∷ b ∷ cs') (lone a b cs' p q n r)) ∙ n in
-    subst (IsFormed s) (sym same) (lone_formed s a b (encodes cs') i p q none rest (encoded_formed s cs' i r rest))
-encoded_formed s cs i (stray cs' e f r) w =
+    ap first_char (ap octets (sym same) ∙ octets_encoded (37 ∷ a ∷ b ∷ cs') (lone_triplet a b cs' p q n r) v) ∙ n in
+    subst (IsFormed s) (sym same) (lone_formed s a b (encodes cs') i p q none rest (encoded_formed s cs' i r (suffix (37 ∷ a ∷ b ∷ []) cs' v) rest))
+encoded_formed s cs i (stray_percent cs' e r) v w =
     let k = both (two_digits (encodes cs')) (whole_triplets (encodes cs')) (sym (ap whole_triplets (encodes_percent cs')) ∙ w) in
-    let no : false ≡ true = sym f ∙ k.0 in
+    let no : false ≡ true = sym (two_encoded cs' (suffix (37 ∷ []) cs' v) ∙ e) ∙ k.0 in
     cc
 
 pub units-formed : (s : Tests) (t : List ℕ) → IsSpec s → IsUtf8 t → whole_triplets t ≡ true
     → char_units (pct s t) ≡ map (unit_in_form s) (char_units t)
 units-formed s t i u w =
     let same = encodes-chars t u in
-    subst (IsFormed s) same (encoded_formed s (chars t) i (read (chars t) (scalars-chars t u)) (ap whole_triplets same ∙ w))
+    subst (IsFormed s) same (encoded_formed s (chars t) i (read_text (chars t)) (scalars-chars t u) (ap whole_triplets same ∙ w))
