@@ -2,7 +2,7 @@
 use Rattle.iri_percent.proofs.Common.{◌==◌, ◌/◌, list_all, is_ascii_hexdigit, len_utf8, chars, ltb, encode, encodes, next, scalar, scalars}
 use Rattle.iri_percent.proofs.Common.{encode_ascii, length-encode, take_at, drop_at, nat_tests, both, Plain, Char, Lone, Stray, is_triplet}
 use Rattle.iri_percent.proofs.Common.{octet, octets, first_char, triplet_unit, first_unit, unit_text, units_from, units, lacks, not-true}
-use Rattle.iri_percent.proofs.Common.{not, plains, ltb-true, ◌<◌}
+use Rattle.iri_percent.proofs.Common.{not, plains, ltb-true, ◌<◌, two_digits}
 use Rattle.std.proofs.Common.{◌≡◌, ℕ, zero, suc, ◌+◌, ◌*◌, ◌-◌, ◌≤◌, Bool, true, false, cond, ◌&&◌, List, [], ◌∷◌, ◌++◌, Some, None, length}
 use Rattle.std.proofs.Common.{take, drop, refl, sym, ◌∙◌, ap, subst, arith, append_assoc, append-nil, eq-eqb, eqb-true}
 use Rattle.std.specs.Int.{is_in_range}
@@ -265,3 +265,12 @@ units_char_at c sp os xs h (more a b sp' os' p q k) e =
 
 pub units_char : (c : ℕ) (sp xs : List ℕ) → scalar c ≡ true → Spells sp (encode c) → units (sp ++ xs) ≡ Char c sp ∷ units xs
 units_char c sp xs h k = units_char_at c sp (encode c) xs h k refl
+
+pub units_stray : (xs : List ℕ) → two_digits xs ≡ false → units (37 ∷ xs) ≡ Stray ∷ units xs
+unfolding units_from
+units_stray [] h = refl
+units_stray (a ∷ []) h = refl
+units_stray (a ∷ b ∷ xs) h =
+    ap (λ v. cond v (triplet_unit a b (37 ∷ a ∷ b ∷ xs) (first_char (octets (37 ∷ a ∷ b ∷ xs)))) Stray
+    ∷ units_from (length (unit_text (cond v (triplet_unit a b (37 ∷ a ∷ b ∷ xs) (first_char (octets (37 ∷ a ∷ b ∷ xs)))) Stray)) - 1)
+    (a ∷ b ∷ xs)) h

@@ -1,9 +1,9 @@
 -- The units of a text, character by character and byte by byte.
-use Rattle.iri_percent.proofs.Common.{◌≡◌, ℕ, zero, suc, ◌-◌, ◌≤◌, true, false, cond, ◌&&◌, List, [], ◌∷◌, ◌++◌, Some, length, drop}
+use Rattle.iri_percent.proofs.Common.{◌≡◌, ℕ, zero, suc, ◌-◌, ◌≤◌, true, false, ◌&&◌, List, [], ◌∷◌, ◌++◌, Some, length, drop}
 use Rattle.iri_percent.proofs.Common.{refl, sym, ◌∙◌, ap, subst, arith, ltb-true, ltb-false, ◌==◌, nat_lt}
 use Rattle.iri_percent.proofs.Common.{flat_map, list_all, is_ascii_hexdigit, chars, IsUtf8, encode, encodes, scalar, scalars, drop_at}
 use Rattle.iri_percent.proofs.Common.{encode_ascii, encodes-chars, scalars-chars, nat_tests, both, TextUnit, Plain, Char, Lone, Stray}
-use Rattle.iri_percent.proofs.Common.{IllFormed, octet, octets, first_char, triplet_unit, first_unit, unit_text, units_from, units}
+use Rattle.iri_percent.proofs.Common.{IllFormed, octet, octets, first_char, first_unit, unit_text, units_from, units}
 use Rattle.iri_percent.proofs.Common.{two_digits, by_character, char_unit_text, char_units_from, char_units, plains, byte_units}
 use Rattle.iri_percent.proofs.units.AtStart.{Spells, none, more, octets_other, octets_triplet, octets_spelled, char_first}
 use Rattle.iri_percent.proofs.units.AtStart.{encode_bytes, encodes_triplet, byte_other, units_plain, units_lone, units_char}
@@ -11,6 +11,7 @@ use Rattle.iri_percent.proofs.units.ByBytes.{percent_same, units-by_chars}
 use Rattle.iri_percent.proofs.units.Readings.{TextReading, nothing, other, spelled_char, lone_triplet, stray_percent, read_text}
 use Rattle.iri_percent.proofs.mapping.Texts.{is_high, encode-high}
 use Rattle.iri_percent.proofs.units.Joined.{units-text}
+pub use Rattle.iri_percent.proofs.units.AtStart.{units_stray}
 use Rattle.iri_percent.specs.CharUnits.{first_char_unit}
 use Rattle.iri_grammar.proofs.units.FirstUnits.{past_hex as high_no_hex}
 
@@ -102,15 +103,6 @@ octets_encoded cs (stray_percent cs' e r) w =
     ap octets (encodes_percent cs') ∙ octets_stray (encodes cs') (two_encoded cs' (suffix (37 ∷ []) cs' w) ∙ e) ∙ sym (octets_stray cs' e)
 
 -- ---- units
-pub units_stray : (xs : List ℕ) → two_digits xs ≡ false → units (37 ∷ xs) ≡ Stray ∷ units xs
-unfolding units_from
-units_stray [] h = refl
-units_stray (a ∷ []) h = refl
-units_stray (a ∷ b ∷ xs) h =
-    ap (λ v. cond v (triplet_unit a b (37 ∷ a ∷ b ∷ xs) (first_char (octets (37 ∷ a ∷ b ∷ xs)))) Stray
-    ∷ units_from (length (unit_text (cond v (triplet_unit a b (37 ∷ a ∷ b ∷ xs) (first_char (octets (37 ∷ a ∷ b ∷ xs)))) Stray)) - 1)
-    (a ∷ b ∷ xs)) h
-
 -- characters that belong to a unit already
 char_units_from_drop : (n : ℕ) (t : List ℕ) → char_units_from n t ≡ char_units (drop n t)
 unfolding char_units_from

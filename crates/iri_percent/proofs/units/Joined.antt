@@ -1,9 +1,11 @@
 -- The units of a text, put together, are the text.
-use Rattle.iri_percent.proofs.Common.{◌≡◌, ℕ, zero, suc, ◌*◌, ◌-◌, ◌<◌, ◌≤◌, true, false, cond, ◌&&◌, List, [], ◌∷◌, ◌++◌, Option, Some}
+use Rattle.iri_percent.proofs.Common.{◌≡◌, ℕ, zero, suc, ◌*◌, ◌<◌, true, false, cond, ◌&&◌, List, [], ◌∷◌, ◌++◌, Option, Some}
 use Rattle.iri_percent.proofs.Common.{None, length, take, drop, refl, sym, ◌∙◌, ap, subst, arith, take-append-drop, eqb-true, ◌==◌}
-use Rattle.iri_percent.proofs.Common.{is_ascii_hexdigit, len_utf8, len_utf8_bounds, drop_at, both, TextUnit, Plain, Stray, is_triplet}
-use Rattle.iri_percent.proofs.Common.{octets, first_char, triplet_unit, byte_unit, first_unit, unit_text, units_from, units, length-append}
+use Rattle.iri_percent.proofs.Common.{is_ascii_hexdigit, len_utf8, len_utf8_bounds, both, TextUnit, Plain, Stray, is_triplet}
+use Rattle.iri_percent.proofs.Common.{octets, first_char, triplet_unit, byte_unit, first_unit, unit_text, units_from, units}
 use Rattle.iri_percent.proofs.Common.{flat_map}
+use Rattle.iri_percent.proofs.units.AtStart.{units_plain, units_char, units_lone, units_stray}
+use Rattle.iri_percent.proofs.units.Readings.{TextReading, nothing, other, spelled_char, lone_triplet, stray_percent, read_text}
 
 -- a unit that is a prefix of the text, and isn't empty
 pub record IsUnitPrefix (u : TextUnit) (t : List ℕ) : Type 0 where
@@ -43,23 +45,13 @@ unit_prefix x (a ∷ b ∷ xs) =
       | false ↦ λ _. prefix_byte x (a ∷ b ∷ xs)
     ] refl
 
-drop_first : (n x : ℕ) (xs : List ℕ) → 0 < n → drop n (x ∷ xs) ≡ drop (n - 1) xs
-drop_first zero x xs h = absurd (omega arith)
-drop_first (suc n) x xs h = let e : suc n - 1 ≡ n = omega arith in ap (λ m. drop m xs) (sym e)
-
-units_from_text : (n : ℕ) (t : List ℕ) → n ≤ length t → flat_map unit_text (units_from n t) ≡ drop n t
+joined : (t : List ℕ) → TextReading t → flat_map unit_text (units t) ≡ t
 unfolding units_from
-units_from_text zero [] h = refl
-units_from_text (suc n) [] h = refl
-units_from_text (suc n) (x ∷ xs) h = units_from_text n xs (omega arith)
-units_from_text zero (x ∷ xs) h =
-    let f = unit_prefix x xs in
-    let w : length (unit_text (first_unit x xs)) ≤ length (x ∷ xs) =
-    omega (arith, ap length f.split, length-append (unit_text (first_unit x xs)) f.rest) in
-    ap (λ l. unit_text (first_unit x xs) ++ l) (units_from_text (length (unit_text (first_unit x xs)) - 1) xs (omega arith)
-    ∙ sym (drop_first (length (unit_text (first_unit x xs))) x xs f.some) ∙ ap (drop (length (unit_text (first_unit x xs)))) f.split
-    ∙ drop_at (unit_text (first_unit x xs)) f.rest (length (unit_text (first_unit x xs))) refl)
-    ∙ sym f.split
+joined _ nothing = refl
+joined _ (other x xs e r) = ap (flat_map unit_text) (units_plain x xs e) ∙ ap (λ l. x ∷ l) (joined xs r)
+joined _ (spelled_char c sp xs h k r) = ap (flat_map unit_text) (units_char c sp xs h k) ∙ ap (λ l. sp ++ l) (joined xs r)
+joined _ (lone_triplet a b xs p q n r) = ap (flat_map unit_text) (units_lone a b xs p q n) ∙ ap (λ l. 37 ∷ a ∷ b ∷ l) (joined xs r)
+joined _ (stray_percent xs e r) = ap (flat_map unit_text) (units_stray xs e) ∙ ap (λ l. 37 ∷ l) (joined xs r)
 
 pub units-text : (t : List ℕ) → flat_map unit_text (units t) ≡ t
-units-text t = units_from_text 0 t (omega arith)
+units-text t = joined t (read_text t)

@@ -7,8 +7,7 @@ use Rattle.std.proofs.Common.{◌≢◌, ◌↔◌, true≢false}
 use Rattle.std.specs.List.{All}
 use Rattle.std.proofs.lemmas.List.Elements.{All-cons}
 use Rattle.iri_percent.proofs.units.ByBytes.{units-by_chars}
-use Rattle.iri_percent.proofs.units.ByCharacters.{units_stray}
-use Rattle.iri_percent.proofs.units.AtStart.{units_plain, units_lone, units_char}
+use Rattle.iri_percent.proofs.units.AtStart.{units_plain, units_lone, units_char, units_stray}
 use Rattle.iri_percent.proofs.units.Readings.{TextReading, nothing, other, spelled_char, lone_triplet, stray_percent, read_text}
 use Rattle.iri_percent.proofs.units.WholeTriplets.{Reading, done, plain, char, lone, whole_plain, whole_triplet, whole_after}
 use Rattle.iri_percent.proofs.units.WholeTriplets.{read}
