@@ -37,6 +37,7 @@ pub fn whole_triplets_have_no_stray_percent()
 /// The units of a text, read character by character, put together are the text. They are those of its characters; and where
 /// each character that isn't percent-encoded gives way to the bytes of its UTF-8, they are the units of its bytes. So its
 /// triplet normal form can be read byte by byte too.
+#[tactic(auto, using(crate::proofs::units::ByCharacters::readings))]
 pub fn units_of_characters<S: Spec>()
     ensures whole { (t : List ℕ) → flat_map char_unit_text (char_units t) ≡ t }
     ensures characters { (t : List ℕ) → IsUtf8 t → char_units t ≡ units (chars t) }
@@ -89,6 +90,7 @@ pub fn triplet_forms_keep_their_class<S: Spec>()
 {}
 
 /// A text is mapped piece by piece, and character by character; what is in ASCII stays, and what comes out is in ASCII.
+#[tactic(auto, using(crate::proofs::mapping::NormalForms::mapped_texts, crate::proofs::mapping::Runs::ascii_stays))]
 pub fn mapping_of_texts()
     ensures pieces { (t u : List ℕ) → mapped (t ++ u) ≡ mapped t ++ mapped u }
     ensures ascii { (t : List ℕ) → IsAscii t → mapped t ≡ t }

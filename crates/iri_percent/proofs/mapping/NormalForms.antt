@@ -235,3 +235,6 @@ mapped-encodes (c ∷ cs) h =
 
 pub mapped-by_chars : (t : List ℕ) → IsUtf8 t → mapped t ≡ flat_map mapped_char (chars t)
 mapped-by_chars t u = ap mapped (sym (encodes-chars t u)) ∙ mapped-encodes (chars t) (scalars-chars t u)
+
+-- what the law of mapped texts says
+pub ruleset mapped_texts = (mapped-append, mapped-in_ascii, mapped-by_chars)

@@ -7,7 +7,7 @@ use Rattle.iri_percent.proofs.Common.{IllFormed, octet, octets, first_char, firs
 use Rattle.iri_percent.proofs.Common.{two_digits, by_character, char_unit_text, char_units_from, char_units, plains, byte_units}
 use Rattle.iri_percent.proofs.units.AtStart.{Spells, none, more, octets_other, octets_triplet, octets_spelled, char_first}
 use Rattle.iri_percent.proofs.units.AtStart.{encode_bytes, encodes_triplet, byte_other, units_plain, units_lone, units_char}
-use Rattle.iri_percent.proofs.units.ByBytes.{percent_same, units-by_chars}
+use Rattle.iri_percent.proofs.units.ByBytes.{percent_same, units-by_chars, normal-by_bytes}
 use Rattle.iri_percent.proofs.units.Readings.{TextReading, nothing, other, spelled_char, lone_triplet, stray_percent, read_text}
 use Rattle.iri_percent.proofs.mapping.Texts.{is_high, encode-high}
 use Rattle.iri_percent.proofs.units.Joined.{units-text}
@@ -264,3 +264,6 @@ pub char_placed : (c : ℕ) (sp t : List ℕ) (before after : List TextUnit) →
 char_placed c sp t before after e =
     let r = char_split (char_units t) before after c sp (sym (units-by_chars t) ∙ e) in
     record { prefix = r.prefix; back = r.back; split = r.split; at = ap length (sym (all_bytes r.prefix) ∙ ap (flat_map unit_text) r.same) }
+
+-- what the law of both readings says
+pub ruleset readings = (char_units-text, units-of_chars, units-by_chars, normal-by_bytes)
