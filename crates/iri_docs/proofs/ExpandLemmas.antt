@@ -16,7 +16,8 @@ use Rattle.iri_template.proofs.FaultLemmas.{neither}
 use Rattle.iri_template.proofs.Grammar.{no_fault_is_template}
 use Rattle.iri_template.specs.declared.error.Error.{Error}
 use Rattle.iri_template.specs.declared.simple_context.SimpleContext.{SimpleContext}
-use Rattle.iri_normal.specs.NormalForm.{canonical}
+use Rattle.iri_percent.specs.declared.canon_mode.CanonMode.{CanonMode}
+use Rattle.iri_normal.specs.NormalForm.{canonical_in}
 use Rattle.iri_owned.specs.OwnedText.{OwnedText}
 use Rattle.iri_docs.specs.Documents.{result_and_then, unless}
 use Rattle.iri_docs.specs.Expanded.{canonical_or_fault, expansion_limit, within_limit}
@@ -52,30 +53,30 @@ same_expansion s x y t u context text =
 ok_same : {x y : List ℕ} → ◌≡◌ {A = Result (List ℕ) DocExpandError} (Ok x) (Ok y) → x ≡ y
 ok_same h = cc
 
-module _ (s : Tests) (spec : IsSpec s) (base : List ℕ) (d : Held) (answer : List ℕ) where
-  is_canonical : (t : List ℕ) → canonical_or_fault s base t ≡ Ok answer → (IsReference s t) × (answer ≡ canonical s base t)
+module _ (s : Tests) (mode : CanonMode) (spec : IsSpec s) (base : List ℕ) (d : Held) (answer : List ℕ) where
+  is_canonical : (t : List ℕ) → canonical_or_fault s mode base t ≡ Ok answer → (IsReference s t) × (answer ≡ canonical_in s mode base t)
   is_canonical t =
-      elim (reference_fault s t) as (λ f. reference_fault s t ≡ f → unless (λ kind. Invalid (record { kind = kind })) f (Ok (canonical s base t)) ≡ Ok answer
-      → (IsReference s t) × (answer ≡ canonical s base t)) [
+      elim (reference_fault s t) as (λ f. reference_fault s t ≡ f → unless (λ kind. Invalid (record { kind = kind })) f (Ok (canonical_in s mode base t)) ≡ Ok answer
+      → (IsReference s t) × (answer ≡ canonical_in s mode base t)) [
         | None ↦ λ valid is. ((reference-law s spec t).0 valid, sym (ok_same is))
         | Some kind ↦ λ invalid is. cc
       ] refl
 
-  is_within : (t : List ℕ) → result_and_then (canonical_or_fault s base) (within_limit t) ≡ Ok answer
-      → (length t ≤ expansion_limit) × (IsReference s t) × (answer ≡ canonical s base t)
+  is_within : (t : List ℕ) → result_and_then (canonical_or_fault s mode base) (within_limit t) ≡ Ok answer
+      → (length t ≤ expansion_limit) × (IsReference s t) × (answer ≡ canonical_in s mode base t)
   is_within t =
       elim (nat_lt expansion_limit (length t)) as (λ b. nat_lt expansion_limit (length t) ≡ b
-      → result_and_then (canonical_or_fault s base) (if b then Err TooLong else Ok t) ≡ Ok answer
-      → (length t ≤ expansion_limit) × (IsReference s t) × (answer ≡ canonical s base t)) [
+      → result_and_then (canonical_or_fault s mode base) (if b then Err TooLong else Ok t) ≡ Ok answer
+      → (length t ≤ expansion_limit) × (IsReference s t) × (answer ≡ canonical_in s mode base t)) [
         | true ↦ λ long is. cc
         | false ↦ λ short is. let z = is_canonical t is in (grind (arith, nat_tests), z.0, z.1)
       ] refl
 
-  pub is_expanded : expanded s base d.value_of d.template ≡ Ok answer → IsExpanded s base d answer
+  pub is_expanded : expanded s mode base d.value_of d.template ≡ Ok answer → IsExpanded s mode base d answer
   is_expanded =
       let text = expansion s d.value_of (pieces_of d.template) in
       elim (expansion_fault d.value_of d.template) as (λ f. expansion_fault d.value_of d.template ≡ f
-      → result_and_then (canonical_or_fault s base) (unless Template f (within_limit text)) ≡ Ok answer → IsExpanded s base d answer) [
+      → result_and_then (canonical_or_fault s mode base) (unless Template f (within_limit text)) ≡ Ok answer → IsExpanded s mode base d answer) [
         | None ↦ λ good is.
             let n = neither (template_fault d.template) (type_fault d.value_of (pieces_of d.template)) good in
             let z = is_within text is in
@@ -90,7 +91,7 @@ module _ (s : Tests) (spec : IsSpec s) (base : List ℕ) (d : Held) (answer : Li
         | Some e ↦ λ bad is. cc
       ] refl
 
-pub all_expanded : (s : Tests) (spec : IsSpec s) (base : List ℕ) (d : Held) (x : Result OwnedText DocExpandError)
-    → AnswersBut Memory (λ t. t.text) x (expanded s base d.value_of d.template) → IfOk x (λ t. IsExpanded s base d t.text)
-all_expanded s spec base d (Ok t) h = is_expanded s spec base d t.text h
-all_expanded s spec base d (Err e) h = tt
+pub all_expanded : (s : Tests) (mode : CanonMode) (spec : IsSpec s) (base : List ℕ) (d : Held) (x : Result OwnedText DocExpandError)
+    → AnswersBut Memory (λ t. t.text) x (expanded s mode base d.value_of d.template) → IfOk x (λ t. IsExpanded s mode base d t.text)
+all_expanded s mode spec base d (Ok t) h = is_expanded s mode spec base d t.text h
+all_expanded s mode spec base d (Err e) h = tt

@@ -1,5 +1,6 @@
 //! The canonical texts of documents.
 ghost use Rattle.std.specs.Prelude.{◌≡◌, IfOk, string_bytes};
+ghost use Rattle.iri_percent.specs.declared.canon_mode.CanonMode.TheVariants.{Default};
 ghost use Rattle.iri_normal.specs.Resolver.{base_text};
 ghost use Rattle.iri_types.specs.Texts.{text as text_of};
 ghost use Rattle.iri_template.specs.Contexts.{value_in};
@@ -10,6 +11,7 @@ ghost use Rattle.iri_docs.specs.Held.{held};
 use crate::document::Document;
 use crate::expand_error::DocExpandError;
 use iri_grammar::spec::Spec;
+use iri_normal::mode::CanonMode;
 use iri_normal::resolver::FixedBaseResolver;
 use iri_owned::owned::RiString;
 use iri_template::expanded::Expanded;
@@ -43,19 +45,20 @@ fn expand<S: Spec>(
     }
 }
 
-// The canonical text of a text.
+// The canonical text of a text by the rules of a mode.
 fn canonicalize<S: Spec>(
     alloc: Global,
+    mode: CanonMode,
     resolver: &FixedBaseResolver<'_, S>,
     text: &str,
 ) -> Result<RiString<S>, DocExpandError>
     ensures { AnswersBut DocExpandError.Memory (λ t. t.text) result
-        (canonical_or_fault S.tests (base_text resolver.now) text.now) }
+        (canonical_or_fault S.tests mode (base_text resolver.now) text.now) }
 {
     match SplitView::<S, Reference>::new(text) {
         Ok(reference) => {
             let mut canonical = String::new(alloc);
-            match resolver.canonical_into(&mut canonical, &reference) {
+            match resolver.canonical_into_in(&mut canonical, mode, &reference) {
                 Ok(()) => Ok(RiString::from_valid(canonical)),
                 Err(_) => Err(DocExpandError::Memory),
             }
@@ -90,13 +93,43 @@ pub fn expand_document<S: Spec>(
     base: RiAbsoluteStr<'_, S>,
     document: &Document,
 ) -> Result<RiString<S>, DocExpandError>
-    ensures expanded { IfOk result (λ t. IsExpanded S.tests (text_of base.entry) (held document.now) t.text) }
+    ensures expanded { IfOk result (λ t. IsExpanded S.tests Default (text_of base.entry) (held document.now) t.text) }
     ensures answer { AnswersBut DocExpandError.Memory (λ t. t.text) result
-        (expanded S.tests (text_of base.entry) (held document.now).value_of (held document.now).template) }
+        (expanded S.tests Default (text_of base.entry) (held document.now).value_of (held document.now).template) }
     ensures fault { TellsFault result
         (expansion_within S.tests (held document.now).value_of (held document.now).template) }
 {
-    expand_document_against(alloc, &FixedBaseResolver::new(base), document)
+    expand_document_in(alloc, CanonMode::Default, base, document)
+}
+
+/// The same by the rules of a mode.
+///
+/// # Errors
+///
+/// Those of [`expand_document`].
+///
+/// ```
+/// use iri::docs::{expand_document_in, read_document};
+/// use iri::normalize::CanonMode;
+/// use iri::types::UriAbsoluteStr;
+/// let page = UriAbsoluteStr::new("http://a/")?;
+/// let document = read_document(rt.alloc(), b"{\"template\":\"//h:80\"}")?;
+/// let text = expand_document_in(rt.alloc(), CanonMode::Scheme, page, &document)?;
+/// assert_eq!(rt; text.as_str(), "http://h/");
+/// ```
+pub fn expand_document_in<S: Spec>(
+    alloc: Global,
+    mode: CanonMode,
+    base: RiAbsoluteStr<'_, S>,
+    document: &Document,
+) -> Result<RiString<S>, DocExpandError>
+    ensures expanded { IfOk result (λ t. IsExpanded S.tests mode (text_of base.entry) (held document.now) t.text) }
+    ensures answer { AnswersBut DocExpandError.Memory (λ t. t.text) result
+        (expanded S.tests mode (text_of base.entry) (held document.now).value_of (held document.now).template) }
+    ensures fault { TellsFault result
+        (expansion_within S.tests (held document.now).value_of (held document.now).template) }
+{
+    expand_document_against_in(alloc, mode, &FixedBaseResolver::new(base), document)
 }
 
 /// The canonical text of the expansion of a document's template with its values, as [`expand_document`] has it, against
@@ -121,14 +154,45 @@ pub fn expand_document_against<S: Spec>(
     resolver: &FixedBaseResolver<'_, S>,
     document: &Document,
 ) -> Result<RiString<S>, DocExpandError>
-    ensures expanded { IfOk result (λ t. IsExpanded S.tests (base_text resolver.now) (held document.now) t.text) }
+    ensures expanded { IfOk result (λ t. IsExpanded S.tests Default (base_text resolver.now) (held document.now) t.text) }
     ensures answer { AnswersBut DocExpandError.Memory (λ t. t.text) result
-        (expanded S.tests (base_text resolver.now) (held document.now).value_of (held document.now).template) }
+        (expanded S.tests Default (base_text resolver.now) (held document.now).value_of (held document.now).template) }
+    ensures fault { TellsFault result
+        (expansion_within S.tests (held document.now).value_of (held document.now).template) }
+{
+    expand_document_against_in(alloc, CanonMode::Default, resolver, document)
+}
+
+/// The same by the rules of a mode.
+///
+/// # Errors
+///
+/// Those of [`expand_document`].
+///
+/// ```
+/// use iri::docs::{expand_document_against_in, read_document};
+/// use iri::normalize::CanonMode;
+/// use iri::resolve::FixedBaseResolver;
+/// use iri::types::UriAbsoluteStr;
+/// let page = FixedBaseResolver::new(UriAbsoluteStr::new("ftp://a:21")?);
+/// let document = read_document(rt.alloc(), b"{\"template\":\"?x\"}")?;
+/// let text = expand_document_against_in(rt.alloc(), CanonMode::Scheme, &page, &document)?;
+/// assert_eq!(rt; text.as_str(), "ftp://a/?x");
+/// ```
+pub fn expand_document_against_in<S: Spec>(
+    alloc: Global,
+    mode: CanonMode,
+    resolver: &FixedBaseResolver<'_, S>,
+    document: &Document,
+) -> Result<RiString<S>, DocExpandError>
+    ensures expanded { IfOk result (λ t. IsExpanded S.tests mode (base_text resolver.now) (held document.now) t.text) }
+    ensures answer { AnswersBut DocExpandError.Memory (λ t. t.text) result
+        (expanded S.tests mode (base_text resolver.now) (held document.now).value_of (held document.now).template) }
     ensures fault { TellsFault result
         (expansion_within S.tests (held document.now).value_of (held document.now).template) }
 {
     match expand::<S>(alloc, document.template(), document.context()) {
-        Ok(text) => canonicalize::<S>(alloc, resolver, text.as_str()),
+        Ok(text) => canonicalize::<S>(alloc, mode, resolver, text.as_str()),
         Err(error) => Err(error),
     }
 }

@@ -2,11 +2,12 @@
 //! expansion (RFC 3986 sections 5.2 and 6.2.2).
 //!
 //! [`read_document`](read::read_document) gives the [`Document`](document::Document) that a line is, and
-//! [`expand_document`](expand::expand_document) its canonical text against a base. Who has the JSON in memory takes
-//! [`document_of`](read::document_of) of a value, [`read_variables`](variables::read_variables) of an object, or
-//! [`read_value`](values::read_value) of the value of one variable. What is wrong is told by
-//! [`DocError`](doc_error::DocError) and [`DocExpandError`](expand_error::DocExpandError), which are displayed in the
-//! words that answer a line. `laws` has what holds of the definitions.
+//! [`expand_document`](expand::expand_document) its canonical text against a base; the calls that end with `_in` take a
+//! mode. Who has the JSON in memory takes [`document_of`](read::document_of) of a value,
+//! [`read_variables`](variables::read_variables) of an object, or [`read_value`](values::read_value) of the value of one
+//! variable. What is wrong is told by [`DocError`](doc_error::DocError) and
+//! [`DocExpandError`](expand_error::DocExpandError), which are displayed in the words that answer a line. `laws` has what
+//! holds of the definitions.
 //!
 //!     {"template":"x{?q,n,l*}","vars":{"q":"é","n":7,"l":["a","b"]}}
 //!

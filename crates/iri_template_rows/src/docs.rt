@@ -2,7 +2,10 @@
 use crate::values::shown_at;
 use iri_docs::doc_error::DocError;
 use iri_docs::document::Document;
-use iri_docs::expand::{EXPANSION_LIMIT, expand_document, expand_document_against};
+use iri_docs::expand::{
+    EXPANSION_LIMIT, expand_document, expand_document_against, expand_document_against_in,
+    expand_document_in,
+};
 use iri_docs::expand_error::DocExpandError;
 use iri_docs::read::read_document;
 use iri_grammar::spec::{Spec, UriSpec};
@@ -113,6 +116,38 @@ fn against(alloc: Global, base: &Field, line: &Field) -> Result<String, RowError
     }
 }
 
+// `expand_in MODE BASE LINE`: the canonical text of a document's expansion by the rules of a mode.
+fn expanded_by(
+    alloc: Global,
+    mode: &Field,
+    base: &Field,
+    line: &Field,
+) -> Result<String, RowError> {
+    let base: RiAbsoluteStr<'_, UriSpec> = base.view()?;
+    let document = match read_document(alloc, line.bytes()) {
+        Ok(document) => document,
+        Err(error) => return refused(alloc, error),
+    };
+    match expand_document_in(alloc, mode.mode()?, base, &document) {
+        Ok(text) => Ok(text.into_string()),
+        Err(error) => unexpanded(alloc, error),
+    }
+}
+
+// `against_in MODE BASE LINE`: the same by a resolver.
+fn against_by(alloc: Global, mode: &Field, base: &Field, line: &Field) -> Result<String, RowError> {
+    let base: RiAbsoluteStr<'_, UriSpec> = base.view()?;
+    let document = match read_document(alloc, line.bytes()) {
+        Ok(document) => document,
+        Err(error) => return refused(alloc, error),
+    };
+    let page = FixedBaseResolver::new(base);
+    match expand_document_against_in(alloc, mode.mode()?, &page, &document) {
+        Ok(text) => Ok(text.into_string()),
+        Err(error) => unexpanded(alloc, error),
+    }
+}
+
 // `long TEMPLATE COUNT`: how many bytes the text has where the variable `v` has so many letters and `l` is the list of 1, or the
 // fault.
 fn long(alloc: Global, template: &Field, count: &Field) -> Result<String, RowError> {
@@ -142,6 +177,8 @@ pub(crate) fn answer(alloc: Global, verb: &str, fields: &[Field]) -> Result<Stri
         ("value", [line, name]) => value(alloc, line, name),
         ("expand", [grammar, base, line]) => expanded(alloc, grammar, base, line),
         ("against", [base, line]) => against(alloc, base, line),
+        ("expand_in", [mode, base, line]) => expanded_by(alloc, mode, base, line),
+        ("against_in", [mode, base, line]) => against_by(alloc, mode, base, line),
         ("long", [template, count]) => long(alloc, template, count),
         ("limit", []) => Ok(displayed(alloc, &EXPANSION_LIMIT)?),
         ("memory", []) => words(alloc, DocError::Memory),

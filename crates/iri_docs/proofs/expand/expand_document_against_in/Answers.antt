@@ -3,7 +3,7 @@ use Rattle.iri_normal.specs.Resolver.{base_text}
 use Rattle.iri_docs.specs.Held.{held}
 use Rattle.iri_docs.proofs.ExpandLemmas.{all_expanded}
 use Rattle.iri_docs.proofs.FaultLemmas.{error_or, tells_ok}
-use Rattle.iri_docs.proofs.expand.expand_document_against.Goals as goal
+use Rattle.iri_docs.proofs.expand.expand_document_against_in.Goals as goal
 
 pub returns-in-Ok : goal.returns-in-Ok
 returns-in-Ok g c =
@@ -13,10 +13,10 @@ returns-in-Ok g c =
     ap (λ v. expansion_within s v (string_bytes d.template)) (sym c.context.ensures)
     ∙ (ap (expansion_within s (value_in c.context.result.now)) (sym c.template.ensures)
     ∙ (c.in-Ok.ensures.answer ∙ ap Ok (sym c.as_str.ensures.value))) in
-    let told : AnswersBut Memory (λ t. t.text) c.canonicalize.result (expanded s (base_text c.args.resolver.now) (held d).value_of (held d).template) =
+    let told : AnswersBut Memory (λ t. t.text) c.canonicalize.result (expanded s c.args.mode (base_text c.args.resolver.now) (held d).value_of (held d).template) =
     rw is c.canonicalize.ensures in
     record {
-      expanded = all_expanded s g.met.S.Spec.lawful (base_text c.args.resolver.now) (held d) c.canonicalize.result told;
+      expanded = all_expanded s c.args.mode g.met.S.Spec.lawful (base_text c.args.resolver.now) (held d) c.canonicalize.result told;
       answer = told;
       fault = tells_ok _ _ _ is;
     }
