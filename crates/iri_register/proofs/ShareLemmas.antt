@@ -1,17 +1,18 @@
 -- Live lines have an entry, and share it exactly where steps join their targets.
-use Rattle.iri_percent.specs.declared.canon_mode.CanonMode.TheVariants.{Default}
+use Rattle.iri_percent.specs.declared.canon_mode.CanonMode.{CanonMode}
+use Rattle.iri_percent.specs.declared.canon_mode.CanonMode.TheVariants.{Default, Scheme}
 use Rattle.std.proofs.Common.{◌≡◌, ◌↔◌, ℕ, zero, suc, ◌+◌, List, [], ◌∷◌, true, false, not, cond, bytes_eq, Option, Some, None, option_map}
 use Rattle.std.proofs.Common.{slice_get, length, refl, sym, ◌∙◌, ap, subst, arith}
 use Rattle.std.proofs.lemmas.Option.{none-some, same_Some}
 use Rattle.std.specs.Prelude.{IsSome, IfOk, Result, Ok, Err}
 use Rattle.iri_grammar.specs.Classes.{Tests, IsSpec}
 use Rattle.iri_grammar.specs.Fault.{bytes_fault}
-use Rattle.iri_grammar.specs.Parts.{Fits, IsReference, IsAbsolute}
+use Rattle.iri_grammar.specs.Parts.{Fits, IsReference, IsAbsolute, recompose}
 use Rattle.iri_grammar.specs.Split.{split_of}
 use Rattle.iri_grammar.specs.WholeFault.{absolute_fault, reference_fault}
 use Rattle.iri_grammar.proofs.faults.FaultLaws.{absolute-law, reference-law}
 use Rattle.iri_grammar.proofs.splits.SplitUnique.{split_is}
-use Rattle.iri_normal.specs.NormalForm.{canonical}
+use Rattle.iri_normal.specs.NormalForm.{canonical, canonical_in, canonical_parts_in}
 use Rattle.iri_normal.specs.Target.{target}
 use Rattle.iri_resolve.proofs.SchemeSteps.{joined_in-exactly, texts_in-exactly}
 use Rattle.iri_normal.proofs.canonical_texts.CanonicalTexts.{fault_none}
@@ -127,24 +128,29 @@ targets_fit : (s : Tests) (base r : List ℕ) → IsSpec s → IsAbsolute s base
     → Fits s (target (split_of base) (split_of r)) × IsSome (target (split_of base) (split_of r)).scheme
 targets_fit s base r k b h = rw (split_is s base b.0 k b.1, split_is s r h.0 k h.1) (target-fits s b.0 h.0 b.1.fits b.2 h.1.fits)
 
-pub joined_texts : (s : Tests) (base q r : List ℕ) → IsSpec s → IsAbsolute s base → IsReference s q → IsReference s r
-    → (canonical s base q ≡ canonical s base r) ↔ TargetsJoin s base q r
-unfolding canonical
-joined_texts s base q r k b hq hr =
+joined_forms : (s : Tests) (mode : CanonMode) (base q r : List ℕ) → IsSpec s → IsAbsolute s base → IsReference s q → IsReference s r
+    → (recompose (canonical_parts_in s mode base q) ≡ recompose (canonical_parts_in s mode base r)) ↔ TargetsJoin s mode base q r
+joined_forms s mode base q r k b hq hr =
     let t = target (split_of base) (split_of q) in
     let u = target (split_of base) (split_of r) in
     let f = targets_fit s base q k b hq in
     let g = targets_fit s base r k b hr in
-    let texts = texts_in-exactly s Default t u k f.0 f.1 g.0 g.1 in
-    let joined = joined_in-exactly s Default t u k f.0 f.1 g.0 g.1 in
+    let texts = texts_in-exactly s mode t u k f.0 f.1 g.0 g.1 in
+    let joined = joined_in-exactly s mode t u k f.0 f.1 g.0 g.1 in
     (λ e. joined.1 (texts.0 e), λ j. texts.1 (joined.0 j))
 
-pub share_joined : (s : Tests) (cs : List Command) (base q r : List ℕ) (m n : ℕ) → IsSpec s → IsAbsolute s base → IsReference s q
-    → IsReference s r → IsLive cs (line_of s base q m)
-    → Share (entries_of_commands cs) (line_of s base q m) (line_of s base r n) ↔ TargetsJoin s base q r
-share_joined s cs base q r m n k b hq hr h =
-    let shared = share_exactly cs (line_of s base q m) (line_of s base r n) h in
-    let texts = joined_texts s base q r k b hq hr in
+pub joined_texts : (s : Tests) (mode : CanonMode) (base q r : List ℕ) → IsSpec s → IsAbsolute s base → IsReference s q → IsReference s r
+    → (canonical_in s mode base q ≡ canonical_in s mode base r) ↔ TargetsJoin s mode base q r
+unfolding canonical
+joined_texts s Default = joined_forms s Default
+joined_texts s Scheme = joined_forms s Scheme
+
+pub share_joined : (s : Tests) (mode : CanonMode) (cs : List Command) (base q r : List ℕ) (m n : ℕ) → IsSpec s → IsAbsolute s base → IsReference s q
+    → IsReference s r → IsLive cs (line_of s mode base q m)
+    → Share (entries_of_commands cs) (line_of s mode base q m) (line_of s mode base r n) ↔ TargetsJoin s mode base q r
+share_joined s mode cs base q r m n k b hq hr h =
+    let shared = share_exactly cs (line_of s mode base q m) (line_of s mode base r n) h in
+    let texts = joined_texts s mode base q r k b hq hr in
     (λ x. texts.0 (shared.0 x), λ j. shared.1 (texts.1 j))
 
 -- ---- one line alone
@@ -169,33 +175,33 @@ placed_new (e ∷ es) t n h =
       | false ↦ λ a m. rw (a, placed_new es t n (less_none (place es t) m)) (ap Some more)
     ] refl h
 
-module _ (s : Tests) (spec : IsSpec s) (base : List ℕ) (absolute : absolute_fault s base ≡ None) (q : List ℕ) where
+module _ (s : Tests) (mode : CanonMode) (spec : IsSpec s) (base : List ℕ) (absolute : absolute_fault s base ≡ None) (q : List ℕ) where
   joined_with : bytes_fault (reference_fault s) q ≡ None → (r : List ℕ) → IsReference s r
-      → (canonical s base q ≡ canonical s base r) ↔ TargetsJoin s base q r
+      → (canonical_in s mode base q ≡ canonical_in s mode base r) ↔ TargetsJoin s mode base q r
   joined_with h r hr =
-      joined_texts s base q r spec ((absolute-law s spec base).0 absolute)
+      joined_texts s mode base q r spec ((absolute-law s spec base).0 absolute)
       ((reference-law s spec q).0 (fault_none (reference_fault s) q h)) hr
 
-  joined_place : bytes_fault (reference_fault s) q ≡ None → (es : List Entry) (k : ℕ) → place es (canonical s base q) ≡ Some k
-      → IsJoinedPlace s base es q k
+  joined_place : bytes_fault (reference_fault s) q ≡ None → (es : List Entry) (k : ℕ) → place es (canonical_in s mode base q) ≡ Some k
+      → IsJoinedPlace s mode base es q k
   unfolding IsJoinedPlace
   joined_place h es k there r hr =
       let texts = joined_with h r hr in
-      (λ i. texts.0 (one_target es (canonical s base q) (canonical s base r) k there i), λ j. ap (place es) (sym (texts.1 j)) ∙ there)
+      (λ i. texts.0 (one_target es (canonical_in s mode base q) (canonical_in s mode base r) k there i), λ j. ap (place es) (sym (texts.1 j)) ∙ there)
 
-  pub finds_joined : (es : List Entry) (x : Result (Option ℕ) RegisterError) → RefusedFor s q x → FindsPlace s base es q x
-      → IfOk x (FindsJoined s base es q)
+  pub finds_joined : (es : List Entry) (x : Result (Option ℕ) RegisterError) → RefusedFor s q x → FindsPlace s mode base es q x
+      → IfOk x (FindsJoined s mode base es q)
   unfolding FindsJoined
   finds_joined es (Ok (Some k)) h is = joined_place h es k (sym is)
   finds_joined es (Ok None) h is = λ r hr j. ap (place es) (sym ((joined_with h r hr).1 j)) ∙ sym is
   finds_joined es (Err e) h is = tt
 
-  pub adds_joined : (es new : List Entry) (n : ℕ) (x : Result Added RegisterError) → RefusedFor s q x → TellsAdded s base es q x
-      → Adds s base es new q n x → IfOk x (AddsJoined s base new q)
+  pub adds_joined : (es new : List Entry) (n : ℕ) (x : Result Added RegisterError) → RefusedFor s q x → TellsAdded s mode base es q x
+      → Adds s mode base es new q n x → IfOk x (AddsJoined s mode base new q)
   unfolding AddsJoined
   adds_joined es new n (Ok (Old k)) h is entries =
-      joined_place h new k (ap (λ l. place l (canonical s base q)) entries ∙ placed_old es (canonical s base q) n k is)
+      joined_place h new k (ap (λ l. place l (canonical_in s mode base q)) entries ∙ placed_old es (canonical_in s mode base q) n k is)
   adds_joined es new n (Ok (New k)) h is entries =
       joined_place h new k
-      (ap (λ l. place l (canonical s base q)) entries ∙ placed_new es (canonical s base q) n is.0 ∙ ap Some (sym is.1))
+      (ap (λ l. place l (canonical_in s mode base q)) entries ∙ placed_new es (canonical_in s mode base q) n is.0 ∙ ap Some (sym is.1))
   adds_joined es new n (Err e) h is entries = tt

@@ -1,10 +1,10 @@
 -- Lines that share an entry.
-use Rattle.iri_percent.specs.declared.canon_mode.CanonMode.TheVariants.{Default}
+use Rattle.iri_percent.specs.declared.canon_mode.CanonMode.{CanonMode}
 use Rattle.std.specs.Prelude.{◌≡◌, ◌↔◌, ℕ, List, Option, Some, None, slice_get}
 use Rattle.iri_grammar.specs.Classes.{Tests}
 use Rattle.iri_grammar.specs.Parts.{IsReference}
 use Rattle.iri_grammar.specs.Split.{split_of}
-use Rattle.iri_normal.specs.NormalForm.{canonical}
+use Rattle.iri_normal.specs.NormalForm.{canonical_in}
 use Rattle.iri_resolve.specs.Steps.{JoinedIn}
 use Rattle.iri_normal.specs.Target.{target}
 use Rattle.iri_register.specs.Entries.{Entry, place}
@@ -20,23 +20,23 @@ Share es l m = (k : ℕ) × (place es l.target ≡ Some k) × (place es m.target
 abbrev pub IsLive : List Command → Line → Type 0
 IsLive cs l = (i : ℕ) × (slice_get (live cs) i ≡ Some l)
 
--- the line that adds a reference against a base
-abbrev pub line_of : Tests → List ℕ → List ℕ → ℕ → Line
-line_of s base reference number = record { target = canonical s base reference; number = number }
+-- the line that adds a reference against a base, by the rules of a mode
+abbrev pub line_of : Tests → CanonMode → List ℕ → List ℕ → ℕ → Line
+line_of s mode base reference number = record { target = canonical_in s mode base reference; number = number }
 
--- steps lead the targets of two references against a base to the same parts
-abbrev pub TargetsJoin : Tests → List ℕ → List ℕ → List ℕ → Type 0
-TargetsJoin s base q r = JoinedIn s Default (target (split_of base) (split_of q)) (target (split_of base) (split_of r))
+-- steps of the mode lead the targets of two references against a base to the same parts
+abbrev pub TargetsJoin : Tests → CanonMode → List ℕ → List ℕ → List ℕ → Type 0
+TargetsJoin s mode base q r = JoinedIn s mode (target (split_of base) (split_of q)) (target (split_of base) (split_of r))
 
-module _ (s : Tests) (base : List ℕ) (es : List Entry) (q : List ℕ) where
+module _ (s : Tests) (mode : CanonMode) (base : List ℕ) (es : List Entry) (q : List ℕ) where
   -- of all references, this place is that of exactly those whose targets steps join with the target of q
   unfoldable pub IsJoinedPlace : ℕ → Type 0
-  IsJoinedPlace k = (r : List ℕ) → IsReference s r → (place es (canonical s base r) ≡ Some k) ↔ TargetsJoin s base q r
+  IsJoinedPlace k = (r : List ℕ) → IsReference s r → (place es (canonical_in s mode base r) ≡ Some k) ↔ TargetsJoin s mode base q r
 
   -- what is told of q: that place, or that no such reference has one
   unfoldable pub FindsJoined : Option ℕ → Type 0
   FindsJoined (Some k) = IsJoinedPlace k
-  FindsJoined None = (r : List ℕ) → IsReference s r → TargetsJoin s base q r → place es (canonical s base r) ≡ None
+  FindsJoined None = (r : List ℕ) → IsReference s r → TargetsJoin s mode base q r → place es (canonical_in s mode base r) ≡ None
 
   -- what is told where a line of q was put: that place
   unfoldable pub AddsJoined : Added → Type 0

@@ -5,6 +5,7 @@ ghost use Rattle.iri_register.specs.Commands.{Command, Line, entries_of_commands
 ghost use Rattle.iri_register.specs.Shared.{IsLive, Share, TargetsJoin, line_of};
 
 use iri_grammar::spec::Spec;
+use iri_normal::mode::CanonMode;
 
 /// The entries of commands are what obeying one after the other leaves, from none on.
 pub fn entries_are_those_of_the_commands()
@@ -14,14 +15,14 @@ pub fn entries_are_those_of_the_commands()
     ensures all { (cs : List Command) → fold obeyed [] cs ≡ entries_of_commands cs }
 {}
 
-/// Two live lines share an entry exactly where their canonical targets are equal, and that is exactly where steps join
-/// the targets of their references.
+/// Two live lines share an entry exactly where their canonical targets are equal, and that is, in each mode, exactly where
+/// its steps join the targets of their references.
 pub fn live_lines_share_an_entry<S: Spec>()
     ensures targets { (cs : List Command) → (l m : Line) → IsLive cs l → IsLive cs m
         → Share (entries_of_commands cs) l m ↔ (l.target ≡ m.target) }
-    ensures steps { (cs : List Command) → (base q r : List ℕ) → (m n : ℕ) → IsAbsolute S.tests base
-        → IsReference S.tests q → IsReference S.tests r → IsLive cs (line_of S.tests base q m)
-        → IsLive cs (line_of S.tests base r n)
-        → Share (entries_of_commands cs) (line_of S.tests base q m) (line_of S.tests base r n)
-        ↔ TargetsJoin S.tests base q r }
+    ensures steps { (mode : CanonMode) → (cs : List Command) → (base q r : List ℕ) → (m n : ℕ) → IsAbsolute S.tests base
+        → IsReference S.tests q → IsReference S.tests r → IsLive cs (line_of S.tests mode base q m)
+        → IsLive cs (line_of S.tests mode base r n)
+        → Share (entries_of_commands cs) (line_of S.tests mode base q m) (line_of S.tests mode base r n)
+        ↔ TargetsJoin S.tests mode base q r }
 {}

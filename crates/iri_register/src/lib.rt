@@ -1,7 +1,7 @@
 //! A register of links: each canonical target once, in first-seen order, with the numbers of the lines it stood on.
 //!
-//! A [`Register`](register::Register) has a base, and is seen as the base's text and the list of its entries. An entry
-//! is a canonical target and the numbers of its lines. [`add`](register::Register::add) puts a line,
+//! A [`Register`](register::Register) has a base and a mode, and is seen as the base's text, the mode and the list of its
+//! entries. An entry is a canonical target in the mode and the numbers of its lines. [`add`](register::Register::add) puts a line,
 //! [`remove`](register::Register::remove) takes an entry out, and [`find`](register::Register::find) tells an entry's
 //! place; each takes a reference, whose canonical text against the base is compared. [`len`](register::Register::len),
 //! [`target_at`](register::Register::target_at) and [`lines_at`](register::Register::lines_at) read the entries by
@@ -11,7 +11,7 @@
 //! valid, with its first fault, or where allocation failed, and it was valid then; the register is unchanged in both
 //! cases. No two entries have one target. After commands in turn the entries are the distinct targets of the lines that
 //! no later command took out, in the order of the first such line of each, each with the numbers of these lines. Two
-//! such lines share an entry exactly where steps join the targets of their references.
+//! such lines share an entry exactly where steps of the mode join the targets of their references.
 //!
 //! Not proved: that memory is allocated, so that an `add`, a `remove` or a `find` that answered `Memory` to each valid
 //! reference would keep its contract (`remove` and `find` of a register without entries take none); tests show that

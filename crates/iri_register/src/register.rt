@@ -1,9 +1,9 @@
-//! A base, and entries by canonical target (RFC 3986 sections 5.2 and 6.2.2).
+//! A base, and entries by canonical target (RFC 3986 sections 5.2, 6.2.2 and 6.2.3).
 ghost use Rattle.std.specs.Prelude.{◌≡◌, ◌≢◌, [], length, map, option_map, string_bytes};
 ghost use Rattle.std.specs.Prelude.{IfOk, None, OnErr, OnOk};
 ghost use Rattle.std.specs.List.{IsDistinct};
 ghost use Rattle.std.specs.Str.{bytes_eq};
-ghost use Rattle.iri_normal.specs.NormalForm.{canonical};
+ghost use Rattle.iri_normal.specs.NormalForm.{canonical_in};
 ghost use Rattle.iri_normal.specs.Resolver.{base_text};
 ghost use Rattle.iri_register.specs.Answers.{Adds, FindsPlace, Removes, TellsAdded, TellsLines};
 ghost use Rattle.iri_register.specs.Entries.{entry_at};
@@ -14,6 +14,7 @@ use crate::added::Added;
 use crate::entries::{self, Entries};
 use crate::error::RegisterError;
 use iri_grammar::spec::Spec;
+use iri_normal::mode::CanonMode;
 use iri_normal::resolver::FixedBaseResolver;
 use iri_owned::owned::RiAbsoluteString;
 use iri_types::split::SplitView;
@@ -22,8 +23,8 @@ use std::marker::Model;
 
 /// A base, and each canonical target once, in first-seen order, with the numbers of its lines.
 ///
-/// References are bytes. Each is resolved against the base and put into normal form (RFC 3986 sections 5.2 and 6.2.2),
-/// and this canonical text is compared. Places count from 1.
+/// References are bytes. Each is resolved against the base and put into normal form (RFC 3986 sections 5.2 and 6.2.2;
+/// by the register's mode also 6.2.3), and this canonical text is compared. Places count from 1.
 ///
 /// ```
 /// use iri::register::{Added, Register};
@@ -48,13 +49,14 @@ impl<S: Spec> Model for Register<S> {
 
     ghost Value = { Kept };
 
-    ghost view = { λ r. record { base = r.base.text; entries = r.links.entries } };
+    ghost view = { λ r. record { base = r.base.text; mode = r.links.mode; entries = r.links.entries } };
 }
 
 // The entries of targets.
 #[derive(Drop)]
 struct Links {
     alloc: Global,
+    mode: CanonMode,
     // The target of the last line, for the look-up.
     target: String,
     entries: Entries,
@@ -64,11 +66,13 @@ struct Links {
 fn write_target<S: Spec>(
     buffer: &mut String,
     room: usize,
+    mode: CanonMode,
     resolver: &FixedBaseResolver<'_, S>,
     reference: &[u8],
 ) -> Result<(), RegisterError>
     ensures causes { RefusedFor S.tests reference.now result }
-    ensures text { OnOk result (string_bytes buffer.new ≡ canonical S.tests (base_text resolver.now) reference.now) }
+    ensures text { OnOk result (string_bytes buffer.new
+        ≡ canonical_in S.tests mode (base_text resolver.now) reference.now) }
 {
     match SplitView::try_from_bytes(reference) {
         Ok(reference) => {
@@ -76,7 +80,7 @@ fn write_target<S: Spec>(
             if buffer.reserve(room).is_err() {
                 return Err(RegisterError::Memory);
             }
-            match resolver.canonical_into(buffer, &reference) {
+            match resolver.canonical_into_in(buffer, mode, &reference) {
                 Ok(()) => Ok(()),
                 Err(_) => Err(RegisterError::Memory),
             }
@@ -104,9 +108,9 @@ impl Links {
         resolver: &FixedBaseResolver<'_, S>,
         reference: &[u8],
     ) -> Result<Option<usize>, RegisterError>
-        ensures joined { IfOk result (FindsJoined S.tests (base_text resolver.now) self.now.entries reference.now) }
+        ensures joined { IfOk result (FindsJoined S.tests self.now.mode (base_text resolver.now) self.now.entries reference.now) }
         ensures causes { RefusedFor S.tests reference.now result }
-        ensures answer { FindsPlace S.tests (base_text resolver.now) self.now.entries reference.now result }
+        ensures answer { FindsPlace S.tests self.now.mode (base_text resolver.now) self.now.entries reference.now result }
         ensures memory { self.now.entries ≡ [] → result ≢ Err RegisterError.Memory }
     {
         if entries::len(&self.entries) == 0 {
@@ -114,7 +118,13 @@ impl Links {
         }
         // The last line's target has had room for each that is there, so one found allocates once.
         let mut target = String::new(self.alloc);
-        match write_target(&mut target, self.target.capacity(), resolver, reference) {
+        match write_target(
+            &mut target,
+            self.target.capacity(),
+            self.mode,
+            resolver,
+            reference,
+        ) {
             Ok(()) => Ok(entries::find(&self.entries, target.as_str())),
             Err(error) => Err(error),
         }
@@ -127,13 +137,14 @@ impl Links {
         reference: &[u8],
         line: u64,
     ) -> Result<Added, RegisterError>
-        ensures joined { IfOk result (AddsJoined S.tests (base_text resolver.now) self.new.entries reference.now) }
+        ensures joined { IfOk result (AddsJoined S.tests self.old.mode (base_text resolver.now) self.new.entries reference.now) }
         ensures causes { RefusedFor S.tests reference.now result }
-        ensures answer { TellsAdded S.tests (base_text resolver.now) self.old.entries reference.now result }
-        ensures entries { Adds S.tests (base_text resolver.now) self.old.entries self.new.entries reference.now line result }
+        ensures answer { TellsAdded S.tests self.old.mode (base_text resolver.now) self.old.entries reference.now result }
+        ensures entries { Adds S.tests self.old.mode (base_text resolver.now) self.old.entries self.new.entries reference.now line result }
+        ensures mode { self.new.mode ≡ self.old.mode }
         ensures unchanged { OnErr result (self.new.entries ≡ self.old.entries) }
     {
-        match write_target(&mut self.target, 0, resolver, reference) {
+        match write_target(&mut self.target, 0, self.mode, resolver, reference) {
             Ok(()) => match entries::add(
                 self.alloc,
                 &mut self.entries,
@@ -154,15 +165,16 @@ impl Links {
         reference: &[u8],
     ) -> Result<Option<usize>, RegisterError>
         ensures causes { RefusedFor S.tests reference.now result }
-        ensures answer { TellsLines S.tests (base_text resolver.now) self.old.entries reference.now result }
-        ensures entries { Removes S.tests (base_text resolver.now) self.old.entries self.new.entries reference.now result }
+        ensures answer { TellsLines S.tests self.old.mode (base_text resolver.now) self.old.entries reference.now result }
+        ensures entries { Removes S.tests self.old.mode (base_text resolver.now) self.old.entries self.new.entries reference.now result }
+        ensures mode { self.new.mode ≡ self.old.mode }
         ensures unchanged { OnErr result (self.new.entries ≡ self.old.entries) }
         ensures memory { self.old.entries ≡ [] → result ≢ Err RegisterError.Memory }
     {
         if entries::len(&self.entries) == 0 {
             return none_there::<S>(reference);
         }
-        match write_target(&mut self.target, 0, resolver, reference) {
+        match write_target(&mut self.target, 0, self.mode, resolver, reference) {
             Ok(()) => Ok(entries::remove(self.alloc, &mut self.entries, self.target.as_str())),
             Err(error) => Err(error),
         }
@@ -174,21 +186,64 @@ impl<S: Spec> Register<S> {
     /// look-ups slow. It takes no memory.
     pub fn new(alloc: Global, base: RiAbsoluteString<S>) -> Self
         ensures base { result.base ≡ base.text }
+        ensures mode { result.mode ≡ CanonMode.Default }
         ensures entries { result.entries ≡ [] }
     {
-        Register::with_key(alloc, base, 0)
+        Register::new_in(alloc, CanonMode::Default, base)
+    }
+
+    /// The same by the rules of a mode: by scheme rules (RFC 3986 section 6.2.3) a link without its scheme's default
+    /// port, or with `/` for an empty path, is the same link.
+    ///
+    /// ```
+    /// use iri::normalize::CanonMode;
+    /// use iri::register::{Added, Register};
+    /// use iri::types::UriAbsoluteString;
+    /// let base = UriAbsoluteString::try_from_str(rt.alloc(), "http://h")?;
+    /// let mut links = Register::new_in(rt.alloc(), CanonMode::Scheme, base);
+    /// assert!(rt; matches!(links.add(b"", 2)?, Added::New(1)));
+    /// assert!(rt; matches!(links.add(b"http://h:80/", 3)?, Added::Old(1)));
+    /// assert_eq!(rt; links.target_at(1), Some("http://h/"));
+    /// ```
+    pub fn new_in(alloc: Global, mode: CanonMode, base: RiAbsoluteString<S>) -> Self
+        ensures base { result.base ≡ base.text }
+        ensures mode { result.mode ≡ mode }
+        ensures entries { result.entries ≡ [] }
+    {
+        Register::with_key_in(alloc, mode, base, 0)
     }
 
     /// The register of a base, with no entries. Targets are hashed with this key: who picks the references and doesn't
     /// know it can't make look-ups slow. Answers are the same with every key.
     pub fn with_key(alloc: Global, base: RiAbsoluteString<S>, key: u128) -> Self
         ensures base { result.base ≡ base.text }
+        ensures mode { result.mode ≡ CanonMode.Default }
+        ensures entries { result.entries ≡ [] }
+    {
+        Register::with_key_in(alloc, CanonMode::Default, base, key)
+    }
+
+    /// The same by the rules of a mode.
+    ///
+    /// ```
+    /// use iri::normalize::CanonMode;
+    /// use iri::register::Register;
+    /// use iri::types::UriAbsoluteString;
+    /// let base = UriAbsoluteString::try_from_str(rt.alloc(), "ftp://h/")?;
+    /// let mut links = Register::with_key_in(rt.alloc(), CanonMode::Scheme, base, 7);
+    /// assert!(rt; links.add(b"//h:21", 2).is_ok());
+    /// assert_eq!(rt; links.find(b"/")?, Some(1));
+    /// ```
+    pub fn with_key_in(alloc: Global, mode: CanonMode, base: RiAbsoluteString<S>, key: u128) -> Self
+        ensures base { result.base ≡ base.text }
+        ensures mode { result.mode ≡ mode }
         ensures entries { result.entries ≡ [] }
     {
         Register {
             base,
             links: Links {
                 alloc,
+                mode,
                 target: String::new(alloc),
                 entries: entries::none(alloc, key),
             },
@@ -204,7 +259,7 @@ impl<S: Spec> Register<S> {
     }
 
     /// The place, from 1, of the entry that has the reference's canonical target; `None` exactly where no entry has it.
-    /// It is the place of exactly the references whose targets steps join with this one's.
+    /// It is the place of exactly the references whose targets the mode's steps join with this one's.
     ///
     /// # Errors
     ///
@@ -221,9 +276,9 @@ impl<S: Spec> Register<S> {
     /// assert!(rt; matches!(links.find(b"c"), Ok(None)));
     /// ```
     pub fn find(&self, reference: &[u8]) -> Result<Option<usize>, RegisterError>
-        ensures joined { IfOk result (FindsJoined S.tests self.now.base self.now.entries reference.now) }
+        ensures joined { IfOk result (FindsJoined S.tests self.now.mode self.now.base self.now.entries reference.now) }
         ensures causes { RefusedFor S.tests reference.now result }
-        ensures answer { FindsPlace S.tests self.now.base self.now.entries reference.now result }
+        ensures answer { FindsPlace S.tests self.now.mode self.now.base self.now.entries reference.now result }
         ensures memory { self.now.entries ≡ [] → result ≢ Err RegisterError.Memory }
     {
         let page = FixedBaseResolver::new(self.base.as_slice());
@@ -241,9 +296,9 @@ impl<S: Spec> Register<S> {
         resolver: &FixedBaseResolver<'_, S>,
         reference: &[u8],
     ) -> Result<Option<usize>, RegisterError>
-        ensures joined { IfOk result (FindsJoined S.tests (base_text resolver.now) self.now.entries reference.now) }
+        ensures joined { IfOk result (FindsJoined S.tests self.now.mode (base_text resolver.now) self.now.entries reference.now) }
         ensures causes { RefusedFor S.tests reference.now result }
-        ensures answer { FindsPlace S.tests (base_text resolver.now) self.now.entries reference.now result }
+        ensures answer { FindsPlace S.tests self.now.mode (base_text resolver.now) self.now.entries reference.now result }
         ensures memory { self.now.entries ≡ [] → result ≢ Err RegisterError.Memory }
     {
         self.links.find(resolver, reference)
@@ -251,7 +306,7 @@ impl<S: Spec> Register<S> {
 
     /// Puts a line: at the end of the lines of the entry that has the reference's canonical target, or into a new entry
     /// at the end. All other entries stay. The place that is told is then that of exactly the references whose targets
-    /// steps join with this one's.
+    /// the mode's steps join with this one's.
     ///
     /// # Errors
     ///
@@ -260,11 +315,12 @@ impl<S: Spec> Register<S> {
     /// - `Bad` exactly where the reference isn't UTF-8 or no reference: its first fault.
     /// - `Memory` where allocation fails; the reference is valid then.
     pub fn add(&mut self, reference: &[u8], line: u64) -> Result<Added, RegisterError>
-        ensures joined { IfOk result (AddsJoined S.tests self.old.base self.new.entries reference.now) }
+        ensures joined { IfOk result (AddsJoined S.tests self.old.mode self.old.base self.new.entries reference.now) }
         ensures causes { RefusedFor S.tests reference.now result }
-        ensures answer { TellsAdded S.tests self.old.base self.old.entries reference.now result }
-        ensures entries { Adds S.tests self.old.base self.old.entries self.new.entries reference.now line result }
+        ensures answer { TellsAdded S.tests self.old.mode self.old.base self.old.entries reference.now result }
+        ensures entries { Adds S.tests self.old.mode self.old.base self.old.entries self.new.entries reference.now line result }
         ensures base { self.new.base ≡ self.old.base }
+        ensures mode { self.new.mode ≡ self.old.mode }
         ensures unchanged { OnErr result (self.new ≡ self.old) }
     {
         let page = FixedBaseResolver::new(self.base.as_slice());
@@ -297,11 +353,12 @@ impl<S: Spec> Register<S> {
         reference: &[u8],
         line: u64,
     ) -> Result<Added, RegisterError>
-        ensures joined { IfOk result (AddsJoined S.tests (base_text resolver.now) self.new.entries reference.now) }
+        ensures joined { IfOk result (AddsJoined S.tests self.old.mode (base_text resolver.now) self.new.entries reference.now) }
         ensures causes { RefusedFor S.tests reference.now result }
-        ensures answer { TellsAdded S.tests (base_text resolver.now) self.old.entries reference.now result }
-        ensures entries { Adds S.tests (base_text resolver.now) self.old.entries self.new.entries reference.now line result }
+        ensures answer { TellsAdded S.tests self.old.mode (base_text resolver.now) self.old.entries reference.now result }
+        ensures entries { Adds S.tests self.old.mode (base_text resolver.now) self.old.entries self.new.entries reference.now line result }
         ensures base { self.new.base ≡ self.old.base }
+        ensures mode { self.new.mode ≡ self.old.mode }
         ensures unchanged { OnErr result (self.new ≡ self.old) }
     {
         self.links.add(resolver, reference, line)
@@ -330,9 +387,10 @@ impl<S: Spec> Register<S> {
     /// ```
     pub fn remove(&mut self, reference: &[u8]) -> Result<Option<usize>, RegisterError>
         ensures causes { RefusedFor S.tests reference.now result }
-        ensures answer { TellsLines S.tests self.old.base self.old.entries reference.now result }
-        ensures entries { Removes S.tests self.old.base self.old.entries self.new.entries reference.now result }
+        ensures answer { TellsLines S.tests self.old.mode self.old.base self.old.entries reference.now result }
+        ensures entries { Removes S.tests self.old.mode self.old.base self.old.entries self.new.entries reference.now result }
         ensures base { self.new.base ≡ self.old.base }
+        ensures mode { self.new.mode ≡ self.old.mode }
         ensures unchanged { OnErr result (self.new ≡ self.old) }
         ensures memory { self.old.entries ≡ [] → result ≢ Err RegisterError.Memory }
     {
@@ -364,9 +422,10 @@ impl<S: Spec> Register<S> {
         reference: &[u8],
     ) -> Result<Option<usize>, RegisterError>
         ensures causes { RefusedFor S.tests reference.now result }
-        ensures answer { TellsLines S.tests (base_text resolver.now) self.old.entries reference.now result }
-        ensures entries { Removes S.tests (base_text resolver.now) self.old.entries self.new.entries reference.now result }
+        ensures answer { TellsLines S.tests self.old.mode (base_text resolver.now) self.old.entries reference.now result }
+        ensures entries { Removes S.tests self.old.mode (base_text resolver.now) self.old.entries self.new.entries reference.now result }
         ensures base { self.new.base ≡ self.old.base }
+        ensures mode { self.new.mode ≡ self.old.mode }
         ensures unchanged { OnErr result (self.new ≡ self.old) }
         ensures memory { self.old.entries ≡ [] → result ≢ Err RegisterError.Memory }
     {

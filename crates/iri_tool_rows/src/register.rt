@@ -13,6 +13,9 @@ use iri_rows::field::Field;
 use iri_rows::in_grammar;
 use std::alloc::{AllocError, Global};
 
+// The key of registers that have one.
+const KEY: u128 = 0x0123_4567_89ab_cdef_0123_4567_89ab_cdef;
+
 // The register that rows speak of.
 #[derive(Drop)]
 pub(crate) enum Links {
@@ -41,10 +44,25 @@ fn begun(alloc: Global, grammar: &Field, base: &Field) -> Result<Links, RowError
     }
 }
 
+// `register GRAMMAR BASE MODE`: begins a register by the rules of a mode.
+fn begun_in(alloc: Global, grammar: &Field, base: &Field, mode: &Field) -> Result<Links, RowError> {
+    let mode = mode.mode()?;
+    match grammar.text()? {
+        "uri" => Ok(Links::Uris(Register::new_in(alloc, mode, base_of(alloc, base)?))),
+        "iri" => Ok(Links::Iris(Register::new_in(alloc, mode, base_of(alloc, base)?))),
+        _ => Err(RowError::NoRow),
+    }
+}
+
 // `keyed BASE`: begins a register with a key.
 fn keyed(alloc: Global, base: &Field) -> Result<Links, RowError> {
-    let key = 0x0123_4567_89ab_cdef_0123_4567_89ab_cdef;
-    Ok(Links::Uris(Register::with_key(alloc, base_of(alloc, base)?, key)))
+    Ok(Links::Uris(Register::with_key(alloc, base_of(alloc, base)?, KEY)))
+}
+
+// `keyed BASE MODE`: the same by the rules of a mode.
+fn keyed_in(alloc: Global, base: &Field, mode: &Field) -> Result<Links, RowError> {
+    let base = base_of(alloc, base)?;
+    Ok(Links::Uris(Register::with_key_in(alloc, mode.mode()?, base, KEY)))
 }
 
 fn refused(alloc: Global, error: RegisterError) -> Result<String, RowError> {
@@ -244,7 +262,11 @@ pub(crate) fn answer(
     match (verb, fields) {
         ("register", [grammar, base]) => links.keep(alloc, begun(alloc, grammar, base)?),
         ("joined", [grammar, base, one, other]) => joined(alloc, grammar, base, one, other),
+        ("register", [grammar, base, mode]) => {
+            links.keep(alloc, begun_in(alloc, grammar, base, mode)?)
+        }
         ("keyed", [base]) => links.keep(alloc, keyed(alloc, base)?),
+        ("keyed", [base, mode]) => links.keep(alloc, keyed_in(alloc, base, mode)?),
         ("memory", []) => Ok(displayed(alloc, &RegisterError::Memory)?),
         _ => match links {
             Links::None => Err(RowError::NoRow),
