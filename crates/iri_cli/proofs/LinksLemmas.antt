@@ -17,6 +17,7 @@ use Rattle.iri_link.specs.Written.{written}
 use Rattle.iri_link.proofs.FieldLemmas.{links_of_faultless}
 use Rattle.iri_link.proofs.GrammarLemmas.{field-given, links_without_fault}
 use Rattle.iri_link.proofs.WrittenLemmas.{read_again}
+use Rattle.iri_percent.specs.declared.canon_mode.CanonMode.TheVariants.{Default}
 use Rattle.iri_cli.specs.links.Answers.{field_refusal, links_answer, links_line, unless_told}
 use Rattle.iri_cli.proofs.BytesLemmas.{base_absolute}
 
@@ -78,5 +79,5 @@ pub answered_again : (s : Tests) → IsSpec s → (base other line : List ℕ) (
 answered_again s l base other line links taken has =
     let kept = map (resolved s base) links in
     let read : IsRead s base line kept = record { links = links; has = has; resolves = refl } in
-    sym (read_answered s other (written kept) kept (read_again s l base other (base_absolute s l base taken) line kept read))
+    sym (read_answered s other (written kept) kept (read_again s l Default base other (base_absolute s l base taken) line kept read))
     ∙ read_answered s base line kept read

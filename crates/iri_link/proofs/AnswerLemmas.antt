@@ -1,7 +1,7 @@
 -- What is answered of bytes, from what is answered of a text.
 use Rattle.iri_link.proofs.Common.{◌≡◌, ℕ, List, cond, None, Some, Result, Ok, Err, sym, ap, ◌∙◌, subst, MatchResult, is_utf8, IsUtf8}
 use Rattle.iri_link.proofs.Common.{false_from_ne_true, is_utf8-from_IsUtf8, IsUtf8-from_is_utf8, Tests, field_fault, place_in, fault_from}
-use Rattle.iri_link.proofs.Common.{LinkValue, HasLinks, before_link, IsRead}
+use Rattle.iri_link.proofs.Common.{LinkValue, HasLinks, before_link, CanonMode, IsReadIn}
 use Rattle.std.specs.Str.Lossy.{utf8_valid_len}
 use denote.Bor.{Bor}
 use Rattle.iri_link.specs.Fault.{Told}
@@ -24,20 +24,20 @@ text_fault : (s : Tests) (y : List ℕ) → IsUtf8 y → field_fault s y ≡ pla
 text_fault s y u =
     ap (λ b. cond b (place_in y (fault_from s before_link y)) (Some (record { kind = NotUtf8; place = utf8_valid_len y }))) (is_utf8-from_IsUtf8 y u)
 
-answered : (s : Tests) (base y : List ℕ) → IsUtf8 y → (r : Result (List LinkValue) LinkError)
-    → MatchResult r (λ l. ReadsField s base y l) (IsTold s y) → MatchResult r (IsRead s base y) (RefusedBy s y)
-answered s base y u (Ok l) h = record {
+answered : (s : Tests) (mode : CanonMode) (base y : List ℕ) → IsUtf8 y → (r : Result (List LinkValue) LinkError)
+    → MatchResult r (λ l. ReadsField s mode base y l) (IsTold s y) → MatchResult r (IsReadIn s mode base y) (RefusedBy s y)
+answered s mode base y u (Ok l) h = record {
   links = links_in y;
   has = links_of_faultless s y (text_fault s y u ∙ ap (place_in y) h.faultless);
   resolves = h.kept;
 }
-answered s base y u (Err (Fault k p)) h = let e = text_fault s y u ∙ h in (e, faulty s y (record { kind = k; place = p }) e)
-answered s base y u (Err Memory) h = (u, h)
+answered s mode base y u (Err (Fault k p)) h = let e = text_fault s y u ∙ h in (e, faulty s y (record { kind = k; place = p }) e)
+answered s mode base y u (Err Memory) h = (u, h)
 
-pub of_text : (s : Tests) (base x y : List ℕ) → x ≡ y → IsUtf8 y → (r : Result (List LinkValue) LinkError)
-    → MatchResult r (λ l. ReadsField s base x l) (IsTold s x) → MatchResult r (IsRead s base y) (RefusedBy s y)
-of_text s base x y e u r h =
-    answered s base y u r (subst (λ z. MatchResult r (λ l. ReadsField s base z l) (IsTold s z)) e h)
+pub of_text : (s : Tests) (mode : CanonMode) (base x y : List ℕ) → x ≡ y → IsUtf8 y → (r : Result (List LinkValue) LinkError)
+    → MatchResult r (λ l. ReadsField s mode base x l) (IsTold s x) → MatchResult r (IsReadIn s mode base y) (RefusedBy s y)
+of_text s mode base x y e u r h =
+    answered s mode base y u r (subst (λ z. MatchResult r (λ l. ReadsField s mode base z l) (IsTold s z)) e h)
 
 -- bytes that are no text
 pub not_text : (s : Tests) (y : List ℕ) (n : ℕ) → (IsUtf8 y → ⊥) → n ≡ utf8_valid_len y → field_fault s y ≡ Some (record { kind = NotUtf8; place = n })

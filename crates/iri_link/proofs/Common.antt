@@ -22,6 +22,7 @@ pub use Rattle.iri_grammar.specs.OptionalSlices.{now_of}
 pub use Rattle.iri_grammar.specs.Runs.{run_of}
 pub use Rattle.iri_grammar.specs.WholeFault.{reference_fault}
 pub use Rattle.iri_grammar.specs.inside.Runs.{first_passes}
+pub use Rattle.iri_percent.specs.declared.canon_mode.CanonMode.{CanonMode}
 pub use Rattle.iri_normal.specs.Resolver.{base_text}
 pub use Rattle.iri_link.specs.Fault.{field_fault, place_in, target_fault, earlier}
 unfoldable pub use Rattle.iri_link.specs.Fault.{fault_from, closes_from}
@@ -31,7 +32,7 @@ pub use Rattle.iri_link.specs.Field.{more}
 pub use Rattle.iri_link.specs.Links.{HasLinks, HasReference}
 pub use Rattle.iri_link.specs.Phases.{before_link, in_target, after_param, after_semicolon, in_name, after_name, after_equals, in_token}
 pub use Rattle.iri_link.specs.Phases.{in_quoted, next, Phase}
-pub use Rattle.iri_link.specs.Resolved.{IsRead, resolved}
+pub use Rattle.iri_link.specs.Resolved.{IsReadIn, resolved_in}
 pub use Rattle.iri_link.specs.Stored.{param_of, link_of, links_of}
 pub use Rattle.iri_link.specs.Token.{is_pair_char, is_plain_char, is_blanks, is_token_char, is_token, IsQuoted, done, plain, pair}
 pub use Rattle.iri_link.specs.Written.{escaped, written_param, written_link, written}

@@ -1,9 +1,9 @@
 -- Link-values, kept piece by piece.
 use Rattle.iri_link.proofs.Common.{◌≡◌, ℕ, zero, suc, arith, Bool, true, false, List, [], ◌∷◌, ◌++◌, None, length, map, refl, sym, ap, ◌∙◌}
 use Rattle.iri_link.proofs.Common.{append_assoc, append-nil, Tests, LinkParam, LinkValue, before_link, fault_from, earlier}
-use Rattle.iri_link.proofs.Common.{resolved, link_of}
+use Rattle.iri_link.proofs.Common.{CanonMode, resolved_in, link_of}
 use Rattle.std.specs.Prelude.{slice_set, slice_index_or}
-use Rattle.iri_normal.specs.NormalForm.{canonical}
+use Rattle.iri_normal.specs.NormalForm.{canonical_in}
 use Rattle.iri_link.specs.Readings.{links_in}
 use Rattle.iri_link.specs.Refusals.{KeepsTarget}
 use Rattle.iri_link.specs.declared.halt.Halt.{Halt}
@@ -44,33 +44,33 @@ grown_stored (k ∷ m ∷ ls) zero l new q n at is = absurd (omega (arith, n))
 grown_stored (k ∷ m ∷ ls) (suc i) l new q n at is = ap (λ r. link_of k ∷ r) (grown_stored (m ∷ ls) i l new q (omega (arith, n)) at is)
 
 -- ---- what is kept, and what is left
-module _ (s : Tests) (base : List ℕ) where
+module _ (s : Tests) (mode : CanonMode) (base : List ℕ) where
   pub all_kept : List LinkValue → Left → List LinkValue
-  all_kept ls l = grown ls l.params ++ map (resolved s base) l.links
+  all_kept ls l = grown ls l.params ++ map (resolved_in s mode base) l.links
 
-  kept-piece : (ls : List LinkValue) (x : Piece) (l : Left) → all_kept ls (with_piece x l) ≡ all_kept (kept_past s base ls x) l
+  kept-piece : (ls : List LinkValue) (x : Piece) (l : Left) → all_kept ls (with_piece x l) ≡ all_kept (kept_past s mode base ls x) l
   unfolding all_kept
   kept-piece ls (Target inner u) l =
-      let ms = map (resolved s base) l.links in
-      let canon = canonical s base u.now in
+      let ms = map (resolved_in s mode base) l.links in
+      let canon = canonical_in s mode base u.now in
       let r : LinkValue = record { target = canon; params = l.params } in
       ap (λ z. z ++ r ∷ ms) (grown-none ls) ∙ (sym (append_assoc ls (r ∷ []) ms)
       ∙ ap (λ z. z ++ ms) (sym (grown-last ls (record { target = canon; params = [] }) l.params)))
-  kept-piece ls (ParamPiece p) l = ap (λ z. z ++ map (resolved s base) l.links) (sym (grown-twice ls (param_said p ∷ []) l.params))
+  kept-piece ls (ParamPiece p) l = ap (λ z. z ++ map (resolved_in s mode base) l.links) (sym (grown-twice ls (param_said p ∷ []) l.params))
   kept-piece ls NoParam l = refl
   kept-piece ls Comma l = refl
 
   -- a walk over a text that stands before t, where these link-values are kept
   pub record Kept (text : List ℕ) (inside : Bool) (t : List ℕ) (ls : List LinkValue) : Type 0 where
     pub goes : fault_from s before_link text ≡ fault_from s (phase_at inside) t
-    pub kept : fault_from s (phase_at inside) t ≡ None → map (resolved s base) (links_in text) ≡ all_kept ls (left_at inside t)
+    pub kept : fault_from s (phase_at inside) t ≡ None → map (resolved_in s mode base) (links_in text) ≡ all_kept ls (left_at inside t)
     pub keeps : Keeps s inside text t
 
   pub kept_none : (text : List ℕ) (ls : List LinkValue) → ls ≡ [] → Kept text false text ls
   unfolding all_kept
   kept_none text ls e = record { goes = refl; kept = λ _. rw e refl; keeps = λ k. k }
 
-  pub kept_all : (text : List ℕ) (p : Bool) (t : List ℕ) (ls : List LinkValue) → Kept text p t ls → Ends p t → ReadsField s base text ls
+  pub kept_all : (text : List ℕ) (p : Bool) (t : List ℕ) (ls : List LinkValue) → Kept text p t ls → Ends p t → ReadsField s mode base text ls
   unfolding all_kept
   kept_all text p t ls k e =
       let none = e.faultless s in record {
@@ -104,7 +104,7 @@ module _ (s : Tests) (base : List ℕ) where
     goes_on : piece_fault s x ≡ None → fault_from s (phase_at p) t ≡ fault_from s (phase_at (stands x)) rest
     goes_on none = c.goes s ∙ ap (λ o. earlier o (fault_from s (phase_at (stands x)) rest)) none
 
-    pub kept_more : (q : Bool) (new : List LinkValue) → (piece_fault s x ≡ None) × (new ≡ kept_past s base ls x) → q ≡ stands x → Kept text q rest new
+    pub kept_more : (q : Bool) (new : List LinkValue) → (piece_fault s x ≡ None) × (new ≡ kept_past s mode base ls x) → q ≡ stands x → Kept text q rest new
     kept_more q new h is = rw (is, h.1) (record {
       goes = k.goes ∙ goes_on h.0;
       kept = λ v.

@@ -1,7 +1,7 @@
 -- Parameters, read piece by piece.
 use Rattle.iri_link.proofs.Common.{IsValue, token, quoted, unquoted, IsCutQuoted, ◌≡◌, ℕ, length, true, false, List, [], ◌∷◌, ◌++◌, Option, Some, None, refl, sym, ap, ◌∙◌, subst, append_assoc}
 use Rattle.iri_link.proofs.Common.{◌==◌, str_to_ascii_lowercase, Tests, by_test, is_blank, is_token_char, is_token}
-use Rattle.iri_link.proofs.Common.{bare, valued, param, Phase, after_param, after_semicolon, in_name, after_name}
+use Rattle.iri_link.proofs.Common.{bare, valued, Phase, after_param, after_semicolon, in_name, after_name}
 use Rattle.iri_link.proofs.Common.{after_equals, fault_from, first_passes, IsRun, ReadsValue}
 use Rattle.iri_link.specs.inside.ReadParams.{ReadsEquals, ReadsParam}
 use Rattle.iri_link.specs.inside.Halts.{IsFault}

@@ -1,12 +1,12 @@
 -- The written form of link-values, shown from their text piece by piece.
 use Rattle.iri_link.proofs.Common.{before_link, ◌≡◌, ℕ, Bool, true, false, ◌<◌, List, [], ◌∷◌, ◌++◌, Option, Some, None, length, map, refl, sym, ap, ◌∙◌, subst}
 use Rattle.iri_link.proofs.Common.{append_assoc, append-nil, arith, flat_map, Tests, before, after}
-use Rattle.iri_link.proofs.Common.{fault_from, first_passes, resolved, escaped, written_param, written, unquoted, unquoted_from, ◌==◌}
+use Rattle.iri_link.proofs.Common.{fault_from, first_passes, CanonMode, resolved_in, escaped, written_param, written, unquoted, unquoted_from, ◌==◌}
 use Rattle.iri_link.proofs.FieldLemmas.{none_of}
 use Rattle.iri_link.proofs.Common.{take, drop, map-append, str_to_ascii_lowercase}
 use Rattle.std.specs.Char.{to_ascii_lowercase}
 use Rattle.std.proofs.lemmas.List.{take-append-drop}
-use Rattle.iri_normal.specs.NormalForm.{canonical}
+use Rattle.iri_normal.specs.NormalForm.{canonical_in}
 use Rattle.iri_link.specs.Readings.{links_in}
 use Rattle.iri_link.specs.declared.piece.Piece.{Piece}
 use Rattle.iri_link.specs.declared.piece.Piece.TheVariants.{Target, Param, NoParam, Comma}
@@ -57,24 +57,24 @@ lowered_on rest few left done all same front back =
     ∙ sym (append_assoc done (str_to_ascii_lowercase few) (str_to_ascii_lowercase left)))
 
 -- ---- what is left to show
-module _ (s : Tests) (base : List ℕ) where
+module _ (s : Tests) (mode : CanonMode) (base : List ℕ) where
   pub written_left : List ℕ → Left → List ℕ
-  written_left between l = flat_map written_param l.params ++ left_text between (map (resolved s base) l.links)
+  written_left between l = flat_map written_param l.params ++ left_text between (map (resolved_in s mode base) l.links)
 
   pub piece-written : (between : List ℕ) (x : Piece) (l : Left)
-      → written_left between (with_piece x l) ≡ piece_text s base between x ++ written_left (between_past between x) l
+      → written_left between (with_piece x l) ≡ piece_text s mode base between x ++ written_left (between_past between x) l
   unfolding written_left
   piece-written between (Target inner u) l =
-      let canon = canonical s base u.now in
+      let canon = canonical_in s mode base u.now in
       let F = flat_map written_param l.params in
-      let ms = map (resolved s base) l.links in
+      let ms = map (resolved_in s mode base) l.links in
       let L = left_text (44 ∷ 32 ∷ []) ms in
       ap (λ z. between ++ z) (written-cons (record { target = canon; params = l.params }) ms ∙ ap (λ z. 60 ∷ z) (append_assoc canon (62 ∷ F) L))
       ∙ sym (append_assoc (between ++ 60 ∷ []) (canon ++ 62 ∷ []) (F ++ L)
       ∙ (append_assoc between (60 ∷ []) ((canon ++ 62 ∷ []) ++ (F ++ L)) ∙ ap (λ z. between ++ 60 ∷ z) (append_assoc canon (62 ∷ []) (F ++ L))))
   piece-written between (Param p) l =
       append_assoc (written_param (param_said p)) (flat_map written_param l.params)
-      (left_text between (map (resolved s base) l.links))
+      (left_text between (map (resolved_in s mode base) l.links))
   piece-written between NoParam l = refl
   piece-written between Comma l = refl
 
@@ -83,9 +83,9 @@ module _ (s : Tests) (base : List ℕ) where
     pub faultless : fault_from s (phase_at inside) t ≡ None
     pub same : all ≡ done ++ written_left between (left_at inside t)
 
-  pub to_show : (text : List ℕ) → fault_from s before_link text ≡ None → ToShow (written (map (resolved s base) (links_in text))) [] [] false text
+  pub to_show : (text : List ℕ) → fault_from s before_link text ≡ None → ToShow (written (map (resolved_in s mode base) (links_in text))) [] [] false text
   unfolding written_left
-  to_show text h = record { faultless = h; same = all_left (map (resolved s base) (links_in text)) }
+  to_show text h = record { faultless = h; same = all_left (map (resolved_in s mode base) (links_in text)) }
 
   module _ (all done between : List ℕ) (p : Bool) (t : List ℕ) (k : ToShow all done between p t) where
     -- nothing is left at the end
@@ -98,10 +98,10 @@ module _ (s : Tests) (base : List ℕ) where
       faultless_past = none_of (piece_fault s x) (fault_from s (phase_at (stands x)) rest) (sym (c.goes s) ∙ k.faultless)
 
       -- what is left past a piece
-      pub left_past : all ≡ (done ++ piece_text s base between x) ++ written_left (between_past between x) (left_at (stands x) rest)
+      pub left_past : all ≡ (done ++ piece_text s mode base between x) ++ written_left (between_past between x) (left_at (stands x) rest)
       left_past =
           k.same ∙ (ap (λ z. done ++ z) (ap (written_left between) (c.reads s faultless_past.1) ∙ piece-written between x (left_at (stands x) rest))
-          ∙ sym (append_assoc done (piece_text s base between x) (written_left (between_past between x) (left_at (stands x) rest))))
+          ∙ sym (append_assoc done (piece_text s mode base between x) (written_left (between_past between x) (left_at (stands x) rest))))
 
-      pub shown_past : (q : Bool) (told : List ℕ) → q ≡ stands x → told ≡ between_past between x → ToShow all (done ++ piece_text s base between x) told q rest
+      pub shown_past : (q : Bool) (told : List ℕ) → q ≡ stands x → told ≡ between_past between x → ToShow all (done ++ piece_text s mode base between x) told q rest
       shown_past q told at past = rw (at, past) (record { faultless = faultless_past.1; same = left_past })

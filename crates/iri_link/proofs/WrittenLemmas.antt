@@ -2,14 +2,14 @@
 use Rattle.iri_link.proofs.Common.{◌≡◌, ℕ, true, cond, List, [], ◌∷◌, ◌++◌, Option, Some, None, map, refl, sym, ap, ◌∙◌, subst, arith, ◌==◌}
 use Rattle.iri_link.proofs.Common.{◌||◌, list_all, All, flat_map, str_to_ascii_lowercase, IsUtf8, append-nil, All-head, All-tail, All-cons}
 use Rattle.iri_link.proofs.Common.{All-nil, IsUtf8-append, IsUtf8-nil, Tests, IsSpec, lacks, delimited-utf8, HasReference, HasLinks}
-use Rattle.iri_link.proofs.Common.{resolved, IsRead, both, by_test, is_pair_char, is_token, IsQuoted, done, plain, pair, LinkParam}
+use Rattle.iri_link.proofs.Common.{CanonMode, resolved_in, IsReadIn, both, by_test, is_pair_char, is_token, IsQuoted, done, plain, pair, LinkParam}
 use Rattle.iri_link.proofs.Common.{LinkValue, quoted, IsParam, bare, valued, IsParams, none, param, link, IsElement, empty, element}
 use Rattle.iri_link.proofs.Common.{IsField, last, more, escaped, written_param, written_link, written}
 use Rattle.iri_grammar.specs.Parts.{IsAbsolute}
 use Rattle.iri_grammar.proofs.authorities.AuthorityTexts.{one_byte-utf8}
 use Rattle.iri_grammar.proofs.faults.FaultLaws.{reference-law, reference-utf8}
-use Rattle.iri_normal.specs.NormalForm.{canonical}
-use Rattle.iri_normal.proofs.canonical_texts.CanonicalTexts.{canonical-iri, canonical-own}
+use Rattle.iri_normal.specs.NormalForm.{canonical_in}
+use Rattle.iri_normal.proofs.canonical_texts.CanonicalTexts.{canonical_in-iri, canonical_in-own}
 use Rattle.iri_link.proofs.GrammarLemmas.{one_list}
 use Rattle.iri_link.proofs.ReferenceLemmas.{reference-closed}
 use Rattle.iri_link.proofs.Utf8Lemmas.{escaped-utf8}
@@ -53,9 +53,9 @@ blank_field x ls (last y ms h) = last (32 ∷ y) ms (blank_element y ms h)
 blank_field x ls (more y z ms ns h k) = more (32 ∷ y) z ms ns (blank_element y ms h) k
 
 -- what is kept of a field value is one list
-pub one_kept : (s : Tests) (base x : List ℕ) (kept others : List LinkValue) → IsRead s base x kept → IsRead s base x others → kept ≡ others
-one_kept s base x kept others a b =
-    a.resolves ∙ (ap (map (resolved s base)) (one_list s x a.links b.links a.has.field b.has.field) ∙ sym b.resolves)
+pub one_kept : (s : Tests) (mode : CanonMode) (base x : List ℕ) (kept others : List LinkValue) → IsReadIn s mode base x kept → IsReadIn s mode base x others → kept ≡ others
+one_kept s mode base x kept others a b =
+    a.resolves ∙ (ap (map (resolved_in s mode base)) (one_list s x a.links b.links a.has.field b.has.field) ∙ sym b.resolves)
 
 module _ (s : Tests) (k : IsSpec s) where
   one_read : (l : LinkValue) → HasReference s l → HasKeptParams l → IsElement (written_link l) (l ∷ [])
@@ -107,32 +107,32 @@ module _ (s : Tests) (k : IsSpec s) where
   written_again x ls h = written_has ls h.valid (field-kept x ls h.field h.utf8)
 
   -- ---- with canonical targets
-  module _ (base other : List ℕ) (absolute : IsAbsolute s base) where
-    resolved_again : (l : LinkValue) → HasReference s l → HasReference s (resolved s base l) × (resolved s base l ≡ resolved s other (resolved s base l))
+  module _ (mode : CanonMode) (base other : List ℕ) (absolute : IsAbsolute s base) where
+    resolved_again : (l : LinkValue) → HasReference s l → HasReference s (resolved_in s mode base l) × (resolved_in s mode base l ≡ resolved_in s mode other (resolved_in s mode base l))
     resolved_again l h =
         let r = (reference-law s k l.target).0 h in
-        let i = canonical-iri s base l.target k absolute r in
-        ((reference-law s k (canonical s base l.target)).1 (i.0, i.1), ap (λ t. record { target = t; params = l.params }) (sym (canonical-own s base l.target other k absolute r)))
+        let i = canonical_in-iri s mode base l.target k absolute r in
+        ((reference-law s k (canonical_in s mode base l.target)).1 (i.0, i.1), ap (λ t. record { target = t; params = l.params }) (sym (canonical_in-own s mode base l.target other k absolute r)))
 
     resolved_kept : (ls : List LinkValue) → All (HasReference s) ls → All HasKeptParams ls
-        → HasLinks s (written (map (resolved s base) ls)) (map (resolved s base) ls) × (map (resolved s base) ls ≡ map (resolved s other) (map (resolved s base) ls))
-    resolved_kept ls v p = let i = each ls v p in (written_has (map (resolved s base) ls) i.0 i.1, i.2)
+        → HasLinks s (written (map (resolved_in s mode base) ls)) (map (resolved_in s mode base) ls) × (map (resolved_in s mode base) ls ≡ map (resolved_in s mode other) (map (resolved_in s mode base) ls))
+    resolved_kept ls v p = let i = each ls v p in (written_has (map (resolved_in s mode base) ls) i.0 i.1, i.2)
       where
         each : (ms : List LinkValue) → All (HasReference s) ms → All HasKeptParams ms
-            → All (HasReference s) (map (resolved s base) ms) × All HasKeptParams (map (resolved s base) ms) × (map (resolved s base) ms ≡ map (resolved s other) (map (resolved s base) ms))
+            → All (HasReference s) (map (resolved_in s mode base) ms) × All HasKeptParams (map (resolved_in s mode base) ms) × (map (resolved_in s mode base) ms ≡ map (resolved_in s mode other) (map (resolved_in s mode base) ms))
         each [] v p = (All-nil (HasReference s), All-nil HasKeptParams, refl)
         each (l ∷ ms) v p =
             let r = resolved_again l (All-head (HasReference s) l ms v) in
             let i = each ms (All-tail (HasReference s) l ms v) (All-tail HasKeptParams l ms p) in
-            let rs = map (resolved s base) ms in (
-              All-cons (HasReference s) (resolved s base l) rs r.0 i.0,
-              All-cons HasKeptParams (resolved s base l) rs (All-head HasKeptParams l ms p) i.1,
-              ap (λ z. z ∷ rs) r.1 ∙ ap (λ z. resolved s other (resolved s base l) ∷ z) i.2,
+            let rs = map (resolved_in s mode base) ms in (
+              All-cons (HasReference s) (resolved_in s mode base l) rs r.0 i.0,
+              All-cons HasKeptParams (resolved_in s mode base l) rs (All-head HasKeptParams l ms p) i.1,
+              ap (λ z. z ∷ rs) r.1 ∙ ap (λ z. resolved_in s mode other (resolved_in s mode base l) ∷ z) i.2,
             )
 
     -- what is read of a field value is read again of its written form, against any base
-    pub read_again : (x : List ℕ) (kept : List LinkValue) → IsRead s base x kept → IsRead s other (written kept) kept
+    pub read_again : (x : List ℕ) (kept : List LinkValue) → IsReadIn s mode base x kept → IsReadIn s mode other (written kept) kept
     read_again x kept r =
         let h = r.has in
         let m = resolved_kept r.links h.valid (field-kept x r.links h.field h.utf8) in
-        subst (λ ls. IsRead s other (written ls) ls) (sym r.resolves) (record { links = map (resolved s base) r.links; has = m.0; resolves = m.1 })
+        subst (λ ls. IsReadIn s mode other (written ls) ls) (sym r.resolves) (record { links = map (resolved_in s mode base) r.links; has = m.0; resolves = m.1 })

@@ -5,7 +5,7 @@ ghost use Rattle.iri_normal.specs.Resolver.{base_text};
 ghost use Rattle.iri_link.specs.Fault.{fault_from, field_fault, place_in};
 ghost use Rattle.iri_link.specs.Phases.{before_link};
 ghost use Rattle.iri_link.specs.Readings.{links_in};
-ghost use Rattle.iri_link.specs.Resolved.{resolved};
+ghost use Rattle.iri_link.specs.Resolved.{resolved, resolved_in};
 ghost use Rattle.iri_link.specs.Written.{written};
 
 use crate::error::LinkKind;
@@ -13,6 +13,7 @@ use crate::halt::Halt;
 use crate::shown_text::show_text;
 use crate::walk::check_text;
 use iri_grammar::spec::Spec;
+use iri_normal::mode::CanonMode;
 use iri_normal::resolver::FixedBaseResolver;
 use iri_text::{Stop, TextSink};
 
@@ -80,5 +81,39 @@ pub fn show_links_against<S: Spec, W: TextSink>(
     ensures { Shows W.puts W.halts W.stops sink.old
         (written (map (resolved S.tests (base_text resolver.now)) (links_in field.now))) sink.new result }
 {
-    show_text(sink, resolver, field)
+    show_links_against_in(sink, CanonMode::Default, resolver, field)
+}
+
+/// The same by the rules of a mode (RFC 3986 section 6.2.3). It allocates nothing, and has the same condition.
+///
+/// # Errors
+///
+/// As [`show_links_against`]: only where the sink's count of stops rises.
+///
+/// ```
+/// use iri::format::SliceSink;
+/// use iri::link::{check_field, show_links_against_in};
+/// use iri::normalize::CanonMode;
+/// use iri::resolve::FixedBaseResolver;
+/// use iri::spec::UriSpec;
+/// use iri::types::UriAbsoluteStr;
+/// let page = FixedBaseResolver::new(UriAbsoluteStr::new("http://example.com/TheBook/chapter3")?);
+/// let mut buffer = [0; 64];
+/// let mut sink = SliceSink::new(&mut buffer);
+/// if let Ok(field) = check_field::<UriSpec>(b"<//example.com:80>; rel=start") {
+///     assert!(rt; show_links_against_in(&mut sink, CanonMode::Scheme, &page, field).is_ok());
+/// }
+/// assert_eq!(rt; sink.as_str(), "<http://example.com/>; rel=\"start\"");
+/// ```
+pub fn show_links_against_in<S: Spec, W: TextSink>(
+    sink: &mut W,
+    mode: CanonMode,
+    resolver: &FixedBaseResolver<'_, S>,
+    field: &str,
+) -> Result<(), Stop>
+    requires { field_fault S.tests field.now ≡ None }
+    ensures { Shows W.puts W.halts W.stops sink.old
+        (written (map (resolved_in S.tests mode (base_text resolver.now)) (links_in field.now))) sink.new result }
+{
+    show_text(sink, mode, resolver, field)
 }

@@ -5,18 +5,20 @@ ghost use Rattle.iri_link.specs.Fault.{field_fault};
 ghost use Rattle.iri_link.specs.Field.{LinkValue, IsField};
 ghost use Rattle.iri_link.specs.Links.{HasLinks};
 ghost use Rattle.iri_link.specs.Readings.{links_in};
-ghost use Rattle.iri_link.specs.Resolved.{IsRead};
+ghost use Rattle.iri_link.specs.Resolved.{IsReadIn};
+ghost use Rattle.iri_percent.specs.declared.canon_mode.CanonMode.{CanonMode};
 ghost use Rattle.iri_link.specs.Written.{written};
 
 use iri_grammar::spec::Spec;
+use iri_normal::mode::CanonMode;
 
 /// A field value has one list of link-values, and `links_in` is it; so one list is kept of it against a base.
 pub fn field_values_have_one_list<S: Spec>()
     ensures links { (x : List ℕ) (links others : List LinkValue) → IsField x links → IsField x others
         → links ≡ others }
     ensures value { (x : List ℕ) (links : List LinkValue) → IsField x links → links_in x ≡ links }
-    ensures kept { (base x : List ℕ) (kept others : List LinkValue) → IsRead S.tests base x kept
-        → IsRead S.tests base x others → kept ≡ others }
+    ensures kept { (mode : CanonMode) (base x : List ℕ) (kept others : List LinkValue)
+        → IsReadIn S.tests mode base x kept → IsReadIn S.tests mode base x others → kept ≡ others }
 {}
 
 /// Bytes have no fault exactly where they are the UTF-8 of a field value whose targets are URI-references.
@@ -34,8 +36,9 @@ pub fn written_links_are_read<S: Spec>()
 
 /// What is kept of a field value against a base is kept of its written form against any base, and nothing else is.
 pub fn written_sets_are_read<S: Spec>()
-    ensures read { (base x other : List ℕ) (kept : List LinkValue) → IsAbsolute S.tests base
-        → IsRead S.tests base x kept → IsRead S.tests other (written kept) kept }
-    ensures same { (base x other : List ℕ) (kept again : List LinkValue) → IsAbsolute S.tests base
-        → IsRead S.tests base x kept → IsRead S.tests other (written kept) again → again ≡ kept }
+    ensures read { (mode : CanonMode) (base x other : List ℕ) (kept : List LinkValue) → IsAbsolute S.tests base
+        → IsReadIn S.tests mode base x kept → IsReadIn S.tests mode other (written kept) kept }
+    ensures same { (mode : CanonMode) (base x other : List ℕ) (kept again : List LinkValue)
+        → IsAbsolute S.tests base → IsReadIn S.tests mode base x kept
+        → IsReadIn S.tests mode other (written kept) again → again ≡ kept }
 {}

@@ -42,5 +42,5 @@ mod walk;
 mod written;
 
 pub use error::{LinkError, LinkKind};
-pub use field::{check_field, show_links_against};
-pub use set::{LinkSet, read_links, read_links_against};
+pub use field::{check_field, show_links_against, show_links_against_in};
+pub use set::{LinkSet, read_links, read_links_against, read_links_against_in, read_links_in};

@@ -2,7 +2,7 @@
 ghost use Rattle.std.specs.Prelude.{◌≡◌, ◌++◌, ◌∷◌, [], IfOk, None, OnOk, map, string_bytes, MatchResult};
 ghost use Rattle.iri_grammar.specs.WholeFault.{reference_fault};
 ghost use Rattle.iri_types.specs.SplitText.{split_text};
-ghost use Rattle.iri_normal.specs.NormalForm.{canonical};
+ghost use Rattle.iri_normal.specs.NormalForm.{canonical_in};
 ghost use Rattle.iri_normal.specs.Resolver.{base_text};
 ghost use Rattle.iri_link.specs.Fault.{told_target};
 ghost use Rattle.iri_link.specs.Stored.{link_of};
@@ -16,6 +16,7 @@ use crate::param_text::ParamText;
 use crate::piece::Piece;
 use crate::walk::{is_inside, next_piece, reference_of};
 use iri_grammar::spec::Spec;
+use iri_normal::mode::CanonMode;
 use iri_normal::resolver::FixedBaseResolver;
 use iri_types::kind::Reference;
 use iri_types::split::SplitView;
@@ -34,29 +35,31 @@ const PREFIX: usize = 64;
 // The canonical text of a target.
 fn canonical_target<'a, S: Spec>(
     alloc: Global,
+    mode: CanonMode,
     resolver: &FixedBaseResolver<'a, S>,
     reference: &SplitView<'a, S, Reference>,
 ) -> Result<String, AllocError>
     ensures { IfOk result (λ t. string_bytes t
-        ≡ canonical S.tests (base_text resolver.now) (split_text reference.now)) }
+        ≡ canonical_in S.tests mode (base_text resolver.now) (split_text reference.now)) }
 {
     let room = reference.view().len().saturating_add(PREFIX);
     let mut target = String::with_capacity(alloc, room)?;
-    resolver.canonical_into(&mut target, reference)?;
+    resolver.canonical_into_in(&mut target, mode, reference)?;
     Ok(target)
 }
 
 // Puts a link-value at the end that has no parameters yet.
 fn push_link<'a, S: Spec>(
     alloc: Global,
+    mode: CanonMode,
     resolver: &FixedBaseResolver<'a, S>,
     links: &mut Vec<Link>,
     reference: &SplitView<'a, S, Reference>,
 ) -> Result<(), AllocError>
     ensures { OnOk result (map link_of links.new.items ≡ map link_of links.old.items
-        ++ record { target = canonical S.tests (base_text resolver.now) (split_text reference.now); params = [] } ∷ []) }
+        ++ record { target = canonical_in S.tests mode (base_text resolver.now) (split_text reference.now); params = [] } ∷ []) }
 {
-    let target = canonical_target(alloc, resolver, reference)?;
+    let target = canonical_target(alloc, mode, resolver, reference)?;
     let params = Vec::new(alloc);
     links.push(Link { target, params })?;
     Ok(())
@@ -80,6 +83,7 @@ fn push_param(alloc: Global, links: &mut Vec<Link>, param: ParamText<'_>) -> Res
 // Keeps a target, of which `inner` is what follows its `<`.
 fn keep_target<'a, S: Spec>(
     alloc: Global,
+    mode: CanonMode,
     resolver: &FixedBaseResolver<'a, S>,
     links: &mut Vec<Link>,
     inner: &'a str,
@@ -87,11 +91,11 @@ fn keep_target<'a, S: Spec>(
 ) -> Result<(), Halt<'a>>
     ensures { MatchResult result
         (λ _. (reference_fault S.tests target.now ≡ None) × (map link_of links.new.items ≡ map link_of links.old.items
-        ++ record { target = canonical S.tests (base_text resolver.now) target.now; params = [] } ∷ []))
+        ++ record { target = canonical_in S.tests mode (base_text resolver.now) target.now; params = [] } ∷ []))
         (λ e. HaltsAt e (told_target (reference_fault S.tests target.now) inner.now)) }
 {
     match reference_of::<S>(inner, target) {
-        Ok(reference) => match push_link(alloc, resolver, links, &reference) {
+        Ok(reference) => match push_link(alloc, mode, resolver, links, &reference) {
             Ok(()) => Ok(()),
             Err(_) => Err(Halt::Memory),
         },
@@ -102,18 +106,19 @@ fn keep_target<'a, S: Spec>(
 // Keeps a piece.
 fn keep_piece<'a, S: Spec>(
     alloc: Global,
+    mode: CanonMode,
     resolver: &FixedBaseResolver<'a, S>,
     links: &mut Vec<Link>,
     piece: Piece<'a>,
 ) -> Result<(), Halt<'a>>
     ensures { MatchResult result
         (λ _. (piece_fault S.tests piece.entry ≡ None) × (map link_of links.new.items
-        ≡ kept_past S.tests (base_text resolver.now) (map link_of links.old.items) piece.entry))
+        ≡ kept_past S.tests mode (base_text resolver.now) (map link_of links.old.items) piece.entry))
         (λ e. HaltsPast S.tests e piece.entry) }
 {
     match piece {
         Piece::Target(inner, target) => {
-            match keep_target(alloc, resolver, links, inner, target) {
+            match keep_target(alloc, mode, resolver, links, inner, target) {
                 Ok(()) => Ok(()),
                 Err(halt) => Err(halt),
             }
@@ -129,11 +134,12 @@ fn keep_piece<'a, S: Spec>(
 // The link-values of a text.
 pub(crate) fn read_text<'a, S: Spec>(
     alloc: Global,
+    mode: CanonMode,
     resolver: &FixedBaseResolver<'a, S>,
     text: &'a str,
 ) -> Result<Vec<Link>, Halt<'a>>
     ensures { MatchResult result
-        (λ v. ReadsField S.tests (base_text resolver.now) text.now (map link_of v.items))
+        (λ v. ReadsField S.tests mode (base_text resolver.now) text.now (map link_of v.items))
         (HaltsIn S.tests text.now) }
 {
     let mut links = Vec::new(alloc);
@@ -142,7 +148,7 @@ pub(crate) fn read_text<'a, S: Spec>(
     'pieces: loop {
         match next_piece(inside, rest) {
             Ok(Some((piece, after))) => {
-                if let Err(halt) = keep_piece(alloc, resolver, &mut links, piece) {
+                if let Err(halt) = keep_piece(alloc, mode, resolver, &mut links, piece) {
                     return Err(halt);
                 }
                 inside = is_inside(piece);

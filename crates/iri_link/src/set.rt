@@ -3,7 +3,7 @@ ghost use Rattle.std.specs.Prelude.{◌≡◌, MatchResult};
 ghost use Rattle.iri_normal.specs.Resolver.{base_text};
 ghost use Rattle.iri_types.specs.Texts.{text};
 ghost use Rattle.iri_link.specs.Refusals.{RefusedBy};
-ghost use Rattle.iri_link.specs.Resolved.{IsRead};
+ghost use Rattle.iri_link.specs.Resolved.{IsRead, IsReadIn};
 ghost use Rattle.iri_link.specs.inside.Halts.{IsTold};
 ghost use Rattle.iri_link.specs.inside.KeptLinks.{ReadsField};
 
@@ -13,6 +13,7 @@ use crate::link::{Link, read_text};
 use crate::param::Param;
 use crate::written::show_links;
 use iri_grammar::spec::Spec;
+use iri_normal::mode::CanonMode;
 use iri_normal::resolver::FixedBaseResolver;
 use iri_text::{FormatSink, Show, Stop, TextSink};
 use iri_types::view::RiAbsoluteStr;
@@ -54,13 +55,14 @@ impl<S: Spec> Model for LinkSet<S> {
 // The link-values of a text.
 fn read_valid<S: Spec>(
     alloc: Global,
+    mode: CanonMode,
     resolver: &FixedBaseResolver<'_, S>,
     field: &str,
 ) -> Result<LinkSet<S>, LinkError>
-    ensures { MatchResult result (λ l. ReadsField S.tests (base_text resolver.now) field.now l)
+    ensures { MatchResult result (λ l. ReadsField S.tests mode (base_text resolver.now) field.now l)
         (IsTold S.tests field.now) }
 {
-    match read_text(alloc, resolver, field) {
+    match read_text(alloc, mode, resolver, field) {
         Ok(links) => Ok(LinkSet {
             links,
             spec: PhantomData,
@@ -101,7 +103,32 @@ pub fn read_links<S: Spec>(
 ) -> Result<LinkSet<S>, LinkError>
     ensures { MatchResult result (IsRead S.tests (text base.entry) field.now) (RefusedBy S.tests field.now) }
 {
-    read_links_against(alloc, &FixedBaseResolver::new(base), field)
+    read_links_in(alloc, CanonMode::Default, base, field)
+}
+
+/// The same by the rules of a mode (RFC 3986 section 6.2.3).
+///
+/// # Errors
+///
+/// Those of [`read_links`].
+///
+/// ```
+/// use iri::link::read_links_in;
+/// use iri::normalize::CanonMode;
+/// use iri::types::UriAbsoluteStr;
+/// let page = UriAbsoluteStr::new("http://example.com/TheBook/chapter3")?;
+/// let links = read_links_in(rt.alloc(), CanonMode::Scheme, page, b"<//example.com:80>; rel=start")?;
+/// assert_eq!(rt; links.target(0), Some("http://example.com/"));
+/// ```
+pub fn read_links_in<S: Spec>(
+    alloc: Global,
+    mode: CanonMode,
+    base: RiAbsoluteStr<'_, S>,
+    field: &[u8],
+) -> Result<LinkSet<S>, LinkError>
+    ensures { MatchResult result (IsReadIn S.tests mode (text base.entry) field.now) (RefusedBy S.tests field.now) }
+{
+    read_links_against_in(alloc, mode, &FixedBaseResolver::new(base), field)
 }
 
 /// The same against a resolver's base, which a program that reads many field values prepares once.
@@ -127,8 +154,34 @@ pub fn read_links_against<S: Spec>(
 ) -> Result<LinkSet<S>, LinkError>
     ensures { MatchResult result (IsRead S.tests (base_text resolver.now) field.now) (RefusedBy S.tests field.now) }
 {
+    read_links_against_in(alloc, CanonMode::Default, resolver, field)
+}
+
+/// The same against a resolver's base, by the rules of a mode.
+///
+/// # Errors
+///
+/// Those of [`read_links`].
+///
+/// ```
+/// use iri::link::read_links_against_in;
+/// use iri::normalize::CanonMode;
+/// use iri::resolve::FixedBaseResolver;
+/// use iri::types::UriAbsoluteStr;
+/// let page = FixedBaseResolver::new(UriAbsoluteStr::new("http://example.com/TheBook/chapter3")?);
+/// let links = read_links_against_in(rt.alloc(), CanonMode::Scheme, &page, b"<//example.com:80>; rel=start")?;
+/// assert_eq!(rt; links.target(0), Some("http://example.com/"));
+/// ```
+pub fn read_links_against_in<S: Spec>(
+    alloc: Global,
+    mode: CanonMode,
+    resolver: &FixedBaseResolver<'_, S>,
+    field: &[u8],
+) -> Result<LinkSet<S>, LinkError>
+    ensures { MatchResult result (IsReadIn S.tests mode (base_text resolver.now) field.now) (RefusedBy S.tests field.now) }
+{
     match str::from_utf8(field) {
-        Ok(text) => read_valid(alloc, resolver, text),
+        Ok(text) => read_valid(alloc, mode, resolver, text),
         Err(error) => Err(LinkError::Fault(LinkKind::NotUtf8, error.valid_up_to())),
     }
 }

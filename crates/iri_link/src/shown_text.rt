@@ -5,12 +5,12 @@ ghost use Rattle.std.specs.Str.{IsAscii, str_to_ascii_lowercase};
 ghost use Rattle.iri_grammar.specs.WholeFault.{reference_fault};
 ghost use Rattle.iri_link.specs.Characters.{greater_than_sign, less_than_sign};
 ghost use Rattle.iri_text.specs.Shown.{Shows};
-ghost use Rattle.iri_normal.specs.NormalForm.{canonical};
+ghost use Rattle.iri_normal.specs.NormalForm.{canonical_in};
 ghost use Rattle.iri_normal.specs.Resolver.{base_text};
 ghost use Rattle.iri_link.specs.Fault.{fault_from};
 ghost use Rattle.iri_link.specs.Phases.{before_link};
 ghost use Rattle.iri_link.specs.Readings.{links_in};
-ghost use Rattle.iri_link.specs.Resolved.{resolved};
+ghost use Rattle.iri_link.specs.Resolved.{resolved_in};
 ghost use Rattle.iri_link.specs.Token.{is_token_char};
 ghost use Rattle.iri_link.specs.Written.{escaped, written, written_param};
 ghost use Rattle.iri_link.specs.inside.Pieces.{IsNamed, between_past, param_said, piece_fault, piece_text};
@@ -22,7 +22,8 @@ use crate::quoted::cut_chunk;
 use crate::walk::{is_inside, next_piece};
 use crate::written::Escaped;
 use iri_grammar::spec::Spec;
-use iri_normal::canonical::show_canonical;
+use iri_normal::canonical::show_canonical_in;
+use iri_normal::mode::CanonMode;
 use iri_normal::resolver::FixedBaseResolver;
 use iri_text::{Show, Stop, TextSink, show_three, show_two};
 use iri_types::kind::Reference;
@@ -110,18 +111,19 @@ fn show_param<W: TextSink>(sink: &mut W, param: ParamText<'_>) -> Result<(), Sto
 // Shows the canonical text of a target in angle brackets, after what comes before it.
 fn show_target<S: Spec, W: TextSink>(
     sink: &mut W,
+    mode: CanonMode,
     resolver: &FixedBaseResolver<'_, S>,
     between: &str,
     target: &str,
 ) -> Result<(), Stop>
     requires { reference_fault S.tests target.now ≡ None }
     ensures { Shows W.puts W.halts W.stops sink.old ((between.now ++ less_than_sign ∷ [])
-        ++ (canonical S.tests (base_text resolver.now) target.now ++ greater_than_sign ∷ [])) sink.new result }
+        ++ (canonical_in S.tests mode (base_text resolver.now) target.now ++ greater_than_sign ∷ [])) sink.new result }
 {
     match SplitView::<S, Reference>::new(target) {
         Ok(reference) => {
             show_two(sink, &between, &"<")?;
-            show_canonical(sink, resolver, &reference)?;
+            show_canonical_in(sink, mode, resolver, &reference)?;
             sink.put(">")
         }
         Err(_) => unreachable!(),
@@ -131,6 +133,7 @@ fn show_target<S: Spec, W: TextSink>(
 // Shows a piece; `between` comes before a target.
 fn show_piece<S: Spec, W: TextSink>(
     sink: &mut W,
+    mode: CanonMode,
     resolver: &FixedBaseResolver<'_, S>,
     between: &str,
     piece: Piece<'_>,
@@ -138,10 +141,10 @@ fn show_piece<S: Spec, W: TextSink>(
     requires faultless { piece_fault S.tests piece ≡ None }
     requires named { IsNamed piece }
     ensures { Shows W.puts W.halts W.stops sink.old
-        (piece_text S.tests (base_text resolver.now) between.now piece.entry) sink.new result }
+        (piece_text S.tests mode (base_text resolver.now) between.now piece.entry) sink.new result }
 {
     match piece {
-        Piece::Target(_, target) => show_target(sink, resolver, between, target),
+        Piece::Target(_, target) => show_target(sink, mode, resolver, between, target),
         Piece::Param(param) => show_param(sink, param),
         _ => Ok(()),
     }
@@ -160,12 +163,13 @@ fn between_past<'a>(between: &'a str, piece: Piece<'_>) -> &'a str
 // Shows the link-values of a text without a fault.
 pub(crate) fn show_text<S: Spec, W: TextSink>(
     sink: &mut W,
+    mode: CanonMode,
     resolver: &FixedBaseResolver<'_, S>,
     text: &str,
 ) -> Result<(), Stop>
     requires { fault_from S.tests before_link text.now ≡ None }
     ensures { Shows W.puts W.halts W.stops sink.old
-        (written (map (resolved S.tests (base_text resolver.now)) (links_in text.now))) sink.new result }
+        (written (map (resolved_in S.tests mode (base_text resolver.now)) (links_in text.now))) sink.new result }
 {
     let mut between = "";
     let mut inside = false;
@@ -173,7 +177,7 @@ pub(crate) fn show_text<S: Spec, W: TextSink>(
     'pieces: loop {
         match next_piece(inside, rest) {
             Ok(Some((piece, after))) => {
-                show_piece(sink, resolver, between, piece)?;
+                show_piece(sink, mode, resolver, between, piece)?;
                 between = between_past(between, piece);
                 inside = is_inside(piece);
                 rest = after;

@@ -5,7 +5,8 @@ use Rattle.std.specs.Str.{str_to_ascii_lowercase}
 use Rattle.iri_grammar.specs.Classes.{Tests}
 use Rattle.iri_grammar.specs.OptionalSlices.{now_of}
 use Rattle.iri_grammar.specs.WholeFault.{reference_fault}
-use Rattle.iri_normal.specs.NormalForm.{canonical}
+use Rattle.iri_percent.specs.declared.canon_mode.CanonMode.{CanonMode}
+use Rattle.iri_normal.specs.NormalForm.{canonical_in}
 use Rattle.iri_link.specs.Characters.{greater_than_sign, less_than_sign}
 use Rattle.iri_link.specs.Fault.{Fault, earlier, fault_from, told_target}
 use Rattle.iri_link.specs.Field.{LinkParam, LinkValue}
@@ -79,11 +80,11 @@ pub record Ends (inside : Bool) (t : List ℕ) : Type 0 where
   pub none_left : (s : Tests) → left_at inside t ≡ record { params = []; links = [] }
 
 -- what is shown of a piece, before which this stands where it is a target
-abbrev pub piece_text : Tests → (base between : List ℕ) → Piece → List ℕ
-piece_text s base between (Target inner target) =
-    (between ++ less_than_sign ∷ []) ++ (canonical s base target.now ++ greater_than_sign ∷ [])
-piece_text s base between (Param p) = written_param (param_said p)
-piece_text s base between _ = []
+abbrev pub piece_text : Tests → CanonMode → (base between : List ℕ) → Piece → List ℕ
+piece_text s mode base between (Target inner target) =
+    (between ++ less_than_sign ∷ []) ++ (canonical_in s mode base target.now ++ greater_than_sign ∷ [])
+piece_text s mode base between (Param p) = written_param (param_said p)
+piece_text s mode base between _ = []
 
 -- what stands before the next target, past a piece
 abbrev pub between_past : List ℕ → Piece → List ℕ

@@ -6,7 +6,7 @@ use Rattle.iri_link.proofs.link.read_text.Given as goal
 abbrev pub invariant-pieces : goal.invariant-pieces
 invariant-pieces g l = record {
   utf8 : shadow (Utf8 l.rest);
-  read : Kept g.S.Spec.tests (base_text l.resolver) l.text l.inside l.rest (map link_of l.links.items);
+  read : Kept g.S.Spec.tests l.mode (base_text l.resolver) l.text l.inside l.rest (map link_of l.links.items);
 }
 
 abbrev pub decreases-pieces : goal.decreases-pieces

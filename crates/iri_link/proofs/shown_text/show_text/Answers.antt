@@ -11,7 +11,7 @@ pieces-init g c = record {
   rest_utf8 = search rules;
   done = [];
   shown = shown_none g.met.W.TextSink.rules c.args.sink.now;
-  left = to_show g.S.Spec.tests (base_text c.args.resolver.now) c.args.text.now c.requires;
+  left = to_show g.S.Spec.tests c.args.mode (base_text c.args.resolver.now) c.args.text.now c.requires;
 }
 
 pub returns-in_err-show_piece-in-Ok-Some : goal.returns-in_err-show_piece-in-Ok-Some
@@ -22,8 +22,8 @@ returns-in_err-show_piece-in-Ok-Some g c =
     let x = c.in-Ok-Some.piece in
     let rest = c.in-Ok-Some.after.now in
     subst (λ t. Shows g.W.TextSink.puts g.W.TextSink.halts g.W.TextSink.stops c.args.sink.now t c.show_piece.new.sink c.from_residual.result)
-    (sym (left_past s base _ i.done c.pieces.between.now c.pieces.inside c.pieces.rest.now i.left rest x (rw c.in-Ok-Some.field-0-is at c.in-Ok-Some.ensures)))
-    (shown_exit g.met.W.TextSink.rules (written_left s base (between_past c.pieces.between.now x) (left_at (stands x) rest)) c.from_residual.ensures.0 i.shown
+    (sym (left_past s c.args.mode base _ i.done c.pieces.between.now c.pieces.inside c.pieces.rest.now i.left rest x (rw c.in-Ok-Some.field-0-is at c.in-Ok-Some.ensures)))
+    (shown_exit g.met.W.TextSink.rules (written_left s c.args.mode base (between_past c.pieces.between.now x) (left_at (stands x) rest)) c.from_residual.ensures.0 i.shown
     c.in_err-show_piece-in-Ok-Some.ensures)
 
 pub pieces-preserved : goal.pieces-preserved
@@ -35,9 +35,9 @@ pieces-preserved g c =
     record {
       between_utf8 = search rules;
       rest_utf8 = search rules;
-      done = i.done ++ piece_text s base c.pieces.between.now x;
+      done = i.done ++ piece_text s c.args.mode base c.pieces.between.now x;
       shown = shown_more g.met.W.TextSink.rules i.shown c.in_ok-show_piece-in-Ok-Some.ensures;
-      left = shown_past s base _ i.done c.pieces.between.now c.pieces.inside c.pieces.rest.now i.left c.in-Ok-Some.after.now x (rw c.in-Ok-Some.field-0-is at c.in-Ok-Some.ensures) _ _
+      left = shown_past s c.args.mode base _ i.done c.pieces.between.now c.pieces.inside c.pieces.rest.now i.left c.in-Ok-Some.after.now x (rw c.in-Ok-Some.field-0-is at c.in-Ok-Some.ensures) _ _
           c.is_inside-inside.ensures c.between_past-between.ensures;
     }
 
@@ -45,5 +45,5 @@ pub returns-in-Ok-None : goal.returns-in-Ok-None
 returns-in-Ok-None g c =
     let i = c.pieces.invariant in
     subst (λ t. Shows g.W.TextSink.puts g.W.TextSink.halts g.W.TextSink.stops c.args.sink.now t c.pieces.sink (Ok tt))
-    (all_shown g.S.Spec.tests (base_text c.args.resolver.now) _ i.done c.pieces.between.now c.pieces.inside c.pieces.rest.now i.left (rw c.in-Ok-None.field-0-is at c.in-Ok-None.ensures))
+    (all_shown g.S.Spec.tests c.args.mode (base_text c.args.resolver.now) _ i.done c.pieces.between.now c.pieces.inside c.pieces.rest.now i.left (rw c.in-Ok-None.field-0-is at c.in-Ok-None.ensures))
     (shows_all i.shown)

@@ -1,4 +1,4 @@
-use Rattle.iri_link.proofs.Common.{ℕ, List, length, map, Utf8, shadow, base_text, resolved, written}
+use Rattle.iri_link.proofs.Common.{ℕ, List, length, map, Utf8, shadow, base_text, resolved_in, written}
 use Rattle.iri_text.proofs.Compose.{HasShown}
 use Rattle.iri_link.specs.Readings.{links_in}
 use Rattle.iri_link.proofs.ShownLemmas.{ToShow}
@@ -11,7 +11,7 @@ invariant-pieces g l = record {
   rest_utf8 : shadow (Utf8 l.rest);
   done : List ℕ;
   shown : HasShown g.W.TextSink.puts g.W.TextSink.stops l.initial.sink done l.sink;
-  left : ToShow g.S.Spec.tests (base_text l.resolver) (written (map (resolved g.S.Spec.tests (base_text l.resolver)) (links_in l.text))) done l.between l.inside l.rest;
+  left : ToShow g.S.Spec.tests l.mode (base_text l.resolver) (written (map (resolved_in g.S.Spec.tests l.mode (base_text l.resolver)) (links_in l.text))) done l.between l.inside l.rest;
 }
 
 abbrev pub decreases-pieces : goal.decreases-pieces
