@@ -18,7 +18,8 @@ _irikit() {
     0:) words='canon expand register links docs robots gen --help --version' ;;
     1:--*) ;;
     1:*) words='uri iri' ;;
-    2:canon) words=scheme ;;
+    2:robots | 2:gen | 2:--*) ;;
+    2:* | 3:robots) words=scheme ;;
   esac
   mapfile -t COMPREPLY < <(compgen -W "$words" -- "$current")
 } && complete -F _irikit irikit

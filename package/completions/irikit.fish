@@ -19,4 +19,4 @@ complete -c irikit -n '__irikit_has 1' -a gen -d 'a known amount of work'
 complete -c irikit -n '__irikit_has 1' -a --help -d 'the commands'
 complete -c irikit -n '__irikit_has 1' -a --version -d 'the version'
 complete -c irikit -n '__irikit_has 2 canon expand register links docs robots gen' -a 'uri iri'
-complete -c irikit -n '__irikit_has 3 canon' -a scheme
+complete -c irikit -n '__irikit_has 3 canon expand register links docs; or __irikit_has 4 robots' -a scheme

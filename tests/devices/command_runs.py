@@ -7,6 +7,8 @@ RUNS = [
     ("canon uri", "http://a/b\nc\nHTTP://%41/../d\n%4\n", False),
     ("canon iri", "http://a/\u00e9\n%c3%a9\n", False),
     ("canon uri scheme", "HTTP://a:80\n\nws://b:80?c\n%4\n", False),
+    ("register uri scheme", "HTTP://a:80\na \na //a/\nf ftp://a:21\nd http://a\n", True),
+    ("robots uri examplebot scheme", "https://a:443\nr user-agent: *\nr disallow: /x\nu x\nu //a:443/y\n", True),
     ("gen uri 100", "", False),
     ("expand uri", "http://a/b\ns v x\nl l a\nl l b\na p k w\nt {v}/{l*}{?p*}\ns v \u00e9\nu l\nt {+v}{#l}\nt {\nq\nt x\n", True),
     ("register uri", "http://a/b\n" + "".join(f"a {n % 40}/../x{n % 30}\n" for n in range(60)) + "d x3\nf x4\na %4\nq\n", True),

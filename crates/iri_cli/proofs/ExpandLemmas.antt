@@ -2,11 +2,10 @@
 use Rattle.iri_cli.proofs.Common.{OnOk, cond, bytes_eq, with_value, undefined, ShownValue, AllocError, ◌≡◌, ◌≢◌, ◌∙◌, ◌<◌, ◌≤◌, ℕ, Bool}
 use Rattle.iri_cli.proofs.Common.{true, false, List, [], ◌∷◌, ◌++◌, length, Option, None, Some, Result, Ok, Err, refl, sym, ap, subst}
 use Rattle.iri_cli.proofs.Common.{arith, append_assoc, codes, decimal, nat_lt, nat_tests, Tests, bytes_fault, reference_fault, ErrorKind}
-use Rattle.iri_cli.proofs.Common.{canonical, KeepsRoom, SinkState, Appends-none, room-same, expansion_limit, expansion, pieces_of}
+use Rattle.iri_cli.proofs.Common.{CanonMode, canonical_in, KeepsRoom, SinkState, Appends-none, room-same, expansion_limit, expansion, pieces_of}
 use Rattle.iri_cli.proofs.Common.{answer_by, answer_in, Answering, AnswersLine, PutsAnswer, Rules, expansion_answer, template_answer}
 use Rattle.iri_cli.proofs.Common.{Values, is_ok, AnswerError, SinkFailed}
 use Rattle.std.proofs.Math.Path.{fun_ext}
-use Rattle.iri_percent.specs.declared.canon_mode.CanonMode.TheVariants.{Default}
 use Rattle.iri_template.specs.ErrorTexts.{description}
 use Rattle.iri_template.specs.TypeFaults.{expansion_fault}
 use Rattle.iri_template.specs.declared.error.Error.{Error}
@@ -46,59 +45,59 @@ values-more values (first ∷ lines) line = values-more (after_line values (line
 
 -- ---- the answer to a template
 -- an expansion that isn't too long is answered as `canon` answers it
-pub short_answer : (s : Tests) (base text : List ℕ) → length text ≤ expansion_limit
-    → answer_in s Default base text ≡ expansion_answer s base (within_limit text)
-short_answer s base text h = let e : nat_lt expansion_limit (length text) ≡ false = grind (arith, nat_tests) in rw e refl
+pub short_answer : (s : Tests) (mode : CanonMode) (base text : List ℕ) → length text ≤ expansion_limit
+    → answer_in s mode base text ≡ expansion_answer s mode base (within_limit text)
+short_answer s mode base text h = let e : nat_lt expansion_limit (length text) ≡ false = grind (arith, nat_tests) in rw e refl
 
-pub long_answer : (s : Tests) (base text : List ℕ) → expansion_limit < length text
-    → codes "bad expansion too long\n" ≡ expansion_answer s base (within_limit text)
-long_answer s base text h = let e : nat_lt expansion_limit (length text) ≡ true = grind (arith, nat_tests) in rw e refl
+pub long_answer : (s : Tests) (mode : CanonMode) (base text : List ℕ) → expansion_limit < length text
+    → codes "bad expansion too long\n" ≡ expansion_answer s mode base (within_limit text)
+long_answer s mode base text h = let e : nat_lt expansion_limit (length text) ≡ true = grind (arith, nat_tests) in rw e refl
 
 -- a template without a fault, and one with a fault
-pub template_expanded : (s : Tests) (base : List ℕ) (values : Values) (t : List ℕ) → expansion_fault values t ≡ None
-    → expansion_answer s base (within_limit (expansion s values (pieces_of t))) ≡ template_answer s base values t
+pub template_expanded : (s : Tests) (mode : CanonMode) (base : List ℕ) (values : Values) (t : List ℕ) → expansion_fault values t ≡ None
+    → expansion_answer s mode base (within_limit (expansion s values (pieces_of t))) ≡ template_answer s mode base values t
 unfolding template_answer
-template_expanded s base values t none = ap (expansion_answer s base) (sym (by_length s values t none))
+template_expanded s mode base values t none = ap (expansion_answer s mode base) (sym (by_length s values t none))
 
-pub template_refused : (s : Tests) (base : List ℕ) (values : Values) (t : List ℕ) (e : Error) → expansion_fault values t ≡ Some e
-    → codes "template " ++ (description e.kind ++ (codes " at " ++ (decimal e.location ++ 10 ∷ []))) ≡ template_answer s base values t
+pub template_refused : (s : Tests) (mode : CanonMode) (base : List ℕ) (values : Values) (t : List ℕ) (e : Error) → expansion_fault values t ≡ Some e
+    → codes "template " ++ (description e.kind ++ (codes " at " ++ (decimal e.location ++ 10 ∷ []))) ≡ template_answer s mode base values t
 unfolding template_answer
-template_refused s base values t e is =
+template_refused s mode base values t e is =
     ap (λ x. codes "template " ++ x) (sym (append_assoc (description e.kind) (codes " at " ++ decimal e.location) (10 ∷ [])))
-    ∙ ap (expansion_answer s base) (sym (faulty s values t e is))
+    ∙ ap (expansion_answer s mode base) (sym (faulty s values t e is))
 
 -- each answer to a template has bytes
-expansion_good : (s : Tests) (base : List ℕ) (x : Result (List ℕ) DocExpandError)
-    → is_ok_or_none (expansion_answer s base x) ≡ is_ok (expansion_answer s base x)
+expansion_good : (s : Tests) (mode : CanonMode) (base : List ℕ) (x : Result (List ℕ) DocExpandError)
+    → is_ok_or_none (expansion_answer s mode base x) ≡ is_ok (expansion_answer s mode base x)
 unfolding answer_in
-expansion_good s base (Ok text) = by_fault (bytes_fault (reference_fault s) text)
+expansion_good s mode base (Ok text) = by_fault (bytes_fault (reference_fault s) text)
   where
-    by_fault : (f : Option ErrorKind) → is_ok_or_none (answer_by f (canonical s base text)) ≡ is_ok (answer_by f (canonical s base text))
+    by_fault : (f : Option ErrorKind) → is_ok_or_none (answer_by f (canonical_in s mode base text)) ≡ is_ok (answer_by f (canonical_in s mode base text))
     by_fault None = refl
     by_fault (Some kind) = refl
-expansion_good s base (Err (Template e)) = refl
-expansion_good s base (Err TooLong) = refl
-expansion_good s base (Err (Invalid e)) = refl
-expansion_good s base (Err OutOfMemory) = refl
+expansion_good s mode base (Err (Template e)) = refl
+expansion_good s mode base (Err TooLong) = refl
+expansion_good s mode base (Err (Invalid e)) = refl
+expansion_good s mode base (Err OutOfMemory) = refl
 
-pub template_good : (s : Tests) (base : List ℕ) (values : Values) (t : List ℕ)
-    → is_ok_or_none (template_answer s base values t) ≡ is_ok (template_answer s base values t)
+pub template_good : (s : Tests) (mode : CanonMode) (base : List ℕ) (values : Values) (t : List ℕ)
+    → is_ok_or_none (template_answer s mode base values t) ≡ is_ok (template_answer s mode base values t)
 unfolding template_answer
-template_good s base values t = expansion_good s base (expansion_within s values t)
+template_good s mode base values t = expansion_good s mode base (expansion_within s values t)
 
 -- ---- one line more
-module _ (s : Tests) (base expansion : List ℕ) (output : ℕ) (values : Values) (at : Answering)
-    (is : IsExpandAt s base expansion output values at) (line : List ℕ) (said : ExpandLine) (reads : line_of line ≡ said) where
-  answer_is : at.rules.answer at.base at.between line ≡ answer_to s base values said
+module _ (s : Tests) (mode : CanonMode) (base expansion : List ℕ) (output : ℕ) (values : Values) (at : Answering)
+    (is : IsExpandAt s mode base expansion output values at) (line : List ℕ) (said : ExpandLine) (reads : line_of line ≡ said) where
+  answer_is : at.rules.answer at.base at.between line ≡ answer_to s mode base values said
   answer_is =
       ap (λ (r : Rules). r.answer at.base at.between line) is.rules
       ∙ sym (is.alike.answer at.between line)
-      ∙ ap (λ v. answer_to s base v (line_of line)) (sym is.values_are)
-      ∙ ap (answer_to s base values) reads
+      ∙ ap (λ v. answer_to s mode base v (line_of line)) (sym is.values_are)
+      ∙ ap (answer_to s mode base values) reads
 
   next_at : (expansion_new : List ℕ) (output_new : ℕ) (new : Values) → length expansion_new ≡ length expansion → output ≤ output_new
       → new ≡ after_line values said
-      → IsExpandAt s base expansion_new output_new new (record at { between = at.between ++ line ∷ [] })
+      → IsExpandAt s mode base expansion_new output_new new (record at { between = at.between ++ line ∷ [] })
   next_at expansion_new output_new new expansion_size output_grows after = record {
     rules = is.rules;
     alike = is.alike;
@@ -114,11 +113,11 @@ module _ (s : Tests) (base expansion : List ℕ) (output : ℕ) (values : Values
   module _ (ko kn : SinkState) where
     pub answers_text : (expansion_new : List ℕ) (output_new : ℕ) (r : Result Bool AnswerError) → length expansion_new ≡ length expansion
         → output ≤ output_new → values ≡ after_line values said
-        → is_ok_or_none (answer_to s base values said) ≡ is_ok (answer_to s base values said)
-        → PutsAnswer is_ok ko kn false (answer_to s base values said) r
-        → KeepsRoom ko.room_left kn.room_left (answer_to s base values said) (r ≢ Err SinkFailed)
-        → AnswersLine (IsExpandAt s base expansion_new output_new values) at line ko kn r
-    answers_text expansion_new output_new r expansion_size output_grows same good p room = let text = answer_to s base values said in record {
+        → is_ok_or_none (answer_to s mode base values said) ≡ is_ok (answer_to s mode base values said)
+        → PutsAnswer is_ok ko kn false (answer_to s mode base values said) r
+        → KeepsRoom ko.room_left kn.room_left (answer_to s mode base values said) (r ≢ Err SinkFailed)
+        → AnswersLine (IsExpandAt s mode base expansion_new output_new values) at line ko kn r
+    answers_text expansion_new output_new r expansion_size output_grows same good p room = let text = answer_to s mode base values said in record {
       puts = subst (λ t. PutsAnswer at.rules.is_good ko kn (at.rules.wants_memory at.base at.between line) t r) (sym answer_is)
           (puts_answer is_ok at.rules.is_good ko kn r false _ text (sym good ∙ ap (λ (r : Rules). r.is_good text) (sym is.rules))
           (λ _ h. absurd (cc h)) p);
@@ -127,7 +126,7 @@ module _ (s : Tests) (base expansion : List ℕ) (output : ℕ) (values : Values
     }
 
   -- nothing was put
-  module _ (k : SinkState) (none : answer_to s base values said ≡ []) where
+  module _ (k : SinkState) (none : answer_to s mode base values said ≡ []) where
     abbrev text : List ℕ
     text = at.rules.answer at.base at.between line
 
@@ -136,7 +135,7 @@ module _ (s : Tests) (base expansion : List ℕ) (output : ℕ) (values : Values
 
     -- a variable changed
     pub answers_nothing : (new : Values) → new ≡ after_line values said
-        → AnswersLine (IsExpandAt s base expansion output new) at line k k (Ok true)
+        → AnswersLine (IsExpandAt s mode base expansion output new) at line k k (Ok true)
     answers_nothing new after = record {
       puts = subst (λ t. PutsAnswer at.rules.is_good k k (at.rules.wants_memory at.base at.between line) t (Ok true)) (sym text_is)
           (Appends-none k.written, refl, ap (λ (x : Rules). x.is_good []) (sym is.rules));

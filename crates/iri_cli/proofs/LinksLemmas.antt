@@ -1,7 +1,7 @@
 -- The answers of `links`.
 use Rattle.iri_cli.proofs.Common.{◌≡◌, ◌≤◌, ◌<◌, ◌^◌, ◌∙◌, ℕ, List, ◌++◌, length, map, Option, None, Some}
 use Rattle.iri_cli.proofs.Common.{refl, sym, ap, arith, length-append, codes, decimal, length-decimal-le}
-use Rattle.iri_cli.proofs.Common.{ErrorKind, IsSpec, Tests, refusal, good_answer}
+use Rattle.iri_cli.proofs.Common.{CanonMode, ErrorKind, IsSpec, Tests, refusal, good_answer}
 use Rattle.iri_grammar.specs.ErrorTexts.{description}
 use Rattle.iri_grammar.specs.declared.error.ErrorKind.TheVariants.{InvalidScheme}
 use Rattle.iri_link.specs.ErrorTexts.{displayed, words}
@@ -12,51 +12,50 @@ use Rattle.iri_link.specs.Fault.{Told, field_fault}
 use Rattle.iri_link.specs.Field.{LinkValue}
 use Rattle.iri_link.specs.Links.{HasLinks}
 use Rattle.iri_link.specs.Readings.{links_in}
-use Rattle.iri_link.specs.Resolved.{IsRead, resolved}
+use Rattle.iri_link.specs.Resolved.{IsReadIn, resolved_in}
 use Rattle.iri_link.specs.Written.{written}
 use Rattle.iri_link.proofs.FieldLemmas.{links_of_faultless}
 use Rattle.iri_link.proofs.GrammarLemmas.{field-given, links_without_fault}
 use Rattle.iri_link.proofs.WrittenLemmas.{read_again}
-use Rattle.iri_percent.specs.declared.canon_mode.CanonMode.TheVariants.{Default}
 use Rattle.iri_cli.specs.links.Answers.{field_refusal, links_answer, links_line, unless_told}
 use Rattle.iri_cli.proofs.BytesLemmas.{base_absolute}
 
 -- the answer to a field value with these link-values
-pub links_answered : (s : Tests) (base line : List ℕ) (links : List LinkValue) → HasLinks s line links
-    → links_line s base links ≡ links_answer s base line
+pub links_answered : (s : Tests) (mode : CanonMode) (base line : List ℕ) (links : List LinkValue) → HasLinks s line links
+    → links_line s mode base links ≡ links_answer s mode base line
 unfolding links_answer
-links_answered s base line links has =
-    ap (links_line s base) (sym (field-given s line links has.field).0)
-    ∙ ap (λ f. unless_told f (links_line s base (links_in line))) (sym (links_without_fault s line links has))
+links_answered s mode base line links has =
+    ap (links_line s mode base) (sym (field-given s line links has.field).0)
+    ∙ ap (λ f. unless_told f (links_line s mode base (links_in line))) (sym (links_without_fault s line links has))
 
-pub read_answered : (s : Tests) (base line : List ℕ) (kept : List LinkValue) → IsRead s base line kept
-    → good_answer (written kept) ≡ links_answer s base line
-read_answered s base line kept read =
-    ap (λ ls. good_answer (written ls)) read.resolves ∙ links_answered s base line read.links read.has
+pub read_answered : (s : Tests) (mode : CanonMode) (base line : List ℕ) (kept : List LinkValue) → IsReadIn s mode base line kept
+    → good_answer (written kept) ≡ links_answer s mode base line
+read_answered s mode base line kept read =
+    ap (λ ls. good_answer (written ls)) read.resolves ∙ links_answered s mode base line read.links read.has
 
 -- the answer to a field value without a fault, which was found to be this text
-pub field_answered : (s : Tests) (base line field : List ℕ) → (field ≡ line) × (field_fault s line ≡ None)
-    → links_line s base (links_in field) ≡ links_answer s base line
+pub field_answered : (s : Tests) (mode : CanonMode) (base line field : List ℕ) → (field ≡ line) × (field_fault s line ≡ None)
+    → links_line s mode base (links_in field) ≡ links_answer s mode base line
 unfolding links_answer
-field_answered s base line field (same, none) =
-    ap (λ x. links_line s base (links_in x)) same ∙ ap (λ f. unless_told f (links_line s base (links_in line))) (sym none)
+field_answered s mode base line field (same, none) =
+    ap (λ x. links_line s mode base (links_in x)) same ∙ ap (λ f. unless_told f (links_line s mode base (links_in line))) (sym none)
 
 -- the answer to one that is refused
-pub refusal_answered : (s : Tests) (base line : List ℕ) (t : Told) → field_fault s line ≡ Some t → field_refusal t ≡ links_answer s base line
+pub refusal_answered : (s : Tests) (mode : CanonMode) (base line : List ℕ) (t : Told) → field_fault s line ≡ Some t → field_refusal t ≡ links_answer s mode base line
 unfolding links_answer
-refusal_answered s base line t is = ap (λ f. unless_told f (links_line s base (links_in line))) (sym is)
+refusal_answered s mode base line t is = ap (λ f. unless_told f (links_line s mode base (links_in line))) (sym is)
 
 -- a line that is no such field value
-pub others_refused : (s : Tests) (base line : List ℕ) → ((links : List LinkValue) → HasLinks s line links → ⊥)
-    → (t : Told) × (field_fault s line ≡ Some t) × (links_answer s base line ≡ field_refusal t)
+pub others_refused : (s : Tests) (mode : CanonMode) (base line : List ℕ) → ((links : List LinkValue) → HasLinks s line links → ⊥)
+    → (t : Told) × (field_fault s line ≡ Some t) × (links_answer s mode base line ≡ field_refusal t)
 unfolding links_answer
-others_refused s base line none = by_fault (field_fault s line) refl
+others_refused s mode base line none = by_fault (field_fault s line) refl
   where
     by_fault : (f : Option Told) → field_fault s line ≡ f
         → (t : Told) × (field_fault s line ≡ Some t)
-        × (unless_told (field_fault s line) (links_line s base (links_in line)) ≡ field_refusal t)
+        × (unless_told (field_fault s line) (links_line s mode base (links_in line)) ≡ field_refusal t)
     by_fault None is = absurd (none (links_in line) (links_of_faultless s line is))
-    by_fault (Some t) is = (t, is, ap (λ f. unless_told f (links_line s base (links_in line))) is)
+    by_fault (Some t) is = (t, is, ap (λ f. unless_told f (links_line s mode base (links_in line))) is)
 
 -- ---- the length of what is told of a fault
 kind_short : (k : ErrorKind) → length (codes "target " ++ description k) ≤ 54
@@ -74,10 +73,10 @@ displayed_short k place small =
     omega (arith, words_short k, sizes, length-append (codes " at ") (decimal place), digits)
 
 -- what is written of a field value is answered by itself
-pub answered_again : (s : Tests) → IsSpec s → (base other line : List ℕ) (links : List LinkValue) → refusal s base ≡ None
-    → HasLinks s line links → links_answer s other (written (map (resolved s base) links)) ≡ links_answer s base line
-answered_again s l base other line links taken has =
-    let kept = map (resolved s base) links in
-    let read : IsRead s base line kept = record { links = links; has = has; resolves = refl } in
-    sym (read_answered s other (written kept) kept (read_again s l Default base other (base_absolute s l base taken) line kept read))
-    ∙ read_answered s base line kept read
+pub answered_again : (s : Tests) → IsSpec s → (mode : CanonMode) (base other line : List ℕ) (links : List LinkValue) → refusal s base ≡ None
+    → HasLinks s line links → links_answer s mode other (written (map (resolved_in s mode base) links)) ≡ links_answer s mode base line
+answered_again s l mode base other line links taken has =
+    let kept = map (resolved_in s mode base) links in
+    let read : IsReadIn s mode base line kept = record { links = links; has = has; resolves = refl } in
+    sym (read_answered s mode other (written kept) kept (read_again s l mode base other (base_absolute s l base taken) line kept read))
+    ∙ read_answered s mode base line kept read

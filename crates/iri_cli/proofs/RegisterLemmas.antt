@@ -10,6 +10,7 @@ use Rattle.std.proofs.lemmas.List.{length-take-le, take_more, take-append-drop}
 use Rattle.std.proofs.lemmas.Grind.{flat_map-append}
 use Rattle.std.proofs.lemmas.Option.{slice_get_within, unwrap_or-slice_get}
 use Rattle.iri_grammar.specs.Characters.{comma}
+use Rattle.iri_percent.specs.declared.canon_mode.CanonMode.{CanonMode}
 use Rattle.iri_register.specs.Commands.{entries_of_commands}
 use Rattle.iri_register.specs.Entries.{Entry, entry_at}
 use Rattle.iri_register.specs.Kept.{Kept}
@@ -24,33 +25,33 @@ use Rattle.iri_cli.proofs.CanonLemmas.{line_room}
 
 -- ---- one line more
 
-pub commands_append : (s : Tests) (base : List ℕ) (n : ℕ) (before after : List (List ℕ))
-    → commands_from s base n (before ++ after) ≡ commands_from s base n before ++ commands_from s base (n + length before) after
-commands_append s base n [] after = let e : n ≡ n + 0 = omega arith in ap (λ k. commands_from s base k after) e
-commands_append s base n (line ∷ before) after =
+pub commands_append : (s : Tests) (mode : CanonMode) (base : List ℕ) (n : ℕ) (before after : List (List ℕ))
+    → commands_from s mode base n (before ++ after) ≡ commands_from s mode base n before ++ commands_from s mode base (n + length before) after
+commands_append s mode base n [] after = let e : n ≡ n + 0 = omega arith in ap (λ k. commands_from s mode base k after) e
+commands_append s mode base n (line ∷ before) after =
     let e : (n + 1) + length before ≡ n + suc (length before) = omega arith in
-    ap (λ cs. command_of s base n (line_of line) ++ cs) (commands_append s base (n + 1) before after
-    ∙ ap (λ k. commands_from s base (n + 1) before ++ commands_from s base k after) e)
-    ∙ sym (append_assoc (command_of s base n (line_of line)) (commands_from s base (n + 1) before)
-    (commands_from s base (n + suc (length before)) after))
+    ap (λ cs. command_of s mode base n (line_of line) ++ cs) (commands_append s mode base (n + 1) before after
+    ∙ ap (λ k. commands_from s mode base (n + 1) before ++ commands_from s mode base k after) e)
+    ∙ sym (append_assoc (command_of s mode base n (line_of line)) (commands_from s mode base (n + 1) before)
+    (commands_from s mode base (n + suc (length before)) after))
 
-commands_more : (s : Tests) (base : List ℕ) (n : ℕ) (between : List (List ℕ)) (line : List ℕ)
-    → commands_from s base n (between ++ line ∷ []) ≡ commands_from s base n between ++ command_of s base (n + length between) (line_of line)
-commands_more s base n between line =
-    commands_append s base n between (line ∷ [])
-    ∙ ap (λ cs. commands_from s base n between ++ cs) (append-nil (command_of s base (n + length between) (line_of line)))
+commands_more : (s : Tests) (mode : CanonMode) (base : List ℕ) (n : ℕ) (between : List (List ℕ)) (line : List ℕ)
+    → commands_from s mode base n (between ++ line ∷ []) ≡ commands_from s mode base n between ++ command_of s mode base (n + length between) (line_of line)
+commands_more s mode base n between line =
+    commands_append s mode base n between (line ∷ [])
+    ∙ ap (λ cs. commands_from s mode base n between ++ cs) (append-nil (command_of s mode base (n + length between) (line_of line)))
 
-pub entries_more : (s : Tests) (base : List ℕ) (between : List (List ℕ)) (line : List ℕ)
-    → entries_after s base (between ++ line ∷ [])
-    ≡ obeyed_by (entries_after s base between) (command_of s base (2 + length between) (line_of line))
+pub entries_more : (s : Tests) (mode : CanonMode) (base : List ℕ) (between : List (List ℕ)) (line : List ℕ)
+    → entries_after s mode base (between ++ line ∷ [])
+    ≡ obeyed_by (entries_after s mode base between) (command_of s mode base (2 + length between) (line_of line))
 unfolding entries_after
-entries_more s base between line =
-    ap entries_of_commands (commands_more s base 2 between line)
-    ∙ sym (obeyed_from (commands_from s base 2 between) (command_of s base (2 + length between) (line_of line)))
+entries_more s mode base between line =
+    ap entries_of_commands (commands_more s mode base 2 between line)
+    ∙ sym (obeyed_from (commands_from s mode base 2 between) (command_of s mode base (2 + length between) (line_of line)))
 
-entries_none : (s : Tests) (base : List ℕ) → entries_after s base [] ≡ []
+entries_none : (s : Tests) (mode : CanonMode) (base : List ℕ) → entries_after s mode base [] ≡ []
 unfolding entries_after
-entries_none s base = refl
+entries_none s mode base = refl
 
 -- ---- entries that were put
 
@@ -140,50 +141,53 @@ on_told good (Ok x) h = h
 on_told good (Err f) h = tt
 
 answer_is : (s : Tests) (against : List ℕ) (kept : Kept) (answered : ℕ) (at : Answering) (line text : List ℕ) → IsRegisterAt s against kept answered at
-    → text ≡ answer_to s kept.base kept.entries (line_of line) → text ≡ at.rules.answer at.base at.between line
+    → text ≡ answer_to s kept.mode kept.base kept.entries (line_of line) → text ≡ at.rules.answer at.base at.between line
 answer_is s against kept answered at line text is e =
-    e ∙ ap (λ es. answer_to s kept.base es (line_of line)) is.entries_are ∙ is.alike.answer at.between line
+    e ∙ ap (λ es. answer_to s kept.mode kept.base es (line_of line)) is.entries_are ∙ is.alike.answer at.between line
     ∙ ap (λ (rules : Rules). rules.answer at.base at.between line) (sym is.rules)
 
 next_at : (s : Tests) (against : List ℕ) (kept new : Kept) (answered count : ℕ) (at : Answering) (line : List ℕ) → IsRegisterAt s against kept answered at
-    → count ≡ answered + 1 → new.base ≡ kept.base
-    → new.entries ≡ obeyed_by kept.entries (command_of s kept.base (answered + 2) (line_of line))
+    → count ≡ answered + 1 → new.base ≡ kept.base → new.mode ≡ kept.mode
+    → new.entries ≡ obeyed_by kept.entries (command_of s kept.mode kept.base (answered + 2) (line_of line))
     → IsRegisterAt s against new count (record at { between = at.between ++ line ∷ [] })
-next_at s against kept new answered count at line is counted base entries = record {
-  rules = is.rules;
+next_at s against kept new answered count at line is counted base mode entries = record {
+  rules = is.rules ∙ ap (register_rules s) (sym mode);
   own = is.own ∙ sym base;
-  alike = subst (λ b. IsAlike (register_rules s) b at.base) (sym base) is.alike;
+  alike = subst (λ m. IsAlike (register_rules s m) new.base at.base) (sym mode)
+      (subst (λ b. IsAlike (register_rules s kept.mode) b at.base) (sym base) is.alike);
   entries_are =
       let number : answered + 2 ≡ 2 + length at.between = omega (arith, is.counted) in
-      entries ∙ ap (λ es. obeyed_by es (command_of s kept.base (answered + 2) (line_of line))) is.entries_are
-      ∙ ap (λ n. obeyed_by (entries_after s kept.base at.between) (command_of s kept.base n (line_of line))) number
-      ∙ sym (entries_more s kept.base at.between line) ∙ ap (λ b. entries_after s b (at.between ++ line ∷ [])) (sym base);
+      entries ∙ ap (λ es. obeyed_by es (command_of s kept.mode kept.base (answered + 2) (line_of line))) is.entries_are
+      ∙ ap (λ n. obeyed_by (entries_after s kept.mode kept.base at.between) (command_of s kept.mode kept.base n (line_of line))) number
+      ∙ sym (entries_more s kept.mode kept.base at.between line) ∙ ap (λ b. entries_after s kept.mode b (at.between ++ line ∷ [])) (sym base)
+      ∙ ap (λ m. entries_after s m new.base (at.between ++ line ∷ [])) (sym mode);
   counted = let size = length-append at.between (line ∷ []) in omega (arith, counted, is.counted, size);
 }
 
 pub answers_line : (s : Tests) (against : List ℕ) (kept new : Kept) (answered count : ℕ) (at : Answering) (line text : List ℕ)
     (ko kn : SinkState) (good : Bool) (r : Result (Unit {0}) Failed) → IsRegisterAt s against kept answered at
-    → count ≡ answered + 1 → new.base ≡ kept.base
-    → new.entries ≡ obeyed_by kept.entries (command_of s kept.base (answered + 2) (line_of line))
-    → text ≡ answer_to s kept.base kept.entries (line_of line) → good ≡ is_not_bad text → PutsAll ko kn r text
+    → count ≡ answered + 1 → new.base ≡ kept.base → new.mode ≡ kept.mode
+    → new.entries ≡ obeyed_by kept.entries (command_of s kept.mode kept.base (answered + 2) (line_of line))
+    → text ≡ answer_to s kept.mode kept.base kept.entries (line_of line) → good ≡ is_not_bad text → PutsAll ko kn r text
     → AnswersLine (IsRegisterAt s against new count) at line ko kn (said_good good r)
-answers_line s against kept new answered count at line text ko kn good r is counted base entries answer good_is p =
+answers_line s against kept new answered count at line text ko kn good r is counted base mode entries answer good_is p =
     let e = answer_is s against kept answered at line text is answer in
     let test : good ≡ at.rules.is_good text = good_is ∙ ap (λ (rules : Rules). rules.is_good text) (sym is.rules) in
     record {
       puts = subst (λ t. PutsAnswer at.rules.is_good ko kn (at.rules.wants_memory at.base at.between line) t (said_good good r)) e
           (said_of at.rules ko kn good r (at.rules.wants_memory at.base at.between line) text p test);
-      next = on_told good r (next_at s against kept new answered count at line is counted base entries);
+      next = on_told good r (next_at s against kept new answered count at line is counted base mode entries);
       room = subst (λ t. KeepsRoom ko.room_left kn.room_left t (said_good good r ≢ Err SinkFailed)) e (line_room good r text p);
     }
 
 -- an empty register stands after a base line, with a base that has its answers
-pub register_opened : (s : Tests) (kept : Kept) (line text : List ℕ) → IsAlike (register_rules s) text line → kept.base ≡ text → kept.entries ≡ []
-    → IsRegisterAt s text kept 0 (begun (register_rules s) line)
-register_opened s kept line text alike own none = record {
-  rules = refl;
+pub register_opened : (s : Tests) (mode : CanonMode) (kept : Kept) (line text : List ℕ) → IsAlike (register_rules s mode) text line → kept.base ≡ text
+    → kept.mode ≡ mode → kept.entries ≡ [] → IsRegisterAt s text kept 0 (begun (register_rules s mode) line)
+register_opened s mode kept line text alike own by none = record {
+  rules = ap (register_rules s) (sym by);
   own = sym own;
-  alike = subst (λ b. IsAlike (register_rules s) b line) (sym own) alike;
-  entries_are = none ∙ sym (entries_none s kept.base);
+  alike = subst (λ m. IsAlike (register_rules s m) kept.base line) (sym by)
+      (subst (λ b. IsAlike (register_rules s mode) b line) (sym own) alike);
+  entries_are = none ∙ sym (entries_none s kept.mode kept.base);
   counted = refl;
 }

@@ -1,6 +1,6 @@
 -- The answers of `robots`.
 use Rattle.iri_cli.proofs.Common.{◌≡◌, ◌↔◌, ◌&&◌, ℕ, Bool, true, false, List, [], ◌∷◌, ◌++◌, Option, Result, Ok, Err, refl, sym, ◌∙◌}
-use Rattle.iri_cli.proofs.Common.{ap, arith, subst, OnOk, length, nat_lt, nat_tests, append-nil, Tests, Parts, is_allowed}
+use Rattle.iri_cli.proofs.Common.{ap, arith, subst, OnOk, length, nat_lt, nat_tests, append-nil, Tests, CanonMode, Parts, is_allowed}
 use Rattle.iri_cli.proofs.Common.{PutsAll, SinkState, Failed, Appends-none, room-same, Answering, AnswersLine, PutsAnswer}
 use Rattle.iri_cli.proofs.Common.{said_good, Rules, answer_to, AnswerError, IsRobotsAt}
 use Rattle.std.proofs.lemmas.Grind.{flat_map-append}
@@ -60,10 +60,10 @@ unfolding records_after
 records_more between line =
     flat_map-append (λ l. fed (line_of l)) between (line ∷ []) ∙ ap (λ t. records_after between ++ t) (append-nil (fed (line_of line)))
 
-on_next : {s : Tests} {token base : List ℕ} {scheme authority : Option (List ℕ)} {records : List FileRecord} {at : Answering}
+on_next : {s : Tests} {mode : CanonMode} {token base : List ℕ} {scheme authority : Option (List ℕ)} {records : List FileRecord} {at : Answering}
     (new : List FileRecord) (line : List ℕ)
-    (r : Result Bool AnswerError) → IsRobotsAt s token base scheme authority records at → OnOk r (new ≡ records ++ fed (line_of line))
-    → OnOk r (IsRobotsAt s token base scheme authority new (record at { between = at.between ++ line ∷ [] }))
+    (r : Result Bool AnswerError) → IsRobotsAt s mode token base scheme authority records at → OnOk r (new ≡ records ++ fed (line_of line))
+    → OnOk r (IsRobotsAt s mode token base scheme authority new (record at { between = at.between ++ line ∷ [] }))
 on_next {at = at} new line (Ok good) is e = record {
   rules = is.rules;
   alike = is.alike;
@@ -72,14 +72,14 @@ on_next {at = at} new line (Ok good) is e = record {
 }
 on_next new line (Err x) is e = tt
 
-pub answers_line : (s : Tests) (token base : List ℕ) (scheme authority : Option (List ℕ)) (records new : List FileRecord) (at : Answering) (line text : List ℕ)
-    (ko kn : SinkState) (r : Result Bool AnswerError) → IsRobotsAt s token base scheme authority records at
-    → text ≡ answer_to s token base records (line_of line) → OnOk r (new ≡ records ++ fed (line_of line))
+pub answers_line : (s : Tests) (mode : CanonMode) (token base : List ℕ) (scheme authority : Option (List ℕ)) (records new : List FileRecord) (at : Answering) (line text : List ℕ)
+    (ko kn : SinkState) (r : Result Bool AnswerError) → IsRobotsAt s mode token base scheme authority records at
+    → text ≡ answer_to s mode token base records (line_of line) → OnOk r (new ≡ records ++ fed (line_of line))
     → (r ≡ Err Memory → takes_memory s (line_of line) ≡ true) → PutsReply ko kn text r
-    → AnswersLine (IsRobotsAt s token base scheme authority new) at line ko kn r
-answers_line s token base scheme authority records new at line text ko kn r is answer e wants p =
+    → AnswersLine (IsRobotsAt s mode token base scheme authority new) at line ko kn r
+answers_line s mode token base scheme authority records new at line text ko kn r is answer e wants p =
     let whole : text ≡ at.rules.answer at.base at.between line =
-    answer ∙ ap (λ rs. answer_to s token base rs (line_of line)) is.records_are ∙ is.alike.answer at.between line
+    answer ∙ ap (λ rs. answer_to s mode token base rs (line_of line)) is.records_are ∙ is.alike.answer at.between line
     ∙ ap (λ (rules : Rules). rules.answer at.base at.between line) (sym is.rules) in
     let takes = at.rules.wants_memory at.base at.between line in
     record {

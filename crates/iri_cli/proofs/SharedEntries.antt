@@ -1,5 +1,5 @@
 -- Lines that stand in one entry of `register`, by their numbers.
-use Rattle.iri_cli.proofs.Common.{Tests, bytes_fault, reference_fault, ErrorKind, canonical, line_of, command_of, commands_from}
+use Rattle.iri_cli.proofs.Common.{Tests, bytes_fault, reference_fault, ErrorKind, CanonMode, canonical_in, line_of, command_of, commands_from}
 use Rattle.std.proofs.Common.{◌≡◌, ◌↔◌, ◌⊎◌, ℕ, zero, suc, ◌+◌, ◌≤◌, List, [], ◌∷◌, ◌++◌, map, filter, true, false, cond, bytes_eq, not}
 use Rattle.std.proofs.Common.{Option, Some, None, slice_get, refl, sym, ◌∙◌, ap, subst, arith, inl, inr, ⊎_elim}
 use Rattle.std.specs.Prelude.{Contains}
@@ -104,9 +104,9 @@ targets_has (k ∷ ls) l h = ⊎_elim
     (first_or k ls l h)
 
 -- ---- numbers are those of lines
-module _ (s : Tests) (base : List ℕ) where
+module _ (s : Tests) (mode : CanonMode) (base : List ℕ) where
   abbrev target_of : RegisterLine → List ℕ
-  target_of (adds r) = canonical s base r
+  target_of (adds r) = canonical_in s mode base r
   target_of (removes r) = []
   target_of (finds r) = []
   target_of bad = []
@@ -116,39 +116,39 @@ module _ (s : Tests) (base : List ℕ) where
   First n x cs l = (record { target = target_of x; number = n } ≡ l) ⊎ Contains (live cs) l
 
   added_first : (n : ℕ) (r : List ℕ) (f : Option ErrorKind) (cs : List Command) (l : Line)
-      → Contains (live (unless_fault f (Add (canonical s base r) n) ++ cs)) l → First n (adds r) cs l
+      → Contains (live (unless_fault f (Add (canonical_in s mode base r) n) ++ cs)) l → First n (adds r) cs l
   added_first n r (Some kind) cs l h = inr h
   added_first n r None cs l h =
-      elim (stays (canonical s base r) cs) as (λ b. Contains (cond b (record { target = canonical s base r; number = n } ∷ live cs) (live cs)) l
+      elim (stays (canonical_in s mode base r) cs) as (λ b. Contains (cond b (record { target = canonical_in s mode base r; number = n } ∷ live cs) (live cs)) l
       → First n (adds r) cs l) [
-        | true ↦ λ c. first_or (record { target = canonical s base r; number = n }) (live cs) l c
+        | true ↦ λ c. first_or (record { target = canonical_in s mode base r; number = n }) (live cs) l c
         | false ↦ λ c. inr c
       ] h
 
   removed_first : (n : ℕ) (r : List ℕ) (f : Option ErrorKind) (cs : List Command) (l : Line)
-      → Contains (live (unless_fault f (Remove (canonical s base r)) ++ cs)) l → First n (removes r) cs l
+      → Contains (live (unless_fault f (Remove (canonical_in s mode base r)) ++ cs)) l → First n (removes r) cs l
   removed_first n r (Some kind) cs l h = inr h
   removed_first n r None cs l h = inr h
 
-  live_first : (n : ℕ) (x : RegisterLine) (cs : List Command) (l : Line) → Contains (live (command_of s base n x ++ cs)) l → First n x cs l
+  live_first : (n : ℕ) (x : RegisterLine) (cs : List Command) (l : Line) → Contains (live (command_of s mode base n x ++ cs)) l → First n x cs l
   live_first n (adds r) cs l h = added_first n r (bytes_fault (reference_fault s) r) cs l h
   live_first n (removes r) cs l h = removed_first n r (bytes_fault (reference_fault s) r) cs l h
   live_first n (finds r) cs l h = inr h
   live_first n bad cs l h = inr h
 
-  numbered_later : (n : ℕ) (lines : List (List ℕ)) (l : Line) → Contains (live (commands_from s base n lines)) l → n ≤ l.number
+  numbered_later : (n : ℕ) (lines : List (List ℕ)) (l : Line) → Contains (live (commands_from s mode base n lines)) l → n ≤ l.number
   numbered_later n [] l h = absurd (none l h)
   numbered_later n (line ∷ lines) l h = ⊎_elim
       (λ is. let number : n ≡ l.number = ap (λ (x : Line). x.number) is in omega (arith, number))
       (λ rest. let later = numbered_later (n + 1) lines l rest in omega (arith, later))
-      (live_first n (line_of line) (commands_from s base (n + 1) lines) l h)
+      (live_first n (line_of line) (commands_from s mode base (n + 1) lines) l h)
 
   -- one number has one target
-  one_target : (n : ℕ) (lines : List (List ℕ)) (a b : Line) → Contains (live (commands_from s base n lines)) a
-      → Contains (live (commands_from s base n lines)) b → a.number ≡ b.number → a.target ≡ b.target
+  one_target : (n : ℕ) (lines : List (List ℕ)) (a b : Line) → Contains (live (commands_from s mode base n lines)) a
+      → Contains (live (commands_from s mode base n lines)) b → a.number ≡ b.number → a.target ≡ b.target
   one_target n [] a b h i e = absurd (none a h)
   one_target n (line ∷ lines) a b h i e =
-      let first = live_first n (line_of line) (commands_from s base (n + 1) lines) in
+      let first = live_first n (line_of line) (commands_from s mode base (n + 1) lines) in
       ⊎_elim
       (λ p. ⊎_elim (λ q. ap (λ (x : Line). x.target) (sym p ∙ q))
       (λ q.
@@ -170,22 +170,22 @@ module _ (s : Tests) (base : List ℕ) where
   abbrev entry_of : List Line → List ℕ → Entry
   entry_of ls t = record { target = t; lines = numbers t ls }
 
-  together_equal : (lines : List (List ℕ)) (a b : Line) → Contains (live (commands_from s base 2 lines)) a
-      → Contains (live (commands_from s base 2 lines)) b
-      → Together (entries_of_lines (live (commands_from s base 2 lines))) a.number b.number → a.target ≡ b.target
+  together_equal : (lines : List (List ℕ)) (a b : Line) → Contains (live (commands_from s mode base 2 lines)) a
+      → Contains (live (commands_from s mode base 2 lines)) b
+      → Together (entries_of_lines (live (commands_from s mode base 2 lines))) a.number b.number → a.target ≡ b.target
   together_equal lines a b h i e =
-      let ls = live (commands_from s base 2 lines) in
+      let ls = live (commands_from s mode base 2 lines) in
       let t = map_of (entry_of ls) (targets ls) e.0 e.1 in
       let p = numbers_of t.0 ls a.number (subst (λ (x : Entry). Contains x.lines a.number) (sym t.1) e.2) in
       let q = numbers_of t.0 ls b.number (subst (λ (x : Entry). Contains x.lines b.number) (sym t.1) e.3) in
       one_target 2 lines a p.line h p.contained (sym p.number) ∙ p.target ∙ sym q.target
       ∙ one_target 2 lines q.line b q.contained i q.number
 
-  equal_together : (lines : List (List ℕ)) (a b : Line) → Contains (live (commands_from s base 2 lines)) a
-      → Contains (live (commands_from s base 2 lines)) b → a.target ≡ b.target
-      → Together (entries_of_lines (live (commands_from s base 2 lines))) a.number b.number
+  equal_together : (lines : List (List ℕ)) (a b : Line) → Contains (live (commands_from s mode base 2 lines)) a
+      → Contains (live (commands_from s mode base 2 lines)) b → a.target ≡ b.target
+      → Together (entries_of_lines (live (commands_from s mode base 2 lines))) a.number b.number
   equal_together lines a b h i e =
-      let ls = live (commands_from s base 2 lines) in (
+      let ls = live (commands_from s mode base 2 lines) in (
         entry_of ls a.target,
         mapped (entry_of ls) (targets ls) a.target (targets_has ls a h),
         numbers_has a.target ls a h (same a.target),
@@ -193,7 +193,7 @@ module _ (s : Tests) (base : List ℕ) where
       )
 
   -- two live lines stand in one entry exactly where their targets are equal
-  pub together_exactly : (lines : List (List ℕ)) (a b : Line) → Contains (live (commands_from s base 2 lines)) a
-      → Contains (live (commands_from s base 2 lines)) b
-      → Together (entries_of_lines (live (commands_from s base 2 lines))) a.number b.number ↔ (a.target ≡ b.target)
+  pub together_exactly : (lines : List (List ℕ)) (a b : Line) → Contains (live (commands_from s mode base 2 lines)) a
+      → Contains (live (commands_from s mode base 2 lines)) b
+      → Together (entries_of_lines (live (commands_from s mode base 2 lines))) a.number b.number ↔ (a.target ≡ b.target)
   together_exactly lines a b h i = (together_equal lines a b h i, equal_together lines a b h i)

@@ -1,7 +1,7 @@
 -- What is said of the answers of the tools' commands.
 use Rattle.iri_cli.proofs.Common.{◌≡◌, ℕ, Bool, true, false, List, length, Option, None, Some, Result, Ok, Err, refl, sym, ◌∙◌, ap}
 use Rattle.iri_cli.proofs.Common.{arith, nat_lt, if◌then◌else◌, nat_tests, expansion_limit, both, IsSpec, Tests, Parts}
-use Rattle.iri_cli.proofs.Common.{split_of, canonical, is_allowed, expansion, pieces_of, docs_answer, read_answer, template_answer}
+use Rattle.iri_cli.proofs.Common.{split_of, CanonMode, canonical_in, is_allowed, expansion, pieces_of, docs_answer, read_answer, template_answer}
 use Rattle.std.proofs.lemmas.Slice.Eq.{bytes_eq-Decides}
 use Rattle.iri_docs.specs.Documents.{line_document, unless}
 use Rattle.iri_docs.specs.Expanded.{within_limit}
@@ -29,19 +29,19 @@ use Rattle.iri_cli.proofs.LinksLemmas.{answered_again, links_answered, others_re
 use Rattle.iri_cli.proofs.RegisterLaws.{shared_by_steps, shared_by_targets}
 
 -- ---- `links`
-pub answers_are_links : (s : Tests) → IsSpec s → AnswersAreLinks s
-answers_are_links s k = record {
+pub answers_are_links : (s : Tests) (mode : CanonMode) → IsSpec s → AnswersAreLinks s mode
+answers_are_links s mode k = record {
   one = one_list s;
-  links = λ base line ls has. sym (links_answered s base line ls has);
-  others = others_refused s;
-  again = answered_again s k;
+  links = λ base line ls has. sym (links_answered s mode base line ls has);
+  others = others_refused s mode;
+  again = answered_again s k mode;
 }
 
 -- ---- `register`
-pub live_lines_share_entries : (s : Tests) → IsSpec s → LiveLinesShareEntries s
-live_lines_share_entries s k = record {
-  targets = λ base. shared_by_targets s base;
-  steps = λ base. shared_by_steps s base k;
+pub live_lines_share_entries : (s : Tests) (mode : CanonMode) → IsSpec s → LiveLinesShareEntries s mode
+live_lines_share_entries s mode k = record {
+  targets = λ base. shared_by_targets s mode base;
+  steps = λ base. shared_by_steps s mode base k;
 }
 
 -- ---- `docs`
@@ -60,15 +60,15 @@ by_fault : (s : Tests) (d : Held) (f : Option Error) → template_fault d.templa
 by_fault s d (Some e) is = no_template e (λ t. let none = template_has_no_fault t.0 d.template t.1 in cc (none, is)) is
 by_fault s d None is = by_type s d (pieces_of d.template) (no_fault_is_template d.template is) _ refl
 
-by_document : (s : Tests) (base line : List ℕ) (r : Result Held DocError) → line_document line ≡ r
-    → IsDocumentAnswer s base line (read_answer s base r)
+by_document : (s : Tests) (mode : CanonMode) (base line : List ℕ) (r : Result Held DocError) → line_document line ≡ r
+    → IsDocumentAnswer s mode base line (read_answer s mode base r)
 unfolding template_answer
-by_document s base line (Ok d) is = document d _ is (by_fault s d (template_fault d.template) refl)
-by_document s base line (Err e) is = no_document e is
+by_document s mode base line (Ok d) is = document d _ is (by_fault s d (template_fault d.template) refl)
+by_document s mode base line (Err e) is = no_document e is
 
-pub answers_are_expansions : (s : Tests) → AnswersAreExpansions s
+pub answers_are_expansions : (s : Tests) (mode : CanonMode) → AnswersAreExpansions s mode
 unfolding docs_answer
-answers_are_expansions s base line = by_document s base line (line_document line) refl
+answers_are_expansions s mode base line = by_document s mode base line (line_document line) refl
 
 -- ---- `robots`
 part_is : (x y : Option (List ℕ)) → same_part x y ≡ true → x ≡ y
@@ -101,17 +101,17 @@ module _ (base : Parts) (rules : List FileRule) (target : Parts) where
       disallow (site_is base target s) (λ k. let t = (allowed_is rules (subject target)).1 k in cc)
   verdict_is false allowed s a = other (λ k. let t = is_site base target k in cc)
 
-pub answers_are_verdicts : (s : Tests) (token : List ℕ) → AnswersAreVerdicts s token
-answers_are_verdicts s token base line reference between asks none =
-    let normal = normal_base s base in
+pub answers_are_verdicts : (s : Tests) (mode : CanonMode) (token : List ℕ) → AnswersAreVerdicts s mode token
+answers_are_verdicts s mode token base line reference between asks none =
+    let normal = normal_base s mode base in
     let records = records_after between in
     let rules = rules_for token records in
-    let target = canonical s base reference in
+    let target = canonical_in s mode base reference in
     let same = same_site (split_of normal) (split_of target) in
     let allowed = is_allowed rules (subject (split_of target)) in
     record {
       word = verdict_word same allowed;
       verdict = verdict_is (split_of normal) rules (split_of target) same allowed refl refl;
-      answer_is = ap (answer_to s token base records) asks
+      answer_is = ap (answer_to s mode token base records) asks
           ∙ ap (λ f. unless_bad f (target_answer token normal records target)) none;
     }

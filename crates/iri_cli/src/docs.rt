@@ -5,12 +5,13 @@ ghost use Rattle.iri_text.specs.LineEnds.{line_feed};
 ghost use Rattle.iri_text.specs.Sink.{PutsAll, sink_state};
 
 use crate::expand::put_template;
-use crate::run::answers::{AnswerError, Answers};
+use crate::run::answers::{AnswerError, Answers, Setup};
 use crate::run::puts::say_good;
 use iri_docs::doc_error::DocError;
 use iri_docs::expand::EXPANSION_LIMIT;
 use iri_docs::read::read_document;
 use iri_grammar::spec::Spec;
+use iri_normal::mode::CanonMode;
 use iri_normal::resolver::FixedBaseResolver;
 use iri_text::{Failed, Sink};
 use std::alloc::{AllocError, Global};
@@ -28,32 +29,35 @@ fn put_refusal<O: Sink>(sink: &mut O, error: DocError) -> Result<(), Failed>
 #[derive(Drop)]
 pub struct Docs {
     alloc: Global,
+    mode: CanonMode,
     expansion: Vec<u8>,
     output: Vec<u8>,
 }
 
 impl<S: Spec> Answers<S> for Docs {
-    type Start = Global;
+    type Start = Setup;
 
     ghost use Rattle.std.specs.Prelude.{refl};
     ghost use Rattle.std.specs.Vec.{vec_capacity};
     ghost use Rattle.iri_cli.specs.inside.DocsAt.{IsDocsAt};
     ghost use Rattle.iri_cli.specs.docs.Rules.{docs_rules};
 
-    ghost rules = { λ alloc. docs_rules S.tests };
+    ghost rules = { λ setup. docs_rules S.tests setup.mode };
 
-    ghost begins = { λ alloc. record { line_limit = refl; input_limit = refl; refusal = refl } };
+    ghost begins = { λ setup. record { line_limit = refl; input_limit = refl; refusal = refl } };
 
-    ghost stands_at = { λ d base at. IsDocsAt S.tests base d.expansion.items
+    ghost stands_at = { λ d base at. IsDocsAt S.tests d.mode base d.expansion.items
         (vec_capacity d.output) at };
 
     fn open(
-        alloc: Global,
+        setup: Setup,
         _resolver: &FixedBaseResolver<'_, S>,
         output: Vec<u8>,
     ) -> Result<Self, AllocError> {
+        let Setup { alloc, mode } = setup;
         Ok(Docs {
             alloc,
+            mode,
             expansion: vec![in alloc; 0; EXPANSION_LIMIT]?,
             output,
         })
@@ -70,6 +74,7 @@ impl<S: Spec> Answers<S> for Docs {
                 sink,
                 &mut self.output,
                 &mut self.expansion,
+                self.mode,
                 *resolver,
                 document.context(),
                 document.template().as_bytes(),

@@ -21,7 +21,7 @@ pub(crate) mod variables;
 use crate::canon::put_answer;
 use crate::expand::line::{Said, line_of};
 use crate::expand::variables::apply;
-use crate::run::answers::{AnswerError, Answers};
+use crate::run::answers::{AnswerError, Answers, Setup};
 use crate::run::puts::{put_bad_line, put_number, say_good};
 use iri_docs::expand::EXPANSION_LIMIT;
 use iri_grammar::spec::Spec;
@@ -46,11 +46,12 @@ fn put_refusal<O: Sink>(sink: &mut O, error: Error) -> Result<(), Failed>
     sink.put_all(b"\n")
 }
 
-// Puts the answer to an expansion, and says whether it is good. Two buffers have room for the expansion, and for its answer.
+// Puts the answer to an expansion by the rules of a mode, and says whether it is good. Two buffers have room for the expansion, and for its answer.
 fn put_expansion<S: Spec, O: Sink>(
     sink: &mut O,
     output: &mut Vec<u8>,
     expansion: &mut [u8],
+    mode: CanonMode,
     resolver: FixedBaseResolver<'_, S>,
     expanded: &Expanded<'_, S, SimpleContext>,
 ) -> Result<bool, AnswerError>
@@ -59,32 +60,27 @@ fn put_expansion<S: Spec, O: Sink>(
     requires room { length expansion.old ≡ expansion_limit }
     requires output_room { answer_room ≤ vec_capacity output.old }
     ensures puts { let state = sink_state O.written O.faults O.room_left in
-        PutsAnswer is_ok (state sink.old) (state sink.new) false (expansion_answer S.tests
+        PutsAnswer is_ok (state sink.old) (state sink.new) false (expansion_answer S.tests mode
         (base_text resolver.entry) (within_limit (expanded_text S.tests value_in expanded.now)))
         result }
     ensures room { KeepsRoom (O.room_left sink.old) (O.room_left sink.new)
-        (expansion_answer S.tests (base_text resolver.entry)
+        (expansion_answer S.tests mode (base_text resolver.entry)
         (within_limit (expanded_text S.tests value_in expanded.now)))
         (result ≢ Err SinkFailed) }
     ensures capacity { vec_capacity output.old ≤ vec_capacity output.new }
 {
     match write_to_slice(expansion, expanded) {
-        Ok(text) => put_answer::<S, O>(
-            sink,
-            output,
-            CanonMode::Default,
-            &resolver,
-            text.as_bytes(),
-        ),
+        Ok(text) => put_answer::<S, O>(sink, output, mode, &resolver, text.as_bytes()),
         Err(CapacityOverflowError) => say_good(false, sink.put_all(b"bad expansion too long\n")),
     }
 }
 
-// Puts the answer to a template with these values, and says whether it is good.
+// Puts the answer to a template with these values by the rules of a mode, and says whether it is good.
 pub(crate) fn put_template<'a, S: Spec, O: Sink>(
     sink: &mut O,
     output: &mut Vec<u8>,
     expansion: &mut [u8],
+    mode: CanonMode,
     resolver: FixedBaseResolver<'_, S>,
     values: &'a SimpleContext,
     template: &'a [u8],
@@ -94,30 +90,32 @@ pub(crate) fn put_template<'a, S: Spec, O: Sink>(
     requires room { length expansion.old ≡ expansion_limit }
     requires output_room { answer_room ≤ vec_capacity output.old }
     ensures puts { let state = sink_state O.written O.faults O.room_left in
-        PutsAnswer is_ok (state sink.old) (state sink.new) false (template_answer S.tests
+        PutsAnswer is_ok (state sink.old) (state sink.new) false (template_answer S.tests mode
         (base_text resolver.entry) (value_in values.now) template.now) result }
     ensures room { KeepsRoom (O.room_left sink.old) (O.room_left sink.new)
-        (template_answer S.tests (base_text resolver.entry) (value_in values.now) template.now)
+        (template_answer S.tests mode (base_text resolver.entry) (value_in values.now) template.now)
         (result ≢ Err SinkFailed) }
     ensures capacity { vec_capacity output.old ≤ vec_capacity output.new }
 {
     match Expanded::<'_, S, SimpleContext>::try_from_bytes(template, values) {
-        Ok(expanded) => put_expansion(sink, output, expansion, resolver, &expanded),
+        Ok(expanded) => put_expansion(sink, output, expansion, mode, resolver, &expanded),
         Err(error) => say_good(false, put_refusal(sink, error)),
     }
 }
 
-/// Keeps the values of variables, and answers each template by the canonical text of its expansion against a base.
+/// Keeps the values of variables, and answers each template by the canonical text of its expansion against a base, by the
+/// rules of a mode.
 #[derive(Drop)]
 pub struct Expand {
     alloc: Global,
+    mode: CanonMode,
     values: SimpleContext,
     expansion: Vec<u8>,
     output: Vec<u8>,
 }
 
 impl<S: Spec> Answers<S> for Expand {
-    type Start = Global;
+    type Start = Setup;
 
     ghost use Rattle.std.specs.Prelude.{refl};
     ghost use Rattle.std.specs.Vec.{vec_capacity};
@@ -125,20 +123,22 @@ impl<S: Spec> Answers<S> for Expand {
     ghost use Rattle.iri_cli.specs.inside.ExpandAt.{IsExpandAt};
     ghost use Rattle.iri_cli.specs.expand.Rules.{expand_rules};
 
-    ghost rules = { λ alloc. expand_rules S.tests };
+    ghost rules = { λ setup. expand_rules S.tests setup.mode };
 
-    ghost begins = { λ alloc. record { line_limit = refl; input_limit = refl; refusal = refl } };
+    ghost begins = { λ setup. record { line_limit = refl; input_limit = refl; refusal = refl } };
 
-    ghost stands_at = { λ e base at. IsExpandAt S.tests base e.expansion.items
+    ghost stands_at = { λ e base at. IsExpandAt S.tests e.mode base e.expansion.items
         (vec_capacity e.output) (value_in e.values) at };
 
     fn open(
-        alloc: Global,
+        setup: Setup,
         _resolver: &FixedBaseResolver<'_, S>,
         output: Vec<u8>,
     ) -> Result<Self, AllocError> {
+        let Setup { alloc, mode } = setup;
         Ok(Expand {
             alloc,
+            mode,
             values: SimpleContext::new(alloc),
             expansion: vec![in alloc; 0; EXPANSION_LIMIT]?,
             output,
@@ -160,6 +160,7 @@ impl<S: Spec> Answers<S> for Expand {
                 sink,
                 &mut self.output,
                 &mut self.expansion,
+                self.mode,
                 *resolver,
                 &self.values,
                 template,

@@ -20,17 +20,17 @@ pub enum Notice {
 /// The text of `--help`. Its lines after two spaces and the program's name tell the commands.
 pub const HELP: &str = "\
 irikit: canonical texts of URI and IRI references (RFC 3986, RFC 3987)
-  irikit canon GRAMMAR          answers each reference line by its canonical text against a base
-  irikit canon GRAMMAR scheme   the same by the rules of five schemes too: default ports go, empty paths become / (RFC 3986 6.2.3)
-  irikit expand GRAMMAR         answers each URI template by the canonical text of its expansion (RFC 6570)
-  irikit register GRAMMAR       keeps each link once, with the numbers of its lines, and writes them at the end
-  irikit links GRAMMAR          answers the value of each Link header field by its links in one form (RFC 8288)
-  irikit docs GRAMMAR           answers each line of JSON, a template and its variables, by the canonical text as expand does
-  irikit robots GRAMMAR TOKEN   tells for each link whether a robots file allows the crawler TOKEN to fetch it (RFC 9309)
-  irikit gen GRAMMAR N          makes N references (from 1 to 100000) and tells of their canonical texts; reads nothing
-  irikit --help                 writes this text
-  irikit --version              writes the version
-GRAMMAR is uri or iri. The first line of the input is the base; each line after it has one answer line at most.
+  irikit canon GRAMMAR [scheme]          answers each reference line by its canonical text against a base
+  irikit expand GRAMMAR [scheme]         answers each URI template by the canonical text of its expansion (RFC 6570)
+  irikit register GRAMMAR [scheme]       keeps each link once, with the numbers of its lines, and writes them at the end
+  irikit links GRAMMAR [scheme]          answers the value of each Link header field by its links in one form (RFC 8288)
+  irikit docs GRAMMAR [scheme]           answers each line of JSON, a template and its variables, by the canonical text as expand does
+  irikit robots GRAMMAR TOKEN [scheme]   tells for each link whether a robots file allows the crawler TOKEN to fetch it (RFC 9309)
+  irikit gen GRAMMAR N                   makes N references (from 1 to 100000) and tells of their canonical texts; reads nothing
+  irikit --help                          writes this text
+  irikit --version                       writes the version
+GRAMMAR is uri or iri. With scheme canonical texts are by the rules of five schemes too: default ports go, empty paths become /
+  (RFC 3986 6.2.3). The first line of the input is the base; each line after it has one answer line at most.
 Lines of expand: 's NAME VALUE' sets a string, 'l NAME ITEM' adds to a list, 'a NAME KEY VALUE' adds a pair,
   'u NAME' unsets, and 't TEMPLATE' is answered; of register: 'a REF' adds, 'd REF' removes, 'f REF' finds a link;
   of robots: 'r LINE' feeds a line of the file, 'u REF' asks for a link

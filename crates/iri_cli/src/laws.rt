@@ -48,22 +48,22 @@ pub fn prepared_base_has_the_same_answers<S: Spec>()
         ≡ canonical_in S.tests mode base reference }
     ensures answers { (mode : CanonMode) (base line : List ℕ) → refusal S.tests base ≡ None
         → answer_in S.tests mode (prepared S.tests base) line ≡ answer_in S.tests mode base line }
-    ensures commands { (command : LineCommand) (base : List ℕ) → refusal S.tests base ≡ None
-        → IsAlike (rules_of command S.tests) (prepared S.tests base) base }
+    ensures commands { (command : LineCommand) (mode : CanonMode) (base : List ℕ) → refusal S.tests base ≡ None
+        → IsAlike (rules_of command S.tests mode) (prepared S.tests base) base }
 {}
 
 /// Two live lines of `register`, which add links that no line after them takes out, share an entry
-/// exactly where their canonical targets are equal, and that is exactly where steps join the
+/// exactly where their canonical targets are equal, and that is exactly where steps of the mode join the
 /// targets of their references.
 pub fn live_lines_share_an_entry<S: Spec>()
-    ensures { LiveLinesShareEntries S.tests }
+    ensures { (mode : CanonMode) → LiveLinesShareEntries S.tests mode }
 {}
 
 /// `links` answers a field value whose targets are URI-references by its one list of link-values,
 /// with their canonical targets, and every other line by a fault. What it writes of a field value
 /// is answered by itself, against every base.
 pub fn field_values_are_answered<S: Spec>()
-    ensures { AnswersAreLinks S.tests }
+    ensures { (mode : CanonMode) → AnswersAreLinks S.tests mode }
 {}
 
 /// Each reference that `gen` makes is a URI-reference, and its base is an absolute URI: so each has

@@ -9,9 +9,8 @@
 //! - [`CanonBuffers`](CanonBuffers) is the memory that every command over lines takes before it reads,
 //!   and all that `canon` needs: [`canon_lines`](canon_lines) answers the lines of a source with it,
 //!   each reference line by its canonical text against the base line (RFC 3986 section 5 and section
-//!   6.2.2; RFC 3987). [`canon_lines_in`](canon_lines_in) does the same by the rules of a mode, which
-//!   the word `scheme` names in the commands `canon uri scheme` and `canon iri scheme` (section
-//!   6.2.3).
+//!   6.2.2; RFC 3987). [`canon_lines_in`](canon_lines_in) does the same by the rules of a mode. Of
+//!   every command over lines the last word `scheme` names that by scheme rules (section 6.2.3).
 //! - `expand` keeps the values that lines give variables, and answers each URI template by the
 //!   canonical text of its expansion (RFC 6570) against the base line.
 //! - `register` keeps each canonical link once, with the numbers of its lines, and writes them at

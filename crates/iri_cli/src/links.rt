@@ -6,14 +6,15 @@ ghost use Rattle.iri_link.specs.Readings.{links_in};
 ghost use Rattle.iri_normal.specs.Resolver.{base_text};
 ghost use Rattle.iri_cli.specs.links.Answers.{field_refusal, links_line, links_text};
 
-use crate::run::answers::{AnswerError, Answers};
+use crate::run::answers::{AnswerError, Answers, Setup};
 use crate::run::puts::{put_bad, say_good};
 use crate::run::sink_text::SinkText;
 use iri_grammar::spec::Spec;
-use iri_link::{LinkError, LinkKind, check_field, show_links_against};
+use iri_link::{LinkError, LinkKind, check_field, show_links_against_in};
+use iri_normal::mode::CanonMode;
 use iri_normal::resolver::FixedBaseResolver;
 use iri_text::{Failed, Sink, write_to_slice};
-use std::alloc::{AllocError, Global};
+use std::alloc::AllocError;
 
 // Puts the answer to a line that has a fault. It takes no memory.
 fn put_fault<O: Sink>(sink: &mut O, kind: LinkKind, place: usize) -> Result<(), Failed>
@@ -31,16 +32,17 @@ fn put_fault<O: Sink>(sink: &mut O, kind: LinkKind, place: usize) -> Result<(), 
 // Puts the written form of the links of a field value without a fault.
 fn put_written<S: Spec, O: Sink>(
     sink: &mut O,
+    mode: CanonMode,
     resolver: &FixedBaseResolver<'_, S>,
     field: &str,
 ) -> Result<(), Failed>
     requires { field_fault S.tests field.now ≡ None }
     ensures { let state = sink_state O.written O.faults O.room_left in
         PutsAll (state sink.old) (state sink.new) result
-        (links_text S.tests (base_text resolver.now) (links_in field.now)) }
+        (links_text S.tests mode (base_text resolver.now) (links_in field.now)) }
 {
     let mut text = SinkText::new(sink);
-    match show_links_against(&mut text, resolver, field) {
+    match show_links_against_in(&mut text, mode, resolver, field) {
         Ok(()) => Ok(()),
         Err(_) => Err(Failed),
     }
@@ -49,44 +51,48 @@ fn put_written<S: Spec, O: Sink>(
 // Puts the answer to a field value without a fault.
 fn put_links<S: Spec, O: Sink>(
     sink: &mut O,
+    mode: CanonMode,
     resolver: &FixedBaseResolver<'_, S>,
     field: &str,
 ) -> Result<(), Failed>
     requires { field_fault S.tests field.now ≡ None }
     ensures { let state = sink_state O.written O.faults O.room_left in
         PutsAll (state sink.old) (state sink.new) result
-        (links_line S.tests (base_text resolver.now) (links_in field.now)) }
+        (links_line S.tests mode (base_text resolver.now) (links_in field.now)) }
 {
     sink.put_all(b"ok ")?;
-    put_written(sink, resolver, field)?;
+    put_written(sink, mode, resolver, field)?;
     sink.put_all(b"\n")
 }
 
 /// Answers the value of a `Link` field by its links, with their canonical targets, in one written
 /// form.
 #[derive(Drop)]
-pub struct Links;
+pub struct Links {
+    mode: CanonMode,
+}
 
 impl<S: Spec> Answers<S> for Links {
-    type Start = Global;
+    type Start = Setup;
 
     ghost use Rattle.std.specs.Prelude.{false, refl};
     ghost use Rattle.iri_cli.specs.inside.StatelessAt.{IsStatelessAt};
     ghost use Rattle.iri_cli.specs.links.Answers.{links_answer};
     ghost use Rattle.iri_cli.specs.links.Rules.{links_rules, takes_memory};
 
-    ghost rules = { λ alloc. links_rules S.tests };
+    ghost rules = { λ setup. links_rules S.tests setup.mode };
 
-    ghost begins = { λ alloc. record { line_limit = refl; input_limit = refl; refusal = refl } };
+    ghost begins = { λ setup. record { line_limit = refl; input_limit = refl; refusal = refl } };
 
-    ghost stands_at = { λ l base at. IsStatelessAt links_answer false takes_memory S.tests base at };
+    ghost stands_at = { λ l base at. IsStatelessAt links_answer false takes_memory S.tests l.mode
+        base at };
 
     fn open(
-        _alloc: Global,
+        setup: Setup,
         _resolver: &FixedBaseResolver<'_, S>,
         _output: Vec<u8>,
     ) -> Result<Self, AllocError> {
-        Ok(Links)
+        Ok(Links { mode: setup.mode })
     }
 
     fn answer<O: Sink>(
@@ -96,7 +102,7 @@ impl<S: Spec> Answers<S> for Links {
         sink: &mut O,
     ) -> Result<bool, AnswerError> {
         match check_field::<S>(line) {
-            Ok(field) => say_good(true, put_links(sink, resolver, field)),
+            Ok(field) => say_good(true, put_links(sink, self.mode, resolver, field)),
             Err((kind, place)) => say_good(false, put_fault(sink, kind, place)),
         }
     }

@@ -16,7 +16,7 @@ ghost use Rattle.iri_cli.specs.inside.Replies.{IsRefusal, reply_text, obeyed_by}
 pub(crate) mod line;
 
 use crate::register::line::{Asked, line_of};
-use crate::run::answers::{AnswerError, Answers};
+use crate::run::answers::{AnswerError, Answers, Setup};
 use crate::run::puts::{put_bad, put_bad_line, put_number, say_good};
 use iri_grammar::error::ErrorKind;
 use iri_grammar::spec::Spec;
@@ -26,7 +26,7 @@ use iri_register::added::Added;
 use iri_register::error::RegisterError;
 use iri_register::register::Register;
 use iri_text::{Failed, Sink};
-use std::alloc::{AllocError, Global};
+use std::alloc::AllocError;
 
 // What is answered to a line.
 #[derive(Clone, Copy)]
@@ -66,10 +66,11 @@ fn reply_to<S: Spec>(
     number: u64,
 ) -> Result<Reply, AllocError>
     ensures reply { IfOk result (λ reply. reply_text reply
-        ≡ answer_to S.tests (base_text resolver.now) register.old.entries (asked line.entry)) }
+        ≡ answer_to S.tests register.old.mode (base_text resolver.now) register.old.entries (asked line.entry)) }
     ensures entries { OnOk result (register.new.entries ≡ obeyed_by register.old.entries
-        (command_of S.tests (base_text resolver.now) number (asked line.entry))) }
+        (command_of S.tests register.old.mode (base_text resolver.now) number (asked line.entry))) }
     ensures base { register.new.base ≡ register.old.base }
+    ensures mode { register.new.mode ≡ register.old.mode }
     ensures memory { OnErr result (takes_memory S.tests register.old.entries (asked line.entry) ≡ true) }
 {
     match line {
@@ -204,26 +205,27 @@ pub struct Registers<S: Spec> {
 }
 
 impl<S: Spec> Answers<S> for Registers<S> {
-    type Start = Global;
+    type Start = Setup;
 
     ghost use Rattle.std.specs.Prelude.{refl};
     ghost use Rattle.iri_cli.specs.inside.RegisterAt.{IsRegisterAt};
     ghost use Rattle.iri_cli.specs.register.Rules.{register_rules};
 
-    ghost rules = { λ alloc. register_rules S.tests };
+    ghost rules = { λ setup. register_rules S.tests setup.mode };
 
-    ghost begins = { λ alloc. record { line_limit = refl; input_limit = refl; refusal = refl } };
+    ghost begins = { λ setup. record { line_limit = refl; input_limit = refl; refusal = refl } };
 
     ghost stands_at = { λ r base at. IsRegisterAt S.tests base r.register r.answered at };
 
     fn open(
-        alloc: Global,
+        setup: Setup,
         resolver: &FixedBaseResolver<'_, S>,
         _output: Vec<u8>,
     ) -> Result<Self, AllocError> {
+        let Setup { alloc, mode } = setup;
         let base = RiAbsoluteString::from_view(alloc, resolver.base())?;
         Ok(Registers {
-            register: Register::new(alloc, base),
+            register: Register::new_in(alloc, mode, base),
             answered: 0,
         })
     }

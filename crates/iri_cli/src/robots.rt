@@ -4,7 +4,7 @@ ghost use Rattle.iri_grammar.specs.Fault.{bytes_fault};
 ghost use Rattle.iri_robots.specs.FileLines.{is_token};
 ghost use Rattle.iri_grammar.specs.Split.{split_of};
 ghost use Rattle.iri_grammar.specs.WholeFault.{iri_fault, reference_fault};
-ghost use Rattle.iri_normal.specs.NormalForm.{canonical};
+ghost use Rattle.iri_normal.specs.NormalForm.{canonical_in};
 ghost use Rattle.iri_normal.specs.Resolver.{base_text};
 ghost use Rattle.iri_text.specs.LineEnds.{line_feed};
 ghost use Rattle.iri_text.specs.Sink.{sink_state};
@@ -28,35 +28,37 @@ pub(crate) mod sites;
 use crate::robots::line::{Said, line_of};
 use crate::robots::sites::Site;
 use crate::run::MEMORY;
-use crate::run::answers::{AnswerError, Answers};
+use crate::run::answers::{AnswerError, Answers, Setup};
 use crate::run::buffers::CanonBuffers;
 use crate::run::opening::run_lines;
 use crate::run::puts::{put_bad, put_bad_line, put_line, say_good};
 use iri_grammar::spec::Spec;
+use iri_normal::mode::CanonMode;
 use iri_normal::resolver::FixedBaseResolver;
 use iri_robots::{Robots, RobotsError, Verdict, subject_of_split};
 use iri_text::{Failed, Sink, Source};
 use iri_types::kind::Reference;
 use iri_types::split::SplitView;
 use iri_types::view::RiStr;
-use std::alloc::{AllocError, Global};
+use std::alloc::AllocError;
 
 /// The crawler of a product token, which was fed no line of a robots file.
 #[derive(Drop)]
 pub struct Crawler {
-    alloc: Global,
+    setup: Setup,
     robots: Robots,
     ghost unfed: { robots.records.items ≡ [] },
 }
 
 impl Crawler {
     /// The crawler of this token. It fails on allocation failure alone.
-    pub(crate) fn new(alloc: Global, token: &str) -> Result<Self, AllocError>
+    pub(crate) fn new(setup: Setup, token: &str) -> Result<Self, AllocError>
         requires { is_token token.now ≡ true }
-        ensures { IfOk result (λ c. string_bytes c.robots.token ≡ token.now) }
+        ensures { IfOk result (λ c. (c.setup.mode ≡ setup.mode)
+            × (string_bytes c.robots.token ≡ token.now)) }
     {
-        match Robots::new(alloc, token) {
-            Ok(robots) => Ok(Crawler { alloc, robots }),
+        match Robots::new(setup.alloc, token) {
+            Ok(robots) => Ok(Crawler { setup, robots }),
             Err(RobotsError::Memory(error)) => Err(error),
             Err(RobotsError::Token) => unreachable!(),
         }
@@ -102,18 +104,19 @@ fn put_verdict<S: Spec, O: Sink>(
     }
 }
 
-// Writes the canonical text of a reference in place of what the buffer holds.
-fn write_target<'a, S: Spec>(
+/// Writes the canonical text of a reference by the rules of a mode in place of what the buffer holds.
+pub(crate) fn write_target<'a, S: Spec>(
     buffer: &mut String,
+    mode: CanonMode,
     resolver: &FixedBaseResolver<'a, S>,
     reference: &SplitView<'a, S, Reference>,
 ) -> Result<(), AllocError>
     ensures text { OnOk result (string_bytes buffer.new
-        ≡ canonical S.tests (base_text resolver.now) (split_text reference.now)) }
+        ≡ canonical_in S.tests mode (base_text resolver.now) (split_text reference.now)) }
     ensures valid { OnOk result (iri_fault S.tests (string_bytes buffer.new) ≡ None) }
 {
     buffer.clear();
-    resolver.canonical_into(buffer, reference)
+    resolver.canonical_into_in(buffer, mode, reference)
 }
 
 // Puts the answer to a reference, whose canonical text comes into the buffer.
@@ -126,15 +129,15 @@ fn put_answer<S: Spec, O: Sink>(
     reference: &[u8],
 ) -> Result<bool, AnswerError>
     requires { IsSiteOf site.now.scheme site.now.authority
-        (split_of (normal_base S.tests (base_text resolver.now))) }
+        (split_of (normal_base S.tests site.now.mode (base_text resolver.now))) }
     ensures reply { let state = sink_state O.written O.faults O.room_left in
         PutsReply (state sink.old) (state sink.new)
-        (answer_to S.tests (string_bytes site.now.robots.token) (base_text resolver.now)
+        (answer_to S.tests site.now.mode (string_bytes site.now.robots.token) (base_text resolver.now)
         (record_texts site.now.robots.records.items) (asks reference.now)) result }
     ensures memory { result ≡ Err Memory → bytes_fault (reference_fault S.tests) reference.now ≡ None }
 {
     match SplitView::<S, Reference>::try_from_bytes(reference) {
-        Ok(reference) => match write_target(buffer, resolver, &reference) {
+        Ok(reference) => match write_target(buffer, site.mode, resolver, &reference) {
             Ok(()) => put_verdict(sink, site, RiStr::<S>::from_valid(buffer)),
             Err(_) => Err(AnswerError::Memory),
         },
@@ -158,11 +161,11 @@ impl<S: Spec> Answers<S> for Crawls {
     ghost use Rattle.iri_cli.specs.inside.RobotsAt.{IsRobotsAt};
     ghost use Rattle.iri_cli.specs.robots.Rules.{robots_rules};
 
-    ghost rules = { λ crawler. robots_rules S.tests (string_bytes crawler.robots.token) };
+    ghost rules = { λ crawler. robots_rules S.tests crawler.setup.mode (string_bytes crawler.robots.token) };
 
     ghost begins = { λ crawler. record { line_limit = refl; input_limit = refl; refusal = refl } };
 
-    ghost stands_at = { λ c base at. IsRobotsAt S.tests (string_bytes c.site.robots.token)
+    ghost stands_at = { λ c base at. IsRobotsAt S.tests c.site.mode (string_bytes c.site.robots.token)
         base c.site.scheme c.site.authority (record_texts c.site.robots.records.items) at };
 
     fn open(
@@ -170,10 +173,11 @@ impl<S: Spec> Answers<S> for Crawls {
         resolver: &FixedBaseResolver<'_, S>,
         _output: Vec<u8>,
     ) -> Result<Self, AllocError> {
-        let Crawler { alloc, robots } = crawler;
+        let Crawler { setup, robots } = crawler;
+        let mut target = String::new(setup.alloc);
         Ok(Crawls {
-            site: Site::new(alloc, resolver, robots)?,
-            target: String::new(alloc),
+            site: Site::new(setup, &mut target, resolver, robots)?,
+            target,
         })
     }
 
@@ -202,7 +206,7 @@ impl<S: Spec> Answers<S> for Crawls {
 
 /// The lines of `robots`, for the crawler of a token.
 pub(crate) fn robots_lines<S: Spec, I: Source, O: Sink>(
-    alloc: Global,
+    setup: Setup,
     token: &str,
     buffers: CanonBuffers,
     source: &mut I,
@@ -210,10 +214,10 @@ pub(crate) fn robots_lines<S: Spec, I: Source, O: Sink>(
 ) -> u8
     requires { is_token token.now ≡ true }
     ensures { let state = outside_state I.left I.faults O.written O.faults O.room_left in
-        RunsLines (robots_rules S.tests token.now)
+        RunsLines (robots_rules S.tests setup.mode token.now)
         (state source.old sink.old) (state source.new sink.new) result }
 {
-    match Crawler::new(alloc, token) {
+    match Crawler::new(setup, token) {
         Ok(crawler) => run_lines::<S, Crawls, I, O>(crawler, buffers, source, sink),
         Err(_) => MEMORY,
     }

@@ -1,6 +1,6 @@
 //! The run of the program.
 ghost use Rattle.std.specs.Prelude.{◌≡◌, ℕ, List, [], ◌∷◌, codes, map, string_bytes};
-ghost use Rattle.iri_cli.specs.run.Words.{HasToken, IsCommand, rules_of, tests_of, word_of};
+ghost use Rattle.iri_cli.specs.run.Words.{HasToken, IsCommand, mode_words, rules_of, tests_of, word_of};
 ghost use Rattle.iri_cli.specs.docs.Expansions.{AnswersAreExpansions};
 ghost use Rattle.iri_cli.specs.links.FieldValues.{AnswersAreLinks};
 ghost use Rattle.iri_cli.specs.register.Shared.{LiveLinesShareEntries};
@@ -36,6 +36,7 @@ use crate::help::tell;
 use crate::links::Links;
 use crate::register::Registers;
 use crate::robots::robots_lines;
+use crate::run::answers::Setup;
 use crate::run::buffers::CanonBuffers;
 use crate::run::opening::run_lines;
 use crate::run::words::{Command, Grammar, LineCommand, command_of};
@@ -50,36 +51,36 @@ pub const NO_COMMAND: u8 = 2;
 /// The status where allocation failed.
 pub const MEMORY: u8 = 6;
 
-// The lines of a command in a grammar, once there are buffers.
+// The lines of a command in a grammar by the rules of a mode, once there are buffers.
 fn lines_in<S: Spec, I: Source, O: Sink>(
-    alloc: Global,
+    setup: Setup,
     command: LineCommand<'_>,
     source: &mut I,
     sink: &mut O,
 ) -> u8
     requires { HasToken command }
     ensures { let state = outside_state I.left I.faults O.written O.faults O.room_left in
-        RunsLines (rules_of command.entry S.tests)
+        RunsLines (rules_of command.entry S.tests setup.mode)
         (state source.old sink.old) (state source.new sink.new) result }
 {
-    let Ok(buffers) = CanonBuffers::new(alloc) else {
+    let Ok(buffers) = CanonBuffers::new(setup.alloc) else {
         return MEMORY;
     };
     match command {
-        LineCommand::Canon(mode) => canon_lines_in::<S, I, O>(mode, buffers, source, sink),
-        LineCommand::Expand => run_lines::<S, Expand, I, O>(alloc, buffers, source, sink),
-        LineCommand::Register => run_lines::<S, Registers<S>, I, O>(alloc, buffers, source, sink),
-        LineCommand::Links => run_lines::<S, Links, I, O>(alloc, buffers, source, sink),
-        LineCommand::Docs => run_lines::<S, Docs, I, O>(alloc, buffers, source, sink),
+        LineCommand::Canon => canon_lines_in::<S, I, O>(setup.mode, buffers, source, sink),
+        LineCommand::Expand => run_lines::<S, Expand, I, O>(setup, buffers, source, sink),
+        LineCommand::Register => run_lines::<S, Registers<S>, I, O>(setup, buffers, source, sink),
+        LineCommand::Links => run_lines::<S, Links, I, O>(setup, buffers, source, sink),
+        LineCommand::Docs => run_lines::<S, Docs, I, O>(setup, buffers, source, sink),
         LineCommand::Robots(token) => {
-            robots_lines::<S, I, O>(alloc, token, buffers, source, sink)
+            robots_lines::<S, I, O>(setup, token, buffers, source, sink)
         }
     }
 }
 
 // The lines of a command by a grammar.
 fn lines_by<I: Source, O: Sink>(
-    alloc: Global,
+    setup: Setup,
     command: LineCommand<'_>,
     grammar: Grammar,
     source: &mut I,
@@ -87,12 +88,12 @@ fn lines_by<I: Source, O: Sink>(
 ) -> u8
     requires { HasToken command }
     ensures { let state = outside_state I.left I.faults O.written O.faults O.room_left in
-        RunsLines (rules_of command.entry (tests_of grammar))
+        RunsLines (rules_of command.entry (tests_of grammar) setup.mode)
         (state source.old sink.old) (state source.new sink.new) result }
 {
     match grammar {
-        Grammar::Uri => lines_in::<UriSpec, I, O>(alloc, command, source, sink),
-        Grammar::Iri => lines_in::<IriSpec, I, O>(alloc, command, source, sink),
+        Grammar::Uri => lines_in::<UriSpec, I, O>(setup, command, source, sink),
+        Grammar::Iri => lines_in::<IriSpec, I, O>(setup, command, source, sink),
     }
 }
 
@@ -108,7 +109,9 @@ fn obey<I: Source, O: Sink>(
         Obeys command.entry (state source.old sink.old) (state source.new sink.new) result }
 {
     match command {
-        Some(Command::Lines(command, grammar)) => lines_by(alloc, command, grammar, source, sink),
+        Some(Command::Lines(command, mode, grammar)) => {
+            lines_by(Setup { alloc, mode }, command, grammar, source, sink)
+        }
         Some(Command::Gen(grammar, count)) => generate(alloc, grammar, count, sink),
         Some(Command::Tell(notice)) => tell(notice, sink),
         None => NO_COMMAND,
@@ -149,12 +152,12 @@ pub fn run<I: Source, O: Sink>(alloc: Global, words: &[String], source: &mut I, 
         → Tells (notice_text notice)
         (state source.old sink.old) (state source.new sink.new) result }
 
-    // A command over lines: each status comes only by its cause. Allocation fails only before
+    // A command over lines, in the mode that its words name: each status comes only by its cause. Allocation fails only before
     // anything is read or written, or at a line that takes memory by the command's rules.
     ensures lines { let state = outside_state I.left I.faults O.written O.faults O.room_left in
-        (command : LineCommand) (grammar : Grammar)
-        → IsCommand (map string_bytes words.now) (Command.Lines command grammar)
-        → RunsLines (rules_of command (tests_of grammar))
+        (command : LineCommand) (mode : CanonMode) (grammar : Grammar)
+        → IsCommand (map string_bytes words.now) (Command.Lines command mode grammar)
+        → RunsLines (rules_of command (tests_of grammar) mode)
         (state source.old sink.old) (state source.new sink.new) result }
 
     // `gen`: the three lines are written, and nothing is read; or allocation failed, and nothing
@@ -168,31 +171,32 @@ pub fn run<I: Source, O: Sink>(alloc: Global, words: &[String], source: &mut I, 
     // `canon`, in the mode that its words name: each good answer is a URI of the spec that splits
     // into exactly the normal form of the target, and is its own canonical text.
     ensures canonical { (mode : CanonMode) (grammar : Grammar)
-        → IsCommand (map string_bytes words.now) (Command.Lines (LineCommand.Canon mode) grammar)
+        → IsCommand (map string_bytes words.now) (Command.Lines LineCommand.Canon mode grammar)
         → AnswersAreCanonicalIn (tests_of grammar) mode }
 
-    // `register`: two live lines share an entry exactly where steps join the targets of their
-    // references.
-    ensures register { (grammar : Grammar)
-        → IsCommand (map string_bytes words.now) (Command.Lines LineCommand.Register grammar)
-        → LiveLinesShareEntries (tests_of grammar) }
+    // `register`, in its mode: two live lines share an entry exactly where the mode's steps join the
+    // targets of their references.
+    ensures register { (mode : CanonMode) (grammar : Grammar)
+        → IsCommand (map string_bytes words.now) (Command.Lines LineCommand.Register mode grammar)
+        → LiveLinesShareEntries (tests_of grammar) mode }
 
-    // `links`: a field value is answered by its one list of link-values, with canonical targets.
-    ensures links { (grammar : Grammar)
-        → IsCommand (map string_bytes words.now) (Command.Lines LineCommand.Links grammar)
-        → AnswersAreLinks (tests_of grammar) }
+    // `links`, in its mode: a field value is answered by its one list of link-values, with canonical
+    // targets.
+    ensures links { (mode : CanonMode) (grammar : Grammar)
+        → IsCommand (map string_bytes words.now) (Command.Lines LineCommand.Links mode grammar)
+        → AnswersAreLinks (tests_of grammar) mode }
 
-    // `docs`: a template document is answered by the canonical text of its expansion with its own
-    // values.
-    ensures docs { (grammar : Grammar)
-        → IsCommand (map string_bytes words.now) (Command.Lines LineCommand.Docs grammar)
-        → AnswersAreExpansions (tests_of grammar) }
+    // `docs`, in its mode: a template document is answered by the canonical text of its expansion
+    // with its own values.
+    ensures docs { (mode : CanonMode) (grammar : Grammar)
+        → IsCommand (map string_bytes words.now) (Command.Lines LineCommand.Docs mode grammar)
+        → AnswersAreExpansions (tests_of grammar) mode }
 
-    // `robots`: a link is answered by what the longest patterns that match it say of the token's
-    // crawler.
-    ensures robots { (grammar : Grammar) (token : List ℕ)
-        → map string_bytes words.now ≡ codes "robots" ∷ word_of grammar ∷ token ∷ []
-        → AnswersAreVerdicts (tests_of grammar) token }
+    // `robots`, in its mode: a link is answered by what the longest patterns that match it say of
+    // the token's crawler.
+    ensures robots { (mode : CanonMode) (grammar : Grammar) (token : List ℕ)
+        → map string_bytes words.now ≡ codes "robots" ∷ word_of grammar ∷ token ∷ mode_words mode
+        → AnswersAreVerdicts (tests_of grammar) mode token }
 {
     obey(alloc, command_of(words), source, sink)
 }

@@ -71,13 +71,12 @@ fn help(rt: HostRuntime) -> Result<(), Fail> {
     assert!(rt; answers(&rt, &["--help"], &mut source, &[], 0, HELP.as_bytes())?);
     assert!(rt; matches!(source.take(&mut [0; 2]), Ok(1)));
     for &command in &[
-        "canon GRAMMAR",
-        "canon GRAMMAR scheme",
-        "expand GRAMMAR",
-        "register GRAMMAR",
-        "links GRAMMAR",
-        "docs GRAMMAR",
-        "robots GRAMMAR TOKEN",
+        "canon GRAMMAR [scheme]",
+        "expand GRAMMAR [scheme]",
+        "register GRAMMAR [scheme]",
+        "links GRAMMAR [scheme]",
+        "docs GRAMMAR [scheme]",
+        "robots GRAMMAR TOKEN [scheme]",
         "gen GRAMMAR N",
         "--help",
         "--version",

@@ -7,7 +7,7 @@ from typing import Iterable
 from ._forms import fault
 from ._library import declared, size_t
 from ._links import Links
-from ._numbers import BAD_REFERENCE, DISALLOWED, MEMORY, REFERENCE, URI, Grammar
+from ._numbers import BAD_REFERENCE, DISALLOWED, MEMORY, NORMAL, REFERENCE, URI, Grammar, Mode
 from ._refused import Refused
 from ._run import INPUT, LINE
 from ._texts import Immutable, Text, bytes_of, several, written
@@ -27,7 +27,7 @@ class Robots(Immutable):
 
     `text` is the file, and `token` the crawler's product token: letters, `_` and `-`. `site` is an address of the site whose file it
     is: links are read against it, and of links to other sites the file says nothing. Without it, only path and query of a link count,
-    as `urllib.robotparser` has it. Fetching the file, `Crawl-delay` and `Sitemap` are left to the caller.
+    as `urllib.robotparser` has it. By the mode `BY_SCHEME` a default port is no other site. Fetching the file, `Crawl-delay` and `Sitemap` are left to the caller.
 
     Raises `ValueError` where the token is none, or a line of the file has more than a mebibyte; `Refused` where the site is no URI
     without a fragment.
@@ -35,17 +35,18 @@ class Robots(Immutable):
 
     __slots__ = ("_links", "_is_of_site", "_rules")
 
-    def __init__(self, text: Text, token: str, site: Text | None = None, grammar: Grammar = URI) -> None:
+    def __init__(self, text: Text, token: str, site: Text | None = None, grammar: Grammar = URI, mode: Mode = NORMAL) -> None:
         if not re.fullmatch(r"[A-Za-z_-]+", token):
             raise ValueError(f"{token!r} is no product token: letters, `_` and `-` (RFC 9309 section 2.2.1)")
         self._links = Links("http://localhost/" if site is None else site, grammar)
         file = bytes_of(text)
-        self._made_of = file, token, None if site is None else self._links.base, grammar
+        self._made_of = file, token, None if site is None else self._links.base, grammar, mode
         # A CR, an LF, or both end a line (RFC 9309 section 2.2), as for `splitlines` of bytes.
         if max(map(len, file.splitlines()), default=0) > LINE - 2 or len(file) > INPUT // 2:
             raise ValueError("a line of the file, or the file, is too long")
         # Scheme and authority of a canonical text: those of the site, or without one any authority.
-        origin = rb"[^:]*://" if site is None else re.escape(re.match(rb"[^:]*:(//[^/?#]*)?", self._links.canonical_bytes(""))[0]) + rb"(?![^/?#])"
+        address = self._links.canonical_bytes("", mode)
+        origin = rb"[^:]*://" if site is None else re.escape(re.match(rb"[^:]*:(//[^/?#]*)?", address)[0]) + rb"(?![^/?#])"
         self._is_of_site = re.compile(origin).match
         self._rules = written(len(file) + 64, _rules, token.encode(), len(token), file, len(file))
 
@@ -74,9 +75,9 @@ class Robots(Immutable):
         if len(asked) > LINE - 2:
             wrong = fault(asked, REFERENCE, self._made_of[3])
             raise Refused(BAD_REFERENCE, wrong, None, None if wrong else "more than 1,048,574 bytes")
-        return self._verdict(self._links.canonical_bytes(asked))
+        return self._verdict(self._links.canonical_bytes(asked, self._made_of[4]))
 
     def allows_many(self, links: Iterable[Text]) -> list[bool | None]:
         """For each link, whether it may be fetched; None where it is of another site than the file, no reference, or too long."""
         asked = [one if len(one) <= LINE - 2 else b"%" for one in map(bytes_of, several(links))]
-        return [None if target is None else self._verdict(target.encode()) for target in self._links.canonical_many(asked)]
+        return [None if target is None else self._verdict(target.encode()) for target in self._links.canonical_many(asked, self._made_of[4])]

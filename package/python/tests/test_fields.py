@@ -2,7 +2,7 @@
 import unittest
 
 import irikit
-from irikit import IRI, Fault, Refused, Status
+from irikit import BY_SCHEME, IRI, PRESERVING, Fault, Refused, Status
 
 # RFC 8288 section 3.5, against the base of its first example.
 FIELDS = [
@@ -27,6 +27,13 @@ class Fields(unittest.TestCase):
         for field, wanted in FIELDS:
             self.assertEqual(irikit.links(field, BASE), wanted)
             self.assertEqual(irikit.links(field.encode(), BASE, IRI), wanted)
+
+    def test_by_scheme(self):
+        field, found = "<http://h:80>, <>; rel=self", [{"url": "http://h/"}, {"url": "ws://a/", "rel": "self"}]
+        self.assertEqual(irikit.links(field, "ws://a:80", mode=BY_SCHEME), found)
+        self.assertEqual(irikit.links(field, "ws://a:80"), [{"url": "http://h:80"}, {"url": "ws://a:80", "rel": "self"}])
+        with self.assertRaisesRegex(Refused, "PRESERVING"):
+            irikit.links(field, "a:", IRI, PRESERVING)
 
     def test_past_ascii(self):
         self.assertEqual(irikit.links('<\ufeff>; title="\u2028\u00e9"', "http://a/", IRI), [{"url": "http://a/\ufeff", "title": "\u2028\u00e9"}])

@@ -2,7 +2,7 @@
 import random
 import unittest
 
-from irikit import IRI, URI, Fault, Refused, Robots, Status, run
+from irikit import BY_SCHEME, IRI, PRESERVING, URI, Fault, Refused, Robots, Status, run
 
 # RFC 9309 section 5.1: groups, their rules, and what they say of links; and 5.2, the longest match.
 SIMPLE = """User-Agent: *
@@ -51,6 +51,15 @@ class Rules(unittest.TestCase):
         robots = Robots("User-agent: *\nDisallow: /a\n", "bot", "http://a/x")
         self.assertEqual(robots.allows_many(["/a", "//a/b", "http://b/b", "https://a/b", "%4", "a\nb"]), [False, True, None, None, None, None])
         self.assertEqual(Robots(RULES, "bot").allows_many(["mailto:a", "//b/private", "//b/#/private", "", "private"]), [None, False, True, True, False])
+
+    def test_by_scheme(self):
+        file, asked = "User-agent: *\nDisallow: /x\n", ["HTTPS://WWW.EXAMPLE.com:443/x", "//www.example.com", "http://www.example.com:443/x"]
+        for site in ("https://www.example.com/", "https://www.example.com:443"):
+            self.assertEqual(Robots(file, "bot", site, mode=BY_SCHEME).allows_many(asked), [False, True, None])
+        self.assertEqual(Robots(file, "bot", "https://www.example.com/").allows_many(asked), [None, True, None])
+        for site in (None, "a:"):
+            with self.assertRaisesRegex(Refused, "PRESERVING"):
+                Robots(file, "bot", site, URI, PRESERVING)
 
     def test_what_is_no_link(self):
         links = ["/private", "\ud800", "/", "\udcff", b"\xff", "a\nb", "b\r", "\n", "/" + "a" * MEBIBYTE, "%", "\0", "/private"]

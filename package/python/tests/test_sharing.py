@@ -117,7 +117,7 @@ class Sharing(unittest.TestCase):
         self.assertEqual(repr(IRIS), "Links('http://\u00e9/', Grammar.IRI)")
         self.assertEqual(repr(TEMPLATE), "Template('/s{?q,n*}', Grammar.URI)")
         self.assertEqual((repr(IRI_), str(IRI_)), ("Iri('http://\u00e9/')", "http://\u00e9/"))
-        self.assertEqual(repr(ROBOTS), "<Robots of 33 bytes, 'bot', b'http://a/', Grammar.URI>")
+        self.assertEqual(repr(ROBOTS), "<Robots of 33 bytes, 'bot', b'http://a/', Grammar.URI, Mode.NORMAL>")
 
     def test_unchanging(self):
         for one in OBJECTS:

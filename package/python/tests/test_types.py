@@ -33,6 +33,7 @@ GRAMMARS = [
     lambda number: irikit.links("", "a:", number), lambda number: Robots("", "bot", None, number),
 ]
 MODES = [
+    lambda number: irikit.links("", "a:", mode=number), lambda number: Robots("", "bot", mode=number),
     lambda number: LINKS.canonical("a", number), lambda number: LINKS.canonical_bytes(b"a", number), lambda number: LINKS.answers(b"a\n", number),
     lambda number: LINKS.answers(b"", number), lambda number: LINKS.canonical_many(["a"], number), lambda number: irikit.normalize("a:", number),
     lambda number: LINKS.canonical_many([], number), lambda number: irikit.canonical_many("a:", [], mode=number),

@@ -33,9 +33,9 @@ canon_rules s = canon_rules_in s Default
 
 -- a command that answers each line by the base and that line alone: base, limits and good answers are those of `canon`, but the base line
 -- may take memory, and so may lines
-abbrev pub stateless_rules : (answer_to : Tests → List ℕ → List ℕ → List ℕ) (base_takes_memory : Bool) (takes_memory : Tests → List ℕ → Bool) → Tests → Rules
-stateless_rules answer_to base_takes_memory takes_memory s = record (canon_rules s) {
-  answer = λ base between line. answer_to s base line;
+abbrev pub stateless_rules : (answer_to : Tests → CanonMode → List ℕ → List ℕ → List ℕ) (base_takes_memory : Bool) (takes_memory : Tests → List ℕ → Bool) → Tests → CanonMode → Rules
+stateless_rules answer_to base_takes_memory takes_memory s mode = record (canon_rules_in s mode) {
+  answer = λ base between line. answer_to s mode base line;
   base_wants_memory = base_takes_memory;
   wants_memory = λ base between line. takes_memory s line;
 }

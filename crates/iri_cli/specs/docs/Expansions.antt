@@ -8,6 +8,7 @@ use Rattle.iri_docs.specs.declared.doc_error.DocError.{DocError}
 use Rattle.iri_docs.specs.declared.expand_error.DocExpandError.{DocExpandError}
 use Rattle.iri_docs.specs.declared.expand_error.DocExpandError.TheVariants.{Template, TooLong}
 use Rattle.iri_grammar.specs.Classes.{Tests}
+use Rattle.iri_percent.specs.declared.canon_mode.CanonMode.{CanonMode}
 use Rattle.iri_template.specs.Expansion.{expansion}
 use Rattle.iri_template.specs.Fault.{template_fault}
 use Rattle.iri_template.specs.Template.{Piece, Spells, IsTemplate}
@@ -29,12 +30,13 @@ pub data IsExpansion (s : Tests) (d : Held) : Result (List ℕ) DocExpandError �
   expanded : (ps : List Piece) → Spells ps d.template → type_fault d.value_of ps ≡ None
       → length (expansion s d.value_of ps) ≤ expansion_limit → IsExpansion s d (Ok (expansion s d.value_of ps))
 
--- The answer to a line against a base: it is no document, for this fault; or a document, whose expansion is answered as `canon` answers it.
-pub data IsDocumentAnswer (s : Tests) (base line : List ℕ) : List ℕ → Type 0 where
-  no_document : (e : DocError) → line_document line ≡ Err e → IsDocumentAnswer s base line (description e ++ line_feed ∷ [])
+-- The answer to a line against a base: it is no document, for this fault; or a document, whose expansion is answered as `canon` in the mode
+-- answers it.
+pub data IsDocumentAnswer (s : Tests) (mode : CanonMode) (base line : List ℕ) : List ℕ → Type 0 where
+  no_document : (e : DocError) → line_document line ≡ Err e → IsDocumentAnswer s mode base line (description e ++ line_feed ∷ [])
   document : (d : Held) (text : Result (List ℕ) DocExpandError) → line_document line ≡ Ok d → IsExpansion s d text
-      → IsDocumentAnswer s base line (expansion_answer s base text)
+      → IsDocumentAnswer s mode base line (expansion_answer s mode base text)
 
 -- What is answered to each line.
-abbrev pub AnswersAreExpansions : Tests → Type 0
-AnswersAreExpansions s = (base line : List ℕ) → IsDocumentAnswer s base line (docs_answer s base line)
+abbrev pub AnswersAreExpansions : Tests → CanonMode → Type 0
+AnswersAreExpansions s mode = (base line : List ℕ) → IsDocumentAnswer s mode base line (docs_answer s mode base line)

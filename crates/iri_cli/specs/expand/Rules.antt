@@ -1,7 +1,8 @@
 -- The command `expand`: its rules.
 use Rattle.std.specs.Prelude.{ℕ, Bool, true, false, List, [], ◌∷◌}
 use Rattle.iri_grammar.specs.Classes.{Tests}
-use Rattle.iri_cli.specs.canon.Rules.{canon_rules, is_ok}
+use Rattle.iri_percent.specs.declared.canon_mode.CanonMode.{CanonMode}
+use Rattle.iri_cli.specs.canon.Rules.{canon_rules_in, is_ok}
 use Rattle.iri_cli.specs.expand.Answers.{expand_answer}
 use Rattle.iri_cli.specs.expand.Lines.{ExpandLine, changes, expands, bad, line_of}
 use Rattle.iri_cli.specs.run.Ending.{Rules}
@@ -18,9 +19,9 @@ takes_memory (expands template) = false
 takes_memory bad = false
 
 -- `expand`: base and limits as those of `canon`; each answer depends on the lines before, and a line that gives a variable a value has none
-abbrev pub expand_rules : Tests → Rules
-expand_rules s = record (canon_rules s) {
-  answer = expand_answer s;
+abbrev pub expand_rules : Tests → CanonMode → Rules
+expand_rules s mode = record (canon_rules_in s mode) {
+  answer = expand_answer s mode;
   is_good = is_ok_or_none;
   base_wants_memory = true;
   wants_memory = λ base between line. takes_memory (line_of line);

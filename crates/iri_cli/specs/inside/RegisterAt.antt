@@ -10,8 +10,8 @@ use Rattle.iri_cli.specs.run.Prepared.{IsAlike}
 -- References are resolved against its base, which has the answers of the base line. It has the entries after the lines that were answered,
 -- and their count.
 pub record IsRegisterAt (s : Tests) (against : List ℕ) (kept : Kept) (answered : ℕ) (at : Answering) : Type 0 where
-  pub rules : at.rules ≡ register_rules s
+  pub rules : at.rules ≡ register_rules s kept.mode
   pub own : against ≡ kept.base
-  pub alike : IsAlike (register_rules s) kept.base at.base
-  pub entries_are : kept.entries ≡ entries_after s kept.base at.between
+  pub alike : IsAlike (register_rules s kept.mode) kept.base at.base
+  pub entries_are : kept.entries ≡ entries_after s kept.mode kept.base at.between
   pub counted : answered ≡ length at.between

@@ -2,6 +2,7 @@
 use Rattle.std.specs.Prelude.{◌≡◌, ◌≢◌, ℕ, Bool, true, List, Option, Result, Err}
 use Rattle.iri_grammar.specs.Classes.{Tests}
 use Rattle.iri_grammar.specs.Split.{split_of}
+use Rattle.iri_percent.specs.declared.canon_mode.CanonMode.{CanonMode}
 use Rattle.iri_robots.specs.Records.{FileRecord}
 use Rattle.iri_text.specs.Sink.{KeepsRoom, SinkState}
 use Rattle.iri_cli.specs.inside.Answering.{Answering, PutsAnswer}
@@ -16,11 +17,11 @@ use Rattle.iri_cli.specs.declared.run.answers.AnswerError.TheVariants.{SinkFaile
 
 -- Its base has the answers of the base line. It has the token, the scheme and the authority of the base's normal form, and the records after
 -- the lines that were answered.
-pub record IsRobotsAt (s : Tests) (token base : List ℕ) (scheme authority : Option (List ℕ)) (records : List FileRecord) (at : Answering)
+pub record IsRobotsAt (s : Tests) (mode : CanonMode) (token base : List ℕ) (scheme authority : Option (List ℕ)) (records : List FileRecord) (at : Answering)
     : Type 0 where
-  pub rules : at.rules ≡ robots_rules s token
-  pub alike : IsAlike (robots_rules s token) base at.base
-  pub site_is : IsSiteOf scheme authority (split_of (normal_base s base))
+  pub rules : at.rules ≡ robots_rules s mode token
+  pub alike : IsAlike (robots_rules s mode token) base at.base
+  pub site_is : IsSiteOf scheme authority (split_of (normal_base s mode base))
   pub records_are : records ≡ records_after at.between
 
 -- The whole answer was put, and it is said whether it is refused; or the sink failed within it; or allocation failed, and nothing was put. A

@@ -1,11 +1,12 @@
 -- The command `links`: what is answered to a line (RFC 8288 section 3).
 use Rattle.std.specs.Prelude.{ℕ, codes, decimal, List, [], ◌∷◌, ◌++◌, Option, None, Some, map}
 use Rattle.iri_grammar.specs.Classes.{Tests}
+use Rattle.iri_percent.specs.declared.canon_mode.CanonMode.{CanonMode}
 use Rattle.iri_link.specs.ErrorTexts.{words}
 use Rattle.iri_link.specs.Fault.{Told, field_fault}
 use Rattle.iri_link.specs.Field.{LinkValue}
 use Rattle.iri_link.specs.Readings.{links_in}
-use Rattle.iri_link.specs.Resolved.{resolved}
+use Rattle.iri_link.specs.Resolved.{resolved_in}
 use Rattle.iri_link.specs.Written.{written}
 use Rattle.iri_text.specs.LineEnds.{line_feed}
 use Rattle.iri_normal.specs.Answers.{good_answer}
@@ -15,17 +16,17 @@ abbrev pub field_refusal : Told → List ℕ
 field_refusal t = codes "bad " ++ ((words t.kind ++ (codes " at " ++ decimal t.place)) ++ line_feed ∷ [])
 
 -- link-values in their written form, each with its target's canonical text against a base
-abbrev pub links_text : Tests → List ℕ → List LinkValue → List ℕ
-links_text s base links = written (map (resolved s base) links)
+abbrev pub links_text : Tests → CanonMode → List ℕ → List LinkValue → List ℕ
+links_text s mode base links = written (map (resolved_in s mode base) links)
 
 -- the answer to them
-abbrev pub links_line : Tests → List ℕ → List LinkValue → List ℕ
-links_line s base links = good_answer (links_text s base links)
+abbrev pub links_line : Tests → CanonMode → List ℕ → List LinkValue → List ℕ
+links_line s mode base links = good_answer (links_text s mode base links)
 
 abbrev pub unless_told : Option Told → List ℕ → List ℕ
 unless_told None answer = answer
 unless_told (Some t) answer = field_refusal t
 
 -- The answer to a line: the link-values that it has as the value of a `Link` field, or its first fault.
-unfoldable pub links_answer : Tests → List ℕ → List ℕ → List ℕ
-links_answer s base line = unless_told (field_fault s line) (links_line s base (links_in line))
+unfoldable pub links_answer : Tests → CanonMode → List ℕ → List ℕ → List ℕ
+links_answer s mode base line = unless_told (field_fault s line) (links_line s mode base (links_in line))

@@ -3,13 +3,14 @@ use Rattle.std.specs.Prelude.{◌≡◌, [], ◌∷◌, codes, refl}
 use Rattle.iri_grammar.specs.Classes.{uri_tests}
 use Rattle.iri_link.specs.Fault.{fault_from, closes_from}
 use Rattle.iri_link.specs.Readings.{reading}
+use Rattle.iri_percent.specs.declared.canon_mode.CanonMode.TheVariants.{Default, Scheme}
 use Rattle.iri_docs.specs.OnLiterals.{on_literals}
 use Rattle.iri_cli.specs.run.Ending.{answers}
 use Rattle.iri_cli.specs.links.Answers.{links_answer}
 use Rattle.iri_cli.specs.links.Rules.{links_rules}
 
 -- links of an API with pages, a name in capitals, an escaped delimiter, no link; and a fault of each kind but that of UTF-8
-pub answers_to_some_lines : answers (links_rules uri_tests) (codes "https://api.example.com/items?page=2")
+pub answers_to_some_lines : answers (links_rules uri_tests Default) (codes "https://api.example.com/items?page=2")
     (codes "<https://api.example.com/items?page=3>; rel=\"next\", <?page=1>; rel=prev" ∷ codes "</%7Eu/../x>;REL=up;title=\"a\\\"b\";" ∷ []
     ∷ codes "a" ∷ codes "<a" ∷ codes "<%4>" ∷ codes "<a> b" ∷ codes "<a>;r=" ∷ codes "<a>;r=\"x" ∷ [])
     ≡ codes "ok <https://api.example.com/items?page=3>; rel=\"next\", <https://api.example.com/items?page=1>; rel=\"prev\"\n"
@@ -18,3 +19,9 @@ pub answers_to_some_lines : answers (links_rules uri_tests) (codes "https://api.
     ∷ codes "bad parameter value at 6\n" ∷ codes "bad unclosed string at 6\n" ∷ []
 unfolding on_literals links_answer fault_from closes_from reading
 answers_to_some_lines = refl
+
+-- by scheme rules
+pub answer_by_scheme : answers (links_rules uri_tests Scheme) (codes "http://h:80") (codes "<>; rel=self, <http://h:80/a>" ∷ [])
+    ≡ codes "ok <http://h/>; rel=\"self\", <http://h/a>\n" ∷ []
+unfolding on_literals links_answer fault_from closes_from reading
+answer_by_scheme = refl

@@ -5,7 +5,8 @@ use Rattle.iri_grammar.specs.Characters.{comma}
 use Rattle.iri_grammar.specs.Classes.{Tests}
 use Rattle.iri_grammar.specs.Fault.{bytes_fault}
 use Rattle.iri_grammar.specs.WholeFault.{reference_fault}
-use Rattle.iri_normal.specs.NormalForm.{canonical}
+use Rattle.iri_percent.specs.declared.canon_mode.CanonMode.{CanonMode}
+use Rattle.iri_normal.specs.NormalForm.{canonical_in}
 use Rattle.iri_register.specs.Entries.{Entry, place, line_count}
 use Rattle.iri_text.specs.LineEnds.{line_feed}
 use Rattle.iri_cli.specs.run.Refused.{bad_line, unless_bad}
@@ -35,16 +36,16 @@ found_answer (Some k) = numbered (codes "at ") k
 found_answer None = none_line
 
 -- the answer to what a line asks of entries
-abbrev pub answer_to : Tests → List ℕ → List Entry → RegisterLine → List ℕ
-answer_to s base es (adds r) =
-    unless_bad (bytes_fault (reference_fault s) r) (added_answer (length es) (place es (canonical s base r)))
-answer_to s base es (removes r) = unless_bad (bytes_fault (reference_fault s) r) (removed_answer (line_count es (canonical s base r)))
-answer_to s base es (finds r) = unless_bad (bytes_fault (reference_fault s) r) (found_answer (place es (canonical s base r)))
-answer_to s base es bad = bad_line
+abbrev pub answer_to : Tests → CanonMode → List ℕ → List Entry → RegisterLine → List ℕ
+answer_to s mode base es (adds r) =
+    unless_bad (bytes_fault (reference_fault s) r) (added_answer (length es) (place es (canonical_in s mode base r)))
+answer_to s mode base es (removes r) = unless_bad (bytes_fault (reference_fault s) r) (removed_answer (line_count es (canonical_in s mode base r)))
+answer_to s mode base es (finds r) = unless_bad (bytes_fault (reference_fault s) r) (found_answer (place es (canonical_in s mode base r)))
+answer_to s mode base es bad = bad_line
 
 -- the answer to a line after a base and other lines
-abbrev pub register_answer : Tests → List ℕ → List (List ℕ) → List ℕ → List ℕ
-register_answer s base between line = answer_to s base (entries_after s base between) (line_of line)
+abbrev pub register_answer : Tests → CanonMode → List ℕ → List (List ℕ) → List ℕ → List ℕ
+register_answer s mode base between line = answer_to s mode base (entries_after s mode base between) (line_of line)
 
 -- numbers, each after a comma
 abbrev pub more_numbers : List ℕ → List ℕ
@@ -65,5 +66,5 @@ entry_lines k [] = []
 entry_lines k (e ∷ es) = entry_line k e ++ entry_lines (k + 1) es
 
 -- what is written after all answers: the entries after all lines
-abbrev pub register_closing : Tests → List ℕ → List (List ℕ) → List ℕ
-register_closing s base between = entry_lines 1 (entries_after s base between)
+abbrev pub register_closing : Tests → CanonMode → List ℕ → List (List ℕ) → List ℕ
+register_closing s mode base between = entry_lines 1 (entries_after s mode base between)

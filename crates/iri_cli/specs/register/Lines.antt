@@ -4,7 +4,8 @@ use Rattle.iri_grammar.specs.Classes.{Tests}
 use Rattle.iri_grammar.specs.Fault.{bytes_fault}
 use Rattle.iri_grammar.specs.WholeFault.{reference_fault}
 use Rattle.iri_grammar.specs.declared.error.ErrorKind.{ErrorKind}
-use Rattle.iri_normal.specs.NormalForm.{canonical}
+use Rattle.iri_percent.specs.declared.canon_mode.CanonMode.{CanonMode}
+use Rattle.iri_normal.specs.NormalForm.{canonical_in}
 use Rattle.iri_register.specs.Commands.{Command, Add, Remove, entries_of_commands}
 use Rattle.iri_register.specs.Entries.{Entry}
 
@@ -31,11 +32,11 @@ abbrev pub unless_fault : Option ErrorKind → Command → List Command
 unless_fault None command = command ∷ []
 unless_fault (Some kind) command = []
 
-module _ (s : Tests) (base : List ℕ) where
+module _ (s : Tests) (mode : CanonMode) (base : List ℕ) where
   -- the command on the canonical target that a line of this number gives
   abbrev pub command_of : ℕ → RegisterLine → List Command
-  command_of number (adds r) = unless_fault (bytes_fault (reference_fault s) r) (Add (canonical s base r) number)
-  command_of number (removes r) = unless_fault (bytes_fault (reference_fault s) r) (Remove (canonical s base r))
+  command_of number (adds r) = unless_fault (bytes_fault (reference_fault s) r) (Add (canonical_in s mode base r) number)
+  command_of number (removes r) = unless_fault (bytes_fault (reference_fault s) r) (Remove (canonical_in s mode base r))
   command_of number (finds r) = []
   command_of number bad = []
 

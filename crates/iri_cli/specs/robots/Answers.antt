@@ -6,7 +6,8 @@ use Rattle.iri_grammar.specs.Fault.{bytes_fault}
 use Rattle.iri_grammar.specs.Parts.{Parts, recompose}
 use Rattle.iri_grammar.specs.Split.{split_of}
 use Rattle.iri_grammar.specs.WholeFault.{reference_fault}
-use Rattle.iri_normal.specs.NormalForm.{canonical, normal_form}
+use Rattle.iri_percent.specs.declared.canon_mode.CanonMode.{CanonMode}
+use Rattle.iri_normal.specs.NormalForm.{canonical_in, normal_form_in}
 use Rattle.iri_robots.specs.Compared.{subject}
 use Rattle.iri_robots.specs.Decided.{is_allowed}
 use Rattle.iri_robots.specs.Records.{FileRecord, rules_for}
@@ -30,9 +31,9 @@ verdict_word true true = codes "allow "
 verdict_word true false = codes "disallow "
 verdict_word false allowed = codes "other "
 
--- the base in normal form
-abbrev pub normal_base : Tests → List ℕ → List ℕ
-normal_base s base = recompose (normal_form s (split_of base))
+-- the base in the normal form of a mode
+abbrev pub normal_base : Tests → CanonMode → List ℕ → List ℕ
+normal_base s mode base = recompose (normal_form_in s mode (split_of base))
 
 -- The answer to a target, by a base in normal form: the target is of its site, and what the rules for the token speak of in it is allowed, or
 -- not.
@@ -42,12 +43,12 @@ target_answer token normal records target =
     ++ (target ++ line_feed ∷ [])
 
 -- the answer to what a line says, by the records before it; a line that feeds the robots file has none
-abbrev pub answer_to : Tests → List ℕ → List ℕ → List FileRecord → RobotsLine → List ℕ
-answer_to s token base records (feeds line) = []
-answer_to s token base records (asks r) =
-    unless_bad (bytes_fault (reference_fault s) r) (target_answer token (normal_base s base) records (canonical s base r))
-answer_to s token base records bad = bad_line
+abbrev pub answer_to : Tests → CanonMode → List ℕ → List ℕ → List FileRecord → RobotsLine → List ℕ
+answer_to s mode token base records (feeds line) = []
+answer_to s mode token base records (asks r) =
+    unless_bad (bytes_fault (reference_fault s) r) (target_answer token (normal_base s mode base) records (canonical_in s mode base r))
+answer_to s mode token base records bad = bad_line
 
 -- the answer to a line after a base and other lines
-abbrev pub robots_answer : Tests → List ℕ → List ℕ → List (List ℕ) → List ℕ → List ℕ
-robots_answer s token base between line = answer_to s token base (records_after between) (line_of line)
+abbrev pub robots_answer : Tests → CanonMode → List ℕ → List ℕ → List (List ℕ) → List ℕ → List ℕ
+robots_answer s mode token base between line = answer_to s mode token base (records_after between) (line_of line)

@@ -5,7 +5,8 @@ use Rattle.iri_grammar.specs.Fault.{bytes_fault}
 use Rattle.iri_grammar.specs.Parts.{Parts}
 use Rattle.iri_grammar.specs.Split.{split_of}
 use Rattle.iri_grammar.specs.WholeFault.{reference_fault}
-use Rattle.iri_normal.specs.NormalForm.{canonical}
+use Rattle.iri_percent.specs.declared.canon_mode.CanonMode.{CanonMode}
+use Rattle.iri_normal.specs.NormalForm.{canonical_in}
 use Rattle.iri_robots.specs.Allowed.{IsAllowed}
 use Rattle.iri_robots.specs.Compared.{subject}
 use Rattle.iri_robots.specs.Records.{FileRule, rules_for}
@@ -24,16 +25,16 @@ pub data IsVerdict (base : Parts) (rules : List FileRule) (target : Parts) : Lis
   disallow : IsSameSite base target → ¬ (IsAllowed rules (subject target)) → IsVerdict base rules target (codes "disallow ")
   other : ¬ (IsSameSite base target) → IsVerdict base rules target (codes "other ")
 
--- The answer to a reference after a base and lines: the verdict on its canonical text by the rules of these lines for a token, and that
--- text.
-pub record HasVerdict (s : Tests) (token base : List ℕ) (between : List (List ℕ)) (reference answer : List ℕ) : Type 0 where
+-- The answer to a reference after a base and lines: the verdict on its canonical text in the mode by the rules of these lines for a token,
+-- and that text.
+pub record HasVerdict (s : Tests) (mode : CanonMode) (token base : List ℕ) (between : List (List ℕ)) (reference answer : List ℕ) : Type 0 where
   pub word : List ℕ
-  pub verdict : IsVerdict (split_of (normal_base s base)) (rules_for token (records_after between))
-      (split_of (canonical s base reference)) word
-  pub answer_is : answer ≡ word ++ (canonical s base reference ++ line_feed ∷ [])
+  pub verdict : IsVerdict (split_of (normal_base s mode base)) (rules_for token (records_after between))
+      (split_of (canonical_in s mode base reference)) word
+  pub answer_is : answer ≡ word ++ (canonical_in s mode base reference ++ line_feed ∷ [])
 
 -- What is answered to each line that asks of a reference without a fault.
-abbrev pub AnswersAreVerdicts : Tests → List ℕ → Type 0
-AnswersAreVerdicts s token = (base line reference : List ℕ) (between : List (List ℕ)) → line_of line ≡ asks reference
+abbrev pub AnswersAreVerdicts : Tests → CanonMode → List ℕ → Type 0
+AnswersAreVerdicts s mode token = (base line reference : List ℕ) (between : List (List ℕ)) → line_of line ≡ asks reference
     → bytes_fault (reference_fault s) reference ≡ None
-    → HasVerdict s token base between reference (robots_answer s token base between line)
+    → HasVerdict s mode token base between reference (robots_answer s mode token base between line)

@@ -1,5 +1,5 @@
 -- The commands: their words, and the rules of those over lines.
-use Rattle.std.specs.Prelude.{◌≡◌, ◌≤◌, ℕ, codes, decimal, true, List, [], ◌∷◌}
+use Rattle.std.specs.Prelude.{◌≡◌, ◌≤◌, ℕ, codes, decimal, true, List, [], ◌∷◌, ◌++◌}
 use Rattle.iri_grammar.specs.Classes.{Tests, uri_tests, iri_tests}
 use Rattle.iri_percent.specs.declared.canon_mode.CanonMode.{CanonMode}
 use Rattle.iri_percent.specs.declared.canon_mode.CanonMode.TheVariants.{Default, Scheme}
@@ -31,24 +31,24 @@ abbrev pub notice_word : Notice → List ℕ
 notice_word Help = codes "--help"
 notice_word Version = codes "--version"
 
--- how the mode of `canon` is named
+-- how a mode is named, after all other words of a command over lines
 abbrev pub mode_words : CanonMode → List (List ℕ)
 mode_words Default = []
 mode_words Scheme = codes "scheme" ∷ []
 
--- the name of a command over lines, the words after that of its grammar, and what it says of lines
+-- the name of a command over lines, the words after that of its grammar but for the mode's, and what it says of lines
 pub record Named : Type 0 where
   pub word : List ℕ
   pub after : List (List ℕ)
-  pub rules : Tests → Rules
+  pub rules : Tests → CanonMode → Rules
 
 abbrev pub named : LineCommand → Named
-named (Canon mode) = record { word = codes "canon"; after = mode_words mode; rules = λ s. canon_rules_in s mode }
+named Canon = record { word = codes "canon"; after = []; rules = canon_rules_in }
 named Expand = record { word = codes "expand"; after = []; rules = expand_rules }
 named Register = record { word = codes "register"; after = []; rules = register_rules }
 named Links = record { word = codes "links"; after = []; rules = links_rules }
 named Docs = record { word = codes "docs"; after = []; rules = docs_rules }
-named (Robots token) = record { word = codes "robots"; after = token.now ∷ []; rules = λ s. robots_rules s token.now }
+named (Robots token) = record { word = codes "robots"; after = token.now ∷ []; rules = λ s mode. robots_rules s mode token.now }
 
 -- the token of `robots` is a product token (RFC 9309 section 2.2.1)
 abbrev pub HasToken : LineCommand → Type 0
@@ -63,8 +63,8 @@ pub record IsCount (word : List ℕ) (count : ℕ) : Type 0 where
 
 -- These words, in UTF-8, are this command.
 abbrev pub IsCommand : List (List ℕ) → Command → Type 0
-IsCommand words (Lines command grammar) =
-    (words ≡ (named command).word ∷ word_of grammar ∷ (named command).after) × HasToken command
+IsCommand words (Lines command mode grammar) =
+    (words ≡ (named command).word ∷ word_of grammar ∷ ((named command).after ++ mode_words mode)) × HasToken command
 IsCommand words (Gen grammar count) = (number : List ℕ) × (words ≡ codes "gen" ∷ word_of grammar ∷ number ∷ []) × IsCount number count
 IsCommand words (Tell notice) = words ≡ notice_word notice ∷ []
 
@@ -72,6 +72,6 @@ abbrev pub tests_of : Grammar → Tests
 tests_of Uri = uri_tests
 tests_of Iri = iri_tests
 
--- what a command over lines says of them
-abbrev pub rules_of : LineCommand → Tests → Rules
+-- what a command over lines says of them, by the rules of a mode
+abbrev pub rules_of : LineCommand → Tests → CanonMode → Rules
 rules_of command = (named command).rules

@@ -4,21 +4,26 @@ ghost use Rattle.iri_grammar.specs.OptionalSlices.{now_of};
 ghost use Rattle.iri_grammar.specs.Split.{split_of};
 ghost use Rattle.iri_types.specs.SplitText.{split_text};
 ghost use Rattle.iri_normal.specs.Resolver.{base_text};
-ghost use Rattle.iri_cli.specs.robots.Answers.{same_part};
+ghost use Rattle.iri_cli.specs.robots.Answers.{normal_base, same_part};
 ghost use Rattle.iri_cli.specs.inside.Sites.{IsSiteOf, is_of_site};
 
+use crate::robots::write_target;
+use crate::run::answers::Setup;
 use iri_grammar::spec::Spec;
+use iri_normal::mode::CanonMode;
 use iri_normal::resolver::FixedBaseResolver;
 use iri_robots::Robots;
 use iri_text::Text;
 use iri_types::kind::Iri;
 use iri_types::split::SplitView;
+use iri_types::view::RiStr;
 use std::alloc::{AllocError, Global};
 
-/// What a crawler knows of a site: its scheme and its authority in normal form, and the rules of a robots file.
+/// What a crawler knows of a site: its scheme and its authority in the normal form of a mode, and the rules of a robots file.
 #[derive(Drop)]
 pub struct Site {
     pub(crate) alloc: Global,
+    pub(crate) mode: CanonMode,
     scheme: Option<Text>,
     authority: Option<Text>,
     pub(crate) robots: Robots,
@@ -46,19 +51,26 @@ fn is_part(own: &Option<Text>, part: Option<&str>) -> bool
 impl Site {
     ghost use Rattle.iri_types.specs.SplitText.{split_text};
 
-    /// The site of a base. It fails on allocation failure alone.
+    /// The site of a base, whose normal form comes into the buffer. It fails on allocation failure alone.
     pub(crate) fn new<S: Spec>(
-        alloc: Global,
+        setup: Setup,
+        buffer: &mut String,
         resolver: &FixedBaseResolver<'_, S>,
         robots: Robots,
     ) -> Result<Self, AllocError>
-        ensures { IfOk result (λ site. (site.robots ≡ robots)
-            × IsSiteOf site.scheme site.authority (split_of (base_text resolver.now))) }
+        ensures { IfOk result (λ site. (site.robots ≡ robots) × (site.mode ≡ setup.mode)
+            × IsSiteOf site.scheme site.authority
+            (split_of (normal_base S.tests setup.mode (base_text resolver.now)))) }
     {
-        let scheme = copy_of(alloc, Some(resolver.scheme_str()))?;
-        let authority = copy_of(alloc, resolver.authority_str())?;
+        let Setup { alloc, mode } = setup;
+        let base = SplitView::of(resolver.base().as_reference());
+        write_target(buffer, mode, resolver, &base)?;
+        let normal = SplitView::of(RiStr::<S>::from_valid(buffer));
+        let scheme = copy_of(alloc, normal.parts().scheme())?;
+        let authority = copy_of(alloc, normal.parts().authority())?;
         Ok(Site {
             alloc,
+            mode,
             scheme,
             authority,
             robots,

@@ -9,9 +9,10 @@ ghost use Rattle.iri_cli.specs.run.Limits.{answer_room, longest_line};
 ghost use Rattle.iri_cli.specs.inside.Opening.{BeginsAsCanon, Opens};
 
 use iri_grammar::spec::Spec;
+use iri_normal::mode::CanonMode;
 use iri_normal::resolver::FixedBaseResolver;
 use iri_text::{Failed, Sink};
-use std::alloc::AllocError;
+use std::alloc::{AllocError, Global};
 
 /// Why an answer was not put, or not whole.
 #[derive(Clone, Copy)]
@@ -20,6 +21,13 @@ pub enum AnswerError {
     SinkFailed,
     /// Allocation failed, and nothing was put.
     Memory,
+}
+
+/// What a command begins with: what gives it memory, and the rules of its canonical texts.
+#[derive(Drop)]
+pub struct Setup {
+    pub(crate) alloc: Global,
+    pub(crate) mode: CanonMode,
 }
 
 /// Answers the lines of a command after a base, one after the other.

@@ -9,6 +9,7 @@ ghost use Rattle.iri_cli.specs.declared.help.Notice.{Notice};
 ghost use Rattle.iri_cli.specs.declared.run.words.Command.{Command};
 ghost use Rattle.iri_cli.specs.declared.run.words.Grammar.{Grammar};
 ghost use Rattle.iri_cli.specs.declared.run.words.LineCommand.{LineCommand};
+ghost use Rattle.iri_percent.specs.declared.canon_mode.CanonMode.{CanonMode};
 ghost use Rattle.iri_text.specs.Streams.{untold};
 
 use crate::run::{NO_COMMAND, run};
@@ -59,9 +60,9 @@ pub fn run_to_writer<I: Source, W: Write>(
         (outside (I.left source.new) (I.faults source.new) (untold sink.new.faults)) result }
 
     // A command over lines: each status comes only by its cause.
-    ensures lines { (command : LineCommand) (grammar : Grammar)
-        → IsCommand (map string_bytes words.now) (Command.Lines command grammar)
-        → RunsLines (rules_of command (tests_of grammar))
+    ensures lines { (command : LineCommand) (mode : CanonMode) (grammar : Grammar)
+        → IsCommand (map string_bytes words.now) (Command.Lines command mode grammar)
+        → RunsLines (rules_of command (tests_of grammar) mode)
         (outside (I.left source.old) (I.faults source.old) (untold sink.old.faults))
         (outside (I.left source.new) (I.faults source.new) (untold sink.new.faults)) result }
 

@@ -1,6 +1,6 @@
 //! The commands.
 ghost use Rattle.std.specs.Prelude.{◌≡◌, ◌≢◌, ◌↔◌, ℕ, codes, decimal, true, [], ◌∷◌, map, string_bytes, MatchOption};
-ghost use Rattle.iri_cli.specs.run.Words.{IsCommand, IsCount, word_of};
+ghost use Rattle.iri_cli.specs.run.Words.{HasToken, IsCommand, IsCount, named, word_of};
 ghost use Rattle.iri_cli.specs.declared.run.words.Command.{Command};
 ghost use Rattle.iri_cli.specs.declared.run.words.Grammar.{Grammar};
 ghost use Rattle.iri_cli.specs.declared.run.words.LineCommand.{LineCommand};
@@ -25,8 +25,8 @@ pub enum Grammar {
 /// A command over the lines of an input, of which the first is the base.
 #[derive(Clone, Copy)]
 pub enum LineCommand<'a> {
-    /// To answer each reference line by its canonical text, by the rules of a mode.
-    Canon(CanonMode),
+    /// To answer each reference line by its canonical text.
+    Canon,
     /// To answer each template by the canonical text of its expansion, with the values that lines
     /// before give variables.
     Expand,
@@ -43,8 +43,8 @@ pub enum LineCommand<'a> {
 /// What the words after the program's name ask for.
 #[derive(Clone, Copy)]
 pub enum Command<'a> {
-    /// To work on the lines of an input.
-    Lines(LineCommand<'a>, Grammar),
+    /// To work on the lines of an input, by the rules of a mode.
+    Lines(LineCommand<'a>, CanonMode, Grammar),
     /// To make so many references by a counter, and to write the totals of their canonical texts.
     Gen(Grammar, u32),
     /// To write a text about the program.
@@ -94,20 +94,28 @@ fn count_of(word: &str) -> Option<u32>
     Some(count)
 }
 
+// The command over lines that is named by one word; none exactly where that is the name of no such command.
+fn named_by_one<'a>(name: &str) -> Option<LineCommand<'a>>
+    ensures { MatchOption result
+        ((command : LineCommand) → (named command).after ≡ [] → name.now ≢ (named command).word)
+        (λ command. (name.now ≡ (named command).word) × ((named command).after ≡ []) × HasToken command) }
+{
+    match name {
+        "canon" => Some(LineCommand::Canon),
+        "expand" => Some(LineCommand::Expand),
+        "register" => Some(LineCommand::Register),
+        "links" => Some(LineCommand::Links),
+        "docs" => Some(LineCommand::Docs),
+        _ => None,
+    }
+}
+
 /// The command of a name and a grammar alone; none exactly where these words are no command.
 pub fn command_of_two<'a>(name: &str, grammar: Grammar) -> Option<Command<'a>>
     ensures { MatchOption result ((command : Command) → ¬ (IsCommand (name.now ∷ word_of grammar ∷ []) command))
         (IsCommand (name.now ∷ word_of grammar ∷ [])) }
 {
-    let command = match name {
-        "canon" => LineCommand::Canon(CanonMode::Default),
-        "expand" => LineCommand::Expand,
-        "register" => LineCommand::Register,
-        "links" => LineCommand::Links,
-        "docs" => LineCommand::Docs,
-        _ => return None,
-    };
-    Some(Command::Lines(command, grammar))
+    Some(Command::Lines(named_by_one(name)?, CanonMode::Default, grammar))
 }
 
 /// The command of a name, a grammar and one word more; none exactly where these words are no command.
@@ -115,13 +123,37 @@ pub fn command_of_three<'a>(name: &str, grammar: Grammar, word: &'a str) -> Opti
     ensures { MatchOption result ((command : Command) → ¬ (IsCommand (name.now ∷ word_of grammar ∷ word.now ∷ []) command))
         (IsCommand (name.now ∷ word_of grammar ∷ word.now ∷ [])) }
 {
-    let command = match name {
-        "canon" if is_scheme(word) => LineCommand::Canon(CanonMode::Scheme),
-        "robots" if is_product_token(word) => LineCommand::Robots(word),
-        "gen" => return Some(Command::Gen(grammar, count_of(word)?)),
-        _ => return None,
-    };
-    Some(Command::Lines(command, grammar))
+    match name {
+        "robots" if is_product_token(word) => {
+            Some(Command::Lines(LineCommand::Robots(word), CanonMode::Default, grammar))
+        }
+        "gen" => Some(Command::Gen(grammar, count_of(word)?)),
+        _ if is_scheme(word) => Some(Command::Lines(
+            named_by_one(name)?,
+            CanonMode::Scheme,
+            grammar,
+        )),
+        _ => None,
+    }
+}
+
+/// The command of a name, a grammar and two words more; none exactly where these words are no command.
+pub fn command_of_four<'a>(
+    name: &str,
+    grammar: Grammar,
+    word: &'a str,
+    last: &str,
+) -> Option<Command<'a>>
+    ensures { MatchOption result
+        ((command : Command) → ¬ (IsCommand (name.now ∷ word_of grammar ∷ word.now ∷ last.now ∷ []) command))
+        (IsCommand (name.now ∷ word_of grammar ∷ word.now ∷ last.now ∷ [])) }
+{
+    match name {
+        "robots" if is_product_token(word) && is_scheme(last) => {
+            Some(Command::Lines(LineCommand::Robots(word), CanonMode::Scheme, grammar))
+        }
+        _ => None,
+    }
 }
 
 // The command of a name and a grammar, with these words after that of the grammar.
@@ -133,6 +165,7 @@ fn command_by<'a>(name: &str, grammar: Grammar, after: &'a [String]) -> Option<C
     match after {
         [] => command_of_two(name, grammar),
         [word] => command_of_three(name, grammar, word.as_str()),
+        [word, last] => command_of_four(name, grammar, word.as_str(), last.as_str()),
         _ => None,
     }
 }

@@ -16,5 +16,5 @@ pub returns-clause-answers : goal.returns-clause-answers
 returns-clause-answers g c mode base line taken = same_answer g.S.Spec.tests mode base line g.met.S.Spec.lawful taken
 
 pub returns-clause-commands : goal.returns-clause-commands
-returns-clause-commands g c command base taken =
-    alike g.S.Spec.tests base _ g.met.S.Spec.lawful (record { taken = taken; text_is = refl }) command
+returns-clause-commands g c command mode base taken =
+    alike g.S.Spec.tests base _ g.met.S.Spec.lawful (record { taken = taken; text_is = refl }) mode command

@@ -21,11 +21,11 @@ returns g c =
     record {
       no_command = unknown words old new c.obey.result command is done;
       tells = λ notice. for (Tell notice);
-      lines = λ command grammar. for (Lines command grammar);
+      lines = λ command mode grammar. for (Lines command mode grammar);
       gens = λ grammar count. for (Gen grammar count);
       canonical = λ mode grammar _ base line taken none. canonical_answers (tests_of grammar) mode (grammar_is_spec grammar) base line taken none;
-      register = λ grammar _. live_lines_share_entries (tests_of grammar) (grammar_is_spec grammar);
-      links = λ grammar _. answers_are_links (tests_of grammar) (grammar_is_spec grammar);
-      docs = λ grammar _ base line. answers_are_expansions (tests_of grammar) base line;
-      robots = λ grammar token _. answers_are_verdicts (tests_of grammar) token;
+      register = λ mode grammar _. live_lines_share_entries (tests_of grammar) mode (grammar_is_spec grammar);
+      links = λ mode grammar _. answers_are_links (tests_of grammar) mode (grammar_is_spec grammar);
+      docs = λ mode grammar _ base line. answers_are_expansions (tests_of grammar) mode base line;
+      robots = λ mode grammar token _. answers_are_verdicts (tests_of grammar) mode token;
     }

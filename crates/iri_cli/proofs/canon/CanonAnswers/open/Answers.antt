@@ -6,7 +6,7 @@ use Rattle.iri_cli.proofs.canon.CanonAnswers.open.Goals as goal
 pub returns : goal.returns
 returns g c = λ line p. record {
   rules = refl;
-  alike = alike g.S.Spec.tests line _ g.met.S.Spec.lawful p (Canon c.args.mode);
+  alike = alike g.S.Spec.tests line _ g.met.S.Spec.lawful p c.args.mode Canon;
   taken = still_taken g.S.Spec.tests line _ g.met.S.Spec.lawful p;
   short = c.requires.short;
   room = c.requires.room;

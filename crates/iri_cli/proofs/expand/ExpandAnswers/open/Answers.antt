@@ -7,7 +7,7 @@ use Rattle.iri_cli.proofs.expand.ExpandAnswers.open.Goals as goal
 pub returns : goal.returns
 returns g c = λ line p. record {
   rules = refl;
-  alike = alike g.S.Spec.tests line _ g.met.S.Spec.lawful p Expand;
+  alike = alike g.S.Spec.tests line _ g.met.S.Spec.lawful p c.args.setup.mode Expand;
   values_are = fun_ext (λ n. ap (optional shown_value) (c.new.ensures n));
   taken = still_taken g.S.Spec.tests line _ g.met.S.Spec.lawful p;
   short = c.requires.short;

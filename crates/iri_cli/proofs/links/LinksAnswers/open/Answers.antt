@@ -4,4 +4,4 @@ use Rattle.iri_cli.proofs.AlikeLaws.{alike}
 use Rattle.iri_cli.proofs.links.LinksAnswers.open.Goals as goal
 
 pub returns : goal.returns
-returns g c = λ line p. record { rules = refl; alike = alike g.S.Spec.tests line _ g.met.S.Spec.lawful p Links }
+returns g c = λ line p. record { rules = refl; alike = alike g.S.Spec.tests line _ g.met.S.Spec.lawful p c.args.setup.mode Links }

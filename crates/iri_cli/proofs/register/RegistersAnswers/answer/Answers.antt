@@ -13,7 +13,7 @@ returns-in-Err g c = λ at is.
     let s = g.S.Spec.tests in
     let kept = c.args.self.now.register in
     let state = sink_state g.O.Sink.written g.O.Sink.faults g.O.Sink.room_left in
-    answers_memory (register_rules s) at c.args.line.now (state c.args.sink.now) _ is.rules
+    answers_memory (register_rules s kept.mode) at c.args.line.now (state c.args.sink.now) _ is.rules
     (sym (is.alike.wants_memory at.between c.args.line.now) ∙ ap (λ es. takes_memory s es (line_of c.args.line.now)) (sym is.entries_are) ∙ ap (takes_memory s kept.entries) (sym c.line_of.ensures)
     ∙ c.in-Err.ensures.memory)
 
@@ -30,7 +30,7 @@ returns-in-Ok g c = λ at is.
     let new = state c.put_reply.new.sink in
     subst (AnswersLine (IsRegisterAt s b kept_new (n + 1)) at c.args.line.now old new) (sym c.say_good.ensures)
     (answers_line s b kept kept_new n (n + 1) at c.args.line.now (reply_text c.in-Ok.reply) old new c.is_good.result c.put_reply.result
-    is refl c.reply_to.ensures.base
-    (c.in-Ok.ensures.entries ∙ ap (λ l. obeyed_by kept.entries (command_of s b (n + 2) l)) c.line_of.ensures
-    ∙ ap (λ x. obeyed_by kept.entries (command_of s x (n + 2) said)) is.own)
-    (c.in-Ok.ensures.reply ∙ ap (answer_to s b kept.entries) c.line_of.ensures ∙ ap (λ x. answer_to s x kept.entries said) is.own) c.is_good.ensures c.put_reply.ensures)
+    is refl c.reply_to.ensures.base c.reply_to.ensures.mode
+    (c.in-Ok.ensures.entries ∙ ap (λ l. obeyed_by kept.entries (command_of s kept.mode b (n + 2) l)) c.line_of.ensures
+    ∙ ap (λ x. obeyed_by kept.entries (command_of s kept.mode x (n + 2) said)) is.own)
+    (c.in-Ok.ensures.reply ∙ ap (answer_to s kept.mode b kept.entries) c.line_of.ensures ∙ ap (λ x. answer_to s kept.mode x kept.entries said) is.own) c.is_good.ensures c.put_reply.ensures)

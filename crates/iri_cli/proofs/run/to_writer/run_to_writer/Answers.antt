@@ -12,9 +12,9 @@ returns-clause-tells g c = λ notice is.
     after_text _ _ _ _ _ _ _ _ _ c.hand_on.ensures.flushes (notice_text notice) (c.run-status.ensures.tells notice is)
 
 pub returns-clause-lines : goal.returns-clause-lines
-returns-clause-lines g c = λ command grammar is.
-    after_lines _ _ _ _ _ _ _ _ _ c.hand_on.ensures.flushes (rules_of command (tests_of grammar))
-    (c.run-status.ensures.lines command grammar is)
+returns-clause-lines g c = λ command mode grammar is.
+    after_lines _ _ _ _ _ _ _ _ _ c.hand_on.ensures.flushes (rules_of command (tests_of grammar) mode)
+    (c.run-status.ensures.lines command mode grammar is)
 
 pub returns-clause-gens : goal.returns-clause-gens
 returns-clause-gens g c = λ grammar count is.
