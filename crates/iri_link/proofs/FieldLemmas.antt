@@ -173,7 +173,7 @@ no_link_left s [] b m n h = refl
 no_link_left s (c ∷ cs) b m n h = let w : fault_from s before_link (c ∷ cs) ≡ Some (record { kind = NoTarget; rest = c ∷ cs }) = rw (b, m, n) refl in cc
 
 -- a target without a fault ends, and is a reference
-target_in : (s : Tests) (cs : List ℕ) → target_fault s cs ≡ None → (reference_fault s (before 62 cs) ≡ None) × ((rest : List ℕ) × (Some rest ≡ after 62 cs))
+pub target_in : (s : Tests) (cs : List ℕ) → target_fault s cs ≡ None → (reference_fault s (before 62 cs) ≡ None) × ((rest : List ℕ) × (Some rest ≡ after 62 cs))
 target_in s cs h =
     elim (after 62 cs) as (λ o. o ≡ after 62 cs → (reference_fault s (before 62 cs) ≡ None) × ((rest : List ℕ) × (Some rest ≡ after 62 cs))) [
       | None ↦ λ e.

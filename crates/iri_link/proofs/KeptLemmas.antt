@@ -75,7 +75,7 @@ run_utf8 : (p : ℕ → Bool) → ((c : ℕ) → p c ≡ true → c < 128) → (
 run_utf8 p low [] h = IsUtf8-nil
 run_utf8 p low (c ∷ cs) h = let k = both (p c) (list_all p cs) h in delimited-utf8 c cs (low c k.0) (run_utf8 p low cs k.1)
 
-token_chars : (v : List ℕ) → is_token v ≡ true → list_all is_token_char v ≡ true
+pub token_chars : (v : List ℕ) → is_token v ≡ true → list_all is_token_char v ≡ true
 token_chars [] h = cc
 token_chars (c ∷ cs) h = h
 

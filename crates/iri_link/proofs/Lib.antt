@@ -15,4 +15,8 @@ pub mod FieldLemmas
 pub mod EscapeLemmas
 pub mod WrittenTexts
 pub mod WalkLemmas
+pub mod LaxLemmas
+pub mod LaxParams
+pub mod LaxWalk
+pub mod LaxLaws
 pub mod ShownLemmas

@@ -53,12 +53,12 @@ pub ready : (s : Tests) (t : List ℕ) → outcome s after_param t ≡ giving (w
 ready s t = ap (λ r. (fault_from s after_param t, r)) (sym (forms t).param)
 
 -- ---- blanks
-by_blank : (c : ℕ) (P : ℕ → Type 0) → P 32 → P 9 → is_blank c ≡ true → P c
+pub by_blank : (c : ℕ) (P : ℕ → Type 0) → P 32 → P 9 → is_blank c ≡ true → P c
 by_blank c P a b h =
     by_test c 32 (λ t. (t || c == 9) ≡ true → P c) (λ e _. subst P (sym e) a)
     (λ _ k. by_test c 9 (λ t. t ≡ true → P c) (λ e _. subst P (sym e) b) (λ _ l. cc) k) h
 
-abbrev skips : Phase → Bool
+abbrev pub skips : Phase → Bool
 skips before_link = true
 skips after_param = true
 skips after_semicolon = true

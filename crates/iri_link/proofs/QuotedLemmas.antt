@@ -18,6 +18,12 @@ at_bad false c cs h = rw (test_out 34 c refl h, test_out 92 c refl h, h) refl
     test_out : (m d : ℕ) → is_pair_char m ≡ true → is_pair_char d ≡ false → (d == m) ≡ false
     test_out m d k l = by_test d m (λ b. b ≡ false) (λ e. let f : is_pair_char d ≡ true = ap is_pair_char e ∙ k in cc) (λ _. refl)
 
+at_other : (e : Bool) (c : ℕ) (cs : List ℕ) → (not e && c == 34) ≡ false → quoted_len e (c ∷ cs) ≡ suc (quoted_len (not e && c == 92) cs)
+unfolding quoted_len
+at_other true c cs n = refl
+at_other false c cs n =
+    by_test c 92 (λ b. (c == 92) ≡ b → quoted_len false (c ∷ cs) ≡ suc (quoted_len b cs)) (λ _ e. rw (n, e) refl) (λ _ e. rw (n, e) refl) refl
+
 at_good : (e : Bool) (c : ℕ) (cs : List ℕ) → (not e && c == 34) ≡ false → is_pair_char c ≡ true
     → (closes_from e (c ∷ cs) ≡ closes_from (not e && c == 92) cs) × (quoted_len e (c ∷ cs) ≡ suc (quoted_len (not e && c == 92) cs))
 unfolding closes_from quoted_len
@@ -50,6 +56,36 @@ module _ (bs : List ℕ) (i : ℕ) (e : Bool) (inside : i < length bs) (same : c
 pub end_none : (bs : List ℕ) (i : ℕ) (e : Bool) → length bs ≤ i → closes_from e (drop i bs) ≡ closes_from false bs → closes_from false bs ≡ false
 unfolding closes_from
 end_none bs i e h same = sym same ∙ ap (closes_from e) (drop_all i bs h)
+
+-- ---- how long it is, whether it ends or not
+module _ (bs : List ℕ) (i : ℕ) (e : Bool) (inside : i < length bs) (counts : i + quoted_len e (drop i bs) ≡ quoted_len false bs) where
+  parted : drop i bs ≡ get_or bs i 0 ∷ drop (i + 1) bs
+  parted = let n : suc i ≡ i + 1 = omega arith in subst (λ k. drop i bs ≡ get_or bs i 0 ∷ drop k bs) n (drop-cons bs i 0 inside)
+
+  pub len_found : (not e && get_or bs i 0 == 34) ≡ true → i ≡ quoted_len false bs
+  len_found h =
+      let n : quoted_len e (drop i bs) ≡ 0 = ap (quoted_len e) parted ∙ (at_delimiter e (get_or bs i 0) (drop (i + 1) bs) h).1 in
+      omega (arith, counts, n)
+
+  pub len_on : (not e && get_or bs i 0 == 34) ≡ false → i + 1 + quoted_len (not e && get_or bs i 0 == 92) (drop (i + 1) bs) ≡ quoted_len false bs
+  len_on h =
+      let k : quoted_len e (drop i bs) ≡ suc (quoted_len (not e && get_or bs i 0 == 92) (drop (i + 1) bs)) = ap (quoted_len e) parted ∙ at_other e (get_or bs i 0) (drop (i + 1) bs) h in
+      omega (arith, counts, k)
+
+pub len_end : (bs : List ℕ) (i : ℕ) (e : Bool) → length bs ≤ i → i ≤ length bs → i + quoted_len e (drop i bs) ≡ quoted_len false bs → length bs ≡ quoted_len false bs
+unfolding quoted_len
+len_end bs i e h k counts = let n : quoted_len e (drop i bs) ≡ 0 = ap (quoted_len e) (drop_all i bs h) in omega (arith, h, k, counts, n)
+
+-- at its end a delimiter stands, where it has one
+pub at_end : (e : Bool) (t : List ℕ) → (quoted_len e t ≤ length t) × (quoted_len e t < length t → slice_index t (quoted_len e t) ≡ 34)
+unfolding quoted_len
+at_end true [] = (omega arith, λ h. absurd (omega (arith, h)))
+at_end false [] = (omega arith, λ h. absurd (omega (arith, h)))
+at_end true (c ∷ cs) = let k = at_end false cs in (omega (arith, k.0), λ h. k.1 (omega (arith, h)))
+at_end false (c ∷ cs) =
+    by_test c 34 (λ b. (cond b 0 (suc (quoted_len (c == 92) cs)) ≤ length (c ∷ cs))
+    × (cond b 0 (suc (quoted_len (c == 92) cs)) < length (c ∷ cs) → slice_index (c ∷ cs) (cond b 0 (suc (quoted_len (c == 92) cs))) ≡ 34))
+    (λ e. (omega arith, λ _. e)) (λ _. let k = at_end (c == 92) cs in (omega (arith, k.0), λ h. k.1 (omega (arith, h))))
 
 -- ---- cut there
 pub record IsClosed (e : Bool) (t : List ℕ) (n : ℕ) : Type 0 where

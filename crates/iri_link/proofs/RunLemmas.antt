@@ -1,11 +1,17 @@
 -- A run at the start of a text.
-use Rattle.iri_link.proofs.Common.{◌==◌, inl, inr, by_test, first_passes, ◌≡◌, ℕ, zero, suc, ◌<◌, Bool, true, false, cond, List, [], ◌∷◌, take, drop, refl, ap, arith, slice_index}
+use Rattle.iri_link.proofs.Common.{◌==◌, ◌≤◌, ◌-◌, ◌∙◌, ◌++◌, ◌&&◌, not, sym, length, is_pair_char, inl, inr, by_test, first_passes, ◌≡◌, ℕ, zero, suc, ◌<◌, Bool, true, false, cond, List, [], ◌∷◌, take, drop, refl, ap, arith, slice_index}
 use Rattle.iri_link.proofs.Common.{list_all, IsUtf8, IsCharBoundary, nat_tests, run_of, both, is_blank, is_token_char, run_test, IsRun}
 use Rattle.std.proofs.lemmas.Str.{IsUtf8-from_ascii, IsCharBoundary-from_take}
 use Rattle.std.proofs.Common.{◌⊎◌}
 use Rattle.iri_grammar.proofs.units.FirstUnits.{run_of_le}
+use Rattle.iri_grammar.specs.Parts.{is_empty}
+use Rattle.iri_link.specs.LaxReadings.{is_name_char, is_value_char}
+use Rattle.iri_link.specs.inside.LaxPieces.{without_end}
 use Rattle.iri_link.specs.declared.runs.Run.{Run}
-use Rattle.iri_link.specs.declared.runs.Run.TheVariants.{Blank, Token}
+use Rattle.iri_link.specs.declared.runs.Run.TheVariants.{Blank, Token, Name, Value, Pair}
+
+pub when : (b : Bool) (P : Type 0) → (b ≡ true → P) → (b ≡ false → P) → P
+when b P on off = elim b as (λ v. b ≡ v → P) [ true ↦ on | false ↦ off ] refl
 
 pub run-is : (p : ℕ → Bool) (t : List ℕ) → IsRun p t (take (run_of p t) t) (drop (run_of p t) t)
 run-is p [] = record { whole = refl; all = refl; ends = refl }
@@ -21,24 +27,92 @@ blank-low c h = grind (arith, nat_tests)
 pub token-low : (c : ℕ) → is_token_char c ≡ true → c < 128
 token-low c h = grind (arith, nat_tests)
 
-pub run-low : (k : Run) (c : ℕ) → run_test k c ≡ true → c < 128
-run-low Blank c h = blank-low c h
-run-low Token c h = token-low c h
-
 pub all-at : (p : ℕ → Bool) → ((c : ℕ) → p c ≡ true → c < 128) → (xs : List ℕ) → list_all p xs ≡ true → (i : ℕ) → slice_index xs i < 128
 all-at p low [] h i = omega arith
 all-at p low (c ∷ cs) h zero = low c (both (p c) (list_all p cs) h).0
 all-at p low (c ∷ cs) h (suc i) = all-at p low cs (both (p c) (list_all p cs) h).1 i
 
+low-boundary : (p : ℕ → Bool) → ((c : ℕ) → p c ≡ true → c < 128) → (t : List ℕ) → IsUtf8 t → IsCharBoundary t (run_of p t)
+low-boundary p low t u =
+    IsCharBoundary-from_take t (run_of p t) u (run_of_le p t) (IsUtf8-from_ascii (take (run_of p t) t) (all-at p low (take (run_of p t) t) (run-is p t).all))
+
+-- where a run stops
+run-stops : (p : ℕ → Bool) (t : List ℕ) → run_of p t < length t → p (slice_index t (run_of p t)) ≡ false
+run-stops p [] h = absurd (omega (arith, h))
+run-stops p (c ∷ cs) h =
+    elim (p c) as (λ b. p c ≡ b → cond b (suc (run_of p cs)) 0 < length (c ∷ cs) → p (slice_index (c ∷ cs) (cond b (suc (run_of p cs)) 0)) ≡ false) [
+      | true ↦ λ e k. run-stops p cs (omega (arith, k))
+      | false ↦ λ e k. e
+    ] refl h
+
+stop-boundary : (p : ℕ → Bool) → ((c : ℕ) → p c ≡ false → c < 128) → (t : List ℕ) → IsCharBoundary t (run_of p t)
+stop-boundary p low t = (run_of_le p t, λ inside high. absurd (omega (arith, low (slice_index t (run_of p t)) (run-stops p t inside), high)))
+
+name-low : (c : ℕ) → is_name_char c ≡ false → c < 128
+name-low c h = grind (arith, nat_tests)
+
+value-low : (c : ℕ) → is_value_char c ≡ false → c < 128
+value-low c h = grind (arith, nat_tests)
+
+pair-low : (c : ℕ) → is_pair_char c ≡ false → c < 128
+pair-low c h = grind (arith, nat_tests)
+
 pub run-boundary : (k : Run) (t : List ℕ) → IsUtf8 t → IsCharBoundary t (run_of (run_test k) t)
-run-boundary k t u =
-    let p = run_test k in
-    IsCharBoundary-from_take t (run_of p t) u (run_of_le p t) (IsUtf8-from_ascii (take (run_of p t) t) (all-at p (run-low k) (take (run_of p t) t) (run-is p t).all))
+run-boundary Blank t u = low-boundary is_blank blank-low t u
+run-boundary Token t u = low-boundary is_token_char token-low t u
+run-boundary Name t u = stop-boundary is_name_char name-low t
+run-boundary Value t u = stop-boundary is_value_char value-low t
+run-boundary Pair t u = stop-boundary is_pair_char pair-low t
+
+-- ---- whether all bytes pass
+run-all : (p : ℕ → Bool) (t : List ℕ) → list_all p t ≡ true → run_of p t ≡ length t
+run-all p [] h = refl
+run-all p (c ∷ cs) h = let k = both (p c) (list_all p cs) h in rw k.0 (ap suc (run-all p cs k.1))
+
+run-some : (p : ℕ → Bool) (t : List ℕ) → list_all p t ≡ false → run_of p t < length t
+run-some p [] h = cc
+run-some p (c ∷ cs) h =
+    elim (p c) as (λ b. (b && list_all p cs) ≡ false → cond b (suc (run_of p cs)) 0 < length (c ∷ cs)) [
+      | true ↦ λ k. omega (arith, run-some p cs k)
+      | false ↦ λ k. omega arith
+    ] h
+
+pub run-whole : (p : ℕ → Bool) (t : List ℕ) → (run_of p t == length t) ≡ list_all p t
+run-whole p t =
+    when (list_all p t) _ (λ k. rw k (let e = run-all p t k in grind (arith, nat_tests)))
+    (λ k. rw k (let e = run-some p t k in grind (arith, nat_tests)))
+
+-- ---- blanks at the end
+blank_end : (xs : List ℕ) (c : ℕ) → is_blank c ≡ true → without_end (xs ++ c ∷ []) ≡ without_end xs
+blank_end [] c h = rw h refl
+blank_end (x ∷ xs) c h = ap (λ w. cond (not (is_blank x && is_empty w)) (x ∷ w) w) (blank_end xs c h)
+
+not_empty : (xs : List ℕ) (c : ℕ) → is_empty (xs ++ c ∷ []) ≡ false
+not_empty [] c = refl
+not_empty (x ∷ xs) c = refl
+
+text_end : (xs : List ℕ) (c : ℕ) → is_blank c ≡ false → without_end (xs ++ c ∷ []) ≡ xs ++ c ∷ []
+text_end [] c h = rw h refl
+text_end (x ∷ xs) c h =
+    ap (λ w. cond (not (is_blank x && is_empty w)) (x ∷ w) w) (text_end xs c h)
+    ∙ (rw (not_empty xs c) (when (is_blank x) (cond (not (is_blank x && false)) (x ∷ (xs ++ c ∷ [])) (xs ++ c ∷ []) ≡ x ∷ (xs ++ c ∷ [])) (λ k. rw k refl) (λ k. rw k refl)))
+
+grows : (t : List ℕ) (m : ℕ) → m < length t → take (suc m) t ≡ take m t ++ slice_index t m ∷ []
+grows [] m h = absurd (omega (arith, h))
+grows (c ∷ cs) zero h = refl
+grows (c ∷ cs) (suc m) h = ap (λ l. c ∷ l) (grows cs m (omega (arith, h)))
+
+last_at : (t : List ℕ) (n : ℕ) → 0 < n → n ≤ length t → take n t ≡ take (n - 1) t ++ slice_index t (n - 1) ∷ []
+last_at t n a b = let e : n ≡ suc (n - 1) = omega (arith, a) in ap (λ k. take k t) e ∙ grows t (n - 1) (omega (arith, a, b))
+
+-- the last byte of a prefix is a blank, or not
+pub end_blank : (t : List ℕ) (n : ℕ) → 0 < n → n ≤ length t → is_blank (slice_index t (n - 1)) ≡ true → without_end (take n t) ≡ without_end (take (n - 1) t)
+end_blank t n a b h = ap without_end (last_at t n a b) ∙ blank_end (take (n - 1) t) (slice_index t (n - 1)) h
+
+pub end_text : (t : List ℕ) (n : ℕ) → 0 < n → n ≤ length t → is_blank (slice_index t (n - 1)) ≡ false → take n t ≡ without_end (take n t)
+end_text t n a b h = let e = last_at t n a b in e ∙ (sym (text_end (take (n - 1) t) (slice_index t (n - 1)) h) ∙ ap without_end (sym e))
 
 -- ---- tests
-pub when : (b : Bool) (P : Type 0) → (b ≡ true → P) → (b ≡ false → P) → P
-when b P on off = elim b as (λ v. b ≡ v → P) [ true ↦ on | false ↦ off ] refl
-
 -- whether m comes first
 pub mark : (m : ℕ) (t : List ℕ) → (first_passes (λ c. c == m) t ≡ false) ⊎ ((r : List ℕ) × (t ≡ m ∷ r))
 mark m [] = inl refl

@@ -1,17 +1,21 @@
 -- The written form of link-values, shown from their text piece by piece.
-use Rattle.iri_link.proofs.Common.{before_link, ◌≡◌, ℕ, Bool, true, false, ◌<◌, List, [], ◌∷◌, ◌++◌, Option, Some, None, length, map, refl, sym, ap, ◌∙◌, subst}
+use Rattle.iri_link.proofs.Common.{◌≡◌, cond, LinkParam, LinkValue, reference_fault, ℕ, Bool, true, false, ◌<◌, List, [], ◌∷◌, ◌++◌, Option, Some, None, length, map, refl, sym, ap, ◌∙◌, subst}
 use Rattle.iri_link.proofs.Common.{append_assoc, append-nil, arith, flat_map, Tests, before, after}
-use Rattle.iri_link.proofs.Common.{fault_from, first_passes, CanonMode, resolved_in, escaped, written_param, written, unquoted, unquoted_from, ◌==◌}
-use Rattle.iri_link.proofs.FieldLemmas.{none_of}
+use Rattle.iri_link.proofs.Common.{first_passes, CanonMode, resolved_in, escaped, written_param, written, unquoted, unquoted_from, ◌==◌}
+use Rattle.std.specs.Prelude.{filter, is_none}
 use Rattle.iri_link.proofs.Common.{take, drop, map-append, str_to_ascii_lowercase}
 use Rattle.std.specs.Char.{to_ascii_lowercase}
 use Rattle.std.proofs.lemmas.List.{take-append-drop}
 use Rattle.iri_normal.specs.NormalForm.{canonical_in}
-use Rattle.iri_link.specs.Readings.{links_in}
+use Rattle.iri_link.specs.LaxReadings.{has_reference, lax_links_in}
 use Rattle.iri_link.specs.declared.piece.Piece.{Piece}
 use Rattle.iri_link.specs.declared.piece.Piece.TheVariants.{Target, Param, NoParam, Comma}
 use Rattle.iri_link.specs.inside.CutDelimiters.{IsChunk}
-use Rattle.iri_link.specs.inside.Pieces.{Comes, Ends, Left, between_past, left_at, param_said, phase_at, piece_fault, piece_text, stands, with_piece}
+use Rattle.iri_link.specs.declared.shown_text.Place.{Place}
+use Rattle.iri_link.specs.declared.shown_text.Place.TheVariants.{First, Later, Within}
+use Rattle.iri_link.specs.inside.LaxPieces.{LaxComes, LaxEnds, between_at, lax_left, passed_at, piece_text, place_past, target_text}
+use Rattle.iri_link.specs.inside.Pieces.{Left, param_said, stands, with_piece}
+use Rattle.iri_link.proofs.RunLemmas.{when}
 use Rattle.iri_link.proofs.QuotedLemmas.{after_pair, unquoted-chunk, after_pair-plain, after-shorter}
 use Rattle.iri_link.proofs.Utf8Lemmas.{escaped-append}
 use Rattle.iri_link.proofs.WrittenTexts.{left_text, written-cons, all_left}
@@ -57,51 +61,78 @@ lowered_on rest few left done all same front back =
     ∙ sym (append_assoc done (str_to_ascii_lowercase few) (str_to_ascii_lowercase left)))
 
 -- ---- what is left to show
+-- of parameters, and of link-values of which those with a reference are shown
+abbrev params_left : Place → List LinkParam → List ℕ
+params_left Within ps = flat_map written_param ps
+params_left _ ps = []
+
+nothing_within : (place : Place) → params_left place [] ≡ []
+nothing_within First = refl
+nothing_within Later = refl
+nothing_within Within = refl
+
+passed-left : (place : Place) (ps : List LinkParam) → (params_left (passed_at place) ps ≡ []) × (between_at place ≡ between_at (passed_at place))
+passed-left First ps = (refl, refl)
+passed-left Later ps = (refl, refl)
+passed-left Within ps = (refl, refl)
+
 module _ (s : Tests) (mode : CanonMode) (base : List ℕ) where
-  pub written_left : List ℕ → Left → List ℕ
-  written_left between l = flat_map written_param l.params ++ left_text between (map (resolved_in s mode base) l.links)
+  links_left : List LinkValue → List LinkValue
+  links_left ls = map (resolved_in s mode base) (filter (has_reference s) ls)
 
-  pub piece-written : (between : List ℕ) (x : Piece) (l : Left)
-      → written_left between (with_piece x l) ≡ piece_text s mode base between x ++ written_left (between_past between x) l
-  unfolding written_left
-  piece-written between (Target inner u) l =
-      let canon = canonical_in s mode base u.now in
+  pub written_left : Place → Left → List ℕ
+  written_left place l = params_left place l.params ++ left_text (between_at place) (links_left l.links)
+
+  target-written : (place : Place) (u : List ℕ) (l : Left) → written_left place (record { params = []; links = record { target = u; params = l.params } ∷ l.links })
+      ≡ cond (is_none (reference_fault s u)) (target_text s mode base place u) []
+      ++ written_left (cond (is_none (reference_fault s u)) Within (passed_at place)) l
+  unfolding written_left links_left
+  target-written place u l =
+      let canon = canonical_in s mode base u in
       let F = flat_map written_param l.params in
-      let ms = map (resolved_in s mode base) l.links in
+      let ms = map (resolved_in s mode base) (filter (has_reference s) l.links) in
       let L = left_text (44 ∷ 32 ∷ []) ms in
-      ap (λ z. between ++ z) (written-cons (record { target = canon; params = l.params }) ms ∙ ap (λ z. 60 ∷ z) (append_assoc canon (62 ∷ F) L))
+      let between = between_at place in
+      let p = passed-left place l.params in
+      let none = nothing_within place in
+      when (is_none (reference_fault s u)) _
+      (λ k. rw (k, none)
+      (ap (λ z. between ++ z) (written-cons (record { target = canon; params = l.params }) ms ∙ ap (λ z. 60 ∷ z) (append_assoc canon (62 ∷ F) L))
       ∙ sym (append_assoc (between ++ 60 ∷ []) (canon ++ 62 ∷ []) (F ++ L)
-      ∙ (append_assoc between (60 ∷ []) ((canon ++ 62 ∷ []) ++ (F ++ L)) ∙ ap (λ z. between ++ 60 ∷ z) (append_assoc canon (62 ∷ []) (F ++ L))))
-  piece-written between (Param p) l =
-      append_assoc (written_param (param_said p)) (flat_map written_param l.params)
-      (left_text between (map (resolved_in s mode base) l.links))
-  piece-written between NoParam l = refl
-  piece-written between Comma l = refl
+      ∙ (append_assoc between (60 ∷ []) ((canon ++ 62 ∷ []) ++ (F ++ L)) ∙ ap (λ z. between ++ 60 ∷ z) (append_assoc canon (62 ∷ []) (F ++ L))))))
+      (λ k. rw (k, none, p.0) (ap (λ b. left_text b ms) p.1))
 
-  -- what is shown and what is left to show of a text without a fault
-  pub record ToShow (all done between : List ℕ) (inside : Bool) (t : List ℕ) : Type 0 where
-    pub faultless : fault_from s (phase_at inside) t ≡ None
-    pub same : all ≡ done ++ written_left between (left_at inside t)
-
-  pub to_show : (text : List ℕ) → fault_from s before_link text ≡ None → ToShow (written (map (resolved_in s mode base) (links_in text))) [] [] false text
+  pub piece-written : (place : Place) (x : Piece) (l : Left)
+      → written_left place (with_piece x l) ≡ piece_text s mode base place x ++ written_left (place_past s place x) l
   unfolding written_left
-  to_show text h = record { faultless = h; same = all_left (map (resolved_in s mode base) (links_in text)) }
+  piece-written place (Target inner u) l = target-written place u.now l
+  piece-written First (Param p) l = refl
+  piece-written Later (Param p) l = refl
+  piece-written Within (Param p) l =
+      append_assoc (written_param (param_said p)) (flat_map written_param l.params)
+      (left_text (44 ∷ 32 ∷ []) (links_left l.links))
+  piece-written First NoParam l = refl
+  piece-written Later NoParam l = refl
+  piece-written Within NoParam l = refl
+  piece-written First Comma l = refl
+  piece-written Later Comma l = refl
+  piece-written Within Comma l = refl
 
-  module _ (all done between : List ℕ) (p : Bool) (t : List ℕ) (k : ToShow all done between p t) where
+  pub to_show : (text : List ℕ) → written (map (resolved_in s mode base) (lax_links_in s text)) ≡ [] ++ written_left First (lax_left false text)
+  unfolding written_left links_left
+  to_show text = all_left (map (resolved_in s mode base) (lax_links_in s text))
+
+  module _ (all done : List ℕ) (place : Place) (inside : Bool) (t : List ℕ) (same : all ≡ done ++ written_left place (lax_left inside t)) where
     -- nothing is left at the end
-    pub all_shown : Ends p t → done ≡ all
-    unfolding written_left
-    all_shown e = sym (k.same ∙ (ap (λ l. done ++ written_left between l) (e.none_left s) ∙ append-nil done))
+    pub all_shown : LaxEnds inside t → done ≡ all
+    unfolding written_left links_left
+    all_shown e =
+        sym (same ∙ (ap (λ l. done ++ written_left place l) e
+        ∙ (ap (λ z. done ++ (z ++ [])) (nothing_within place) ∙ append-nil done)))
 
-    module _ (rest : List ℕ) (x : Piece) (c : Comes p t x rest) where
-      faultless_past : (piece_fault s x ≡ None) × (fault_from s (phase_at (stands x)) rest ≡ None)
-      faultless_past = none_of (piece_fault s x) (fault_from s (phase_at (stands x)) rest) (sym (c.goes s) ∙ k.faultless)
-
-      -- what is left past a piece
-      pub left_past : all ≡ (done ++ piece_text s mode base between x) ++ written_left (between_past between x) (left_at (stands x) rest)
-      left_past =
-          k.same ∙ (ap (λ z. done ++ z) (ap (written_left between) (c.reads s faultless_past.1) ∙ piece-written between x (left_at (stands x) rest))
-          ∙ sym (append_assoc done (piece_text s mode base between x) (written_left (between_past between x) (left_at (stands x) rest))))
-
-      pub shown_past : (q : Bool) (told : List ℕ) → q ≡ stands x → told ≡ between_past between x → ToShow all (done ++ piece_text s mode base between x) told q rest
-      shown_past q told at past = rw (at, past) (record { faultless = faultless_past.1; same = left_past })
+    -- what is left past a piece
+    pub left_past : (rest : List ℕ) (x : Piece) → LaxComes inside t x rest
+        → all ≡ (done ++ piece_text s mode base place x) ++ written_left (place_past s place x) (lax_left (stands x) rest)
+    left_past rest x c =
+        same ∙ (ap (λ z. done ++ z) (ap (written_left place) c.same ∙ piece-written place x (lax_left (stands x) rest))
+        ∙ sym (append_assoc done (piece_text s mode base place x) (written_left (place_past s place x) (lax_left (stands x) rest))))

@@ -73,7 +73,6 @@ module _ (t a next : List ℕ) (h : IsRun is_blank t a next) where
     goes = λ s. ap (λ o. o.0) (over_before s ∙ (ap (outcome s before_link) e ∙ (comma-same s rest).3));
     reads = λ s _. ap left_before (over_before s ∙ (ap (outcome s before_link) e ∙ (comma-same s rest).3));
     keeps = λ s _ _. kept_past_comma s t a rest (h.whole ∙ ap (λ l. a ++ l) e) h.all;
-    named = tt;
     shorter = shorter t a next rest 44 h.whole e;
   }
 
@@ -121,7 +120,6 @@ module _ (t a next : List ℕ) (h : IsRun is_blank t a next) where
           closed = closed;
           valid = target_none inner.now (reference_fault s u.now) valid;
         };
-        named = tt;
         shorter = omega (arith, shorter t a next inner.now 60 h.whole e, after-shorter 62 inner.now rest r);
       }
 
@@ -138,7 +136,6 @@ module _ (t a next : List ℕ) (h : IsRun is_blank t a next) where
     goes = λ s. ap (λ o. o.0) (over_inside s ∙ (ap (outcome s after_param) e ∙ (comma-same s rest).1));
     reads = λ s _. ap left_inside (over_inside s ∙ (ap (outcome s after_param) e ∙ (comma-same s rest).1));
     keeps = λ s f. cc;
-    named = tt;
     shorter = shorter t a next rest 44 h.whole e;
   }
 
@@ -161,7 +158,6 @@ module _ (t a next : List ℕ) (h : IsRun is_blank t a next) where
     goes = λ s. goes_inside s ∙ k.goes s;
     reads = λ s v. ap left_inside (over_inside s) ∙ k.reads s v;
     keeps = λ s f. cc;
-    named = k.named;
     shorter = omega (arith, k.shorter, ap length h.whole, length-append a next);
   }
 
@@ -180,18 +176,16 @@ module _ (whole following b next : List ℕ) (e : whole ≡ 59 ∷ following) (h
     goes = λ s. goes_after s ∙ semicolon_ready s next h.ends none;
     reads = λ s v. ap left_inside (past s ∙ (valid_stop s next v).semicolon_ends);
     keeps = λ s f. cc;
-    named = tt;
     shorter = omega (arith, ap length e, ap length h.whole, length-append b next);
   }
 
   pub param_after : (p : ParamText) (rest : List ℕ) → first_passes is_token_char next ≡ true → ReadsParam next rest (param_said p)
-      → list_all is_token_char p.name.now ≡ true → Comes true whole (Param p) rest
-  param_after p rest begun r named = record {
+      → Comes true whole (Param p) rest
+  param_after p rest begun r = record {
     goes = λ s. goes_after s ∙ (semicolon_begun s next begun ∙ r.goes s);
     reads = λ s v.
         ap left_inside (past s ∙ (ap (outcome s after_semicolon) r.whole ∙ param-given s r.prefix rest (param_said p) r.param (valid_stop s rest v)));
     keeps = λ s f. cc;
-    named = named;
     shorter = omega (arith, ap length e, ap length h.whole, length-append b next, ap length r.whole, length-append r.prefix rest);
   }
 

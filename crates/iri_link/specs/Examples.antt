@@ -13,6 +13,7 @@ use Rattle.iri_link.specs.Token.{plain, pair, done}
 use Rattle.iri_link.specs.Field.{LinkValue, IsField, last, more, empty as no_element, link as element, link}
 use Rattle.iri_link.specs.Field.{param, empty, none, bare, valued, token, quoted}
 use Rattle.iri_link.specs.Fault.{Told, field_fault, fault_from, closes_from}
+use Rattle.iri_link.specs.LaxReadings.{lax_links_in, lax_reading}
 use Rattle.iri_link.specs.Written.{written}
 use Rattle.iri_link.specs.declared.error.LinkKind.TheVariants.{NoTarget, OpenTarget, BadTarget, NoParam, NoValue, OpenString}
 
@@ -77,6 +78,22 @@ no_fault : map fault_of (codes "" ∷ codes " , ," ∷ codes "<a,b>; rel=\"x,y\"
 unfolding fault_from closes_from split_of fault_before_fragment parts_fault is_letter is_scheme_char is_utf8 chars encode over_from path_char
     is_ascii_path is_ascii_pchar is_ascii_reg_name is_ascii_unreserved is_sub_delim query_char is_ascii_query
 no_fault = refl
+
+-- read laxly: a media type without quotes, blanks after it, what is no link-value, a target that is none, a parameter without a name,
+-- and a quoted string that isn't closed
+lax_links : lax_links_in uri_tests (codes "</f.woff2>; rel=preload; type=font/woff2 ;crossorigin, bar \"a, <b>\", <%4>; rel=x, </b>;=pri=1;REL=up c; t=\"x, y")
+    ≡ record {
+      target = codes "/f.woff2";
+      params = record { name = codes "rel"; value = Some (codes "preload") } ∷ record { name = codes "type"; value = Some (codes "font/woff2") }
+          ∷ record { name = codes "crossorigin"; value = None } ∷ [];
+    }
+    ∷ record {
+      target = codes "/b";
+      params = record { name = codes "rel"; value = Some (codes "up c") } ∷ record { name = codes "t"; value = Some (codes "x, y") } ∷ [];
+    } ∷ []
+unfolding lax_reading split_of fault_before_fragment parts_fault is_letter is_scheme_char is_utf8 chars encode over_from path_char is_ascii_path is_ascii_pchar
+    is_ascii_reg_name is_ascii_unreserved is_sub_delim query_char is_ascii_query
+lax_links = refl
 
 -- one form: each value in quotes, delimiters escaped, one comma and one blank between
 written_x_up :

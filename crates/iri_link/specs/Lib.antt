@@ -4,6 +4,7 @@ pub mod ErrorTexts
 pub mod Examples
 pub mod Fault
 pub mod Field
+pub mod LaxReadings
 pub mod Links
 pub mod Phases
 pub mod Readings

@@ -2,6 +2,7 @@
 pub mod CutDelimiters
 pub mod Halts
 pub mod KeptLinks
+pub mod LaxPieces
 pub mod Pieces
 pub mod ReadParams
 pub mod ReadQuoted

@@ -3,6 +3,7 @@ ghost use Rattle.std.specs.Prelude.{◌≡◌, None, Some, map, MatchResult};
 ghost use Rattle.iri_text.specs.Shown.{Shows};
 ghost use Rattle.iri_normal.specs.Resolver.{base_text};
 ghost use Rattle.iri_link.specs.Fault.{fault_from, field_fault, place_in};
+ghost use Rattle.iri_link.specs.LaxReadings.{lax_links_in};
 ghost use Rattle.iri_link.specs.Phases.{before_link};
 ghost use Rattle.iri_link.specs.Readings.{links_in};
 ghost use Rattle.iri_link.specs.Resolved.{resolved, resolved_in};
@@ -114,6 +115,41 @@ pub fn show_links_against_in<S: Spec, W: TextSink>(
     requires { field_fault S.tests field.now ≡ None }
     ensures { Shows W.puts W.halts W.stops sink.old
         (written (map (resolved_in S.tests mode (base_text resolver.now)) (links_in field.now))) sink.new result }
+{
+    show_lax_links_against_in(sink, mode, resolver, field)
+}
+
+/// Shows the link-values of a text in their written form as [`show_links_against_in`] does, read laxly (RFC 8288 appendix
+/// B.2 to B.4): a value that is no quoted string goes up to a `;` or `,`, blanks at its end aside, and a quoted string
+/// that isn't closed to the end; a parameter that can't be written is left out; and what is no link-value, a link-value
+/// whose target is no URI-reference, and what stands after one and is no parameter, up to a comma outside quotes, are
+/// passed over. It allocates nothing. What has no fault is shown alike (a law).
+///
+/// # Errors
+///
+/// Only where the sink's count of stops rises; the sink has stopped within the written form then.
+///
+/// ```
+/// use iri::format::SliceSink;
+/// use iri::link::show_lax_links_against_in;
+/// use iri::normalize::CanonMode;
+/// use iri::resolve::FixedBaseResolver;
+/// use iri::types::UriAbsoluteStr;
+/// let page = FixedBaseResolver::new(UriAbsoluteStr::new("http://example.com/")?);
+/// let mut buffer = [0; 64];
+/// let mut sink = SliceSink::new(&mut buffer);
+/// let field = "</a.woff2>; type=font/woff2, bar, <%>; rel=x";
+/// assert!(rt; show_lax_links_against_in(&mut sink, CanonMode::Default, &page, field).is_ok());
+/// assert_eq!(rt; sink.as_str(), "<http://example.com/a.woff2>; type=\"font/woff2\"");
+/// ```
+pub fn show_lax_links_against_in<S: Spec, W: TextSink>(
+    sink: &mut W,
+    mode: CanonMode,
+    resolver: &FixedBaseResolver<'_, S>,
+    field: &str,
+) -> Result<(), Stop>
+    ensures { Shows W.puts W.halts W.stops sink.old
+        (written (map (resolved_in S.tests mode (base_text resolver.now)) (lax_links_in S.tests field.now))) sink.new result }
 {
     show_text(sink, mode, resolver, field)
 }

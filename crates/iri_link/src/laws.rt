@@ -3,6 +3,7 @@ ghost use Rattle.std.specs.Prelude.{◌≡◌, ◌↔◌, ℕ, List, None};
 ghost use Rattle.iri_grammar.specs.Parts.{IsAbsolute};
 ghost use Rattle.iri_link.specs.Fault.{field_fault};
 ghost use Rattle.iri_link.specs.Field.{LinkValue, IsField};
+ghost use Rattle.iri_link.specs.LaxReadings.{lax_links_in};
 ghost use Rattle.iri_link.specs.Links.{HasLinks};
 ghost use Rattle.iri_link.specs.Readings.{links_in};
 ghost use Rattle.iri_link.specs.Resolved.{IsReadIn};
@@ -26,6 +27,11 @@ pub fn no_fault_of_field_values<S: Spec>()
     ensures fields { (x : List ℕ) → (field_fault S.tests x ≡ None)
         ↔ ((links : List LinkValue) × HasLinks S.tests x links) }
     ensures links { (x : List ℕ) → field_fault S.tests x ≡ None → HasLinks S.tests x (links_in x) }
+{}
+
+/// The lax reading of a field value whose targets are URI-references gives its link-values, as the strict one.
+pub fn field_values_are_read_alike<S: Spec>()
+    ensures { (x : List ℕ) → field_fault S.tests x ≡ None → lax_links_in S.tests x ≡ links_in x }
 {}
 
 /// The written form of the link-values of a field value has these link-values.

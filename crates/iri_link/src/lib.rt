@@ -29,6 +29,7 @@ mod error;
 mod field;
 mod halt;
 pub mod laws;
+mod lax;
 mod link;
 mod param;
 mod param_text;
@@ -42,5 +43,7 @@ mod walk;
 mod written;
 
 pub use error::{LinkError, LinkKind};
-pub use field::{check_field, show_links_against, show_links_against_in};
+pub use field::{
+    check_field, show_lax_links_against_in, show_links_against, show_links_against_in,
+};
 pub use set::{LinkSet, read_links, read_links_against, read_links_against_in, read_links_in};

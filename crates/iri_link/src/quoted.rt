@@ -4,14 +4,14 @@ ghost use Rattle.iri_link.specs.Fault.{closes_from};
 ghost use Rattle.iri_link.specs.Token.{is_pair_char};
 ghost use Rattle.iri_grammar.specs.OptionalSlices.{now_of};
 ghost use Rattle.iri_link.specs.inside.CutDelimiters.{IsChunk};
-ghost use Rattle.iri_link.specs.inside.ReadQuoted.{quoted_len, unquoted, IsCutQuoted};
+ghost use Rattle.iri_link.specs.inside.ReadQuoted.{quoted_len, unquoted, IsCutOpen, IsCutQuoted};
 
 use crate::runs::past;
 use iri_grammar::cutting::cut;
 use std::alloc::{AllocError, Global};
 
 // A tab, a space, a printable ASCII character, or a byte of one past ASCII.
-fn is_pair_char(b: u8) -> bool
+pub(crate) fn is_pair_char(b: u8) -> bool
     ensures { result ≡ is_pair_char b }
 {
     b == b'\t' || (32..=126).contains(&b) || b > 127
@@ -49,6 +49,32 @@ pub(crate) fn cut_quoted(s: &str) -> Option<(&str, &str)>
     match find_end(s.as_bytes()) {
         Some(n) => Some((&s[..n], &s[n + 1..])),
         None => None,
+    }
+}
+
+// How many bytes stand before the `"` that ends a quoted string, or all where none does.
+fn quoted_len(bytes: &[u8]) -> usize
+    ensures { result ≡ quoted_len false bytes.now }
+{
+    let mut escaped = false;
+    for (i, b) in bytes.iter().enumerate() {
+        if stands_free(escaped, *b, b'"') {
+            return i;
+        }
+        escaped = stands_free(escaped, *b, b'\\');
+    }
+    bytes.len()
+}
+
+// What is in a quoted string, after its first `"`, and what follows it: nothing where it isn't closed.
+pub(crate) fn cut_open(s: &str) -> (&str, &str)
+    ensures { IsCutOpen s.now result.0.now result.1.now }
+{
+    let n = quoted_len(s.as_bytes());
+    if n < s.len() {
+        (&s[..n], &s[n + 1..])
+    } else {
+        (s, "")
     }
 }
 

@@ -1,9 +1,13 @@
 // Runs of blanks and of a token's characters.
-ghost use Rattle.std.specs.Prelude.{◌≡◌, ◌==◌, ◌<◌, ◌∷◌, false, MatchOption};
+ghost use Rattle.std.specs.Prelude.{◌≡◌, ◌==◌, ◌<◌, ◌≤◌, ◌∷◌, false, length, slice_index, take, MatchOption};
+ghost use Rattle.std.specs.List.{list_all};
 ghost use Rattle.iri_grammar.specs.Runs.{run_of};
 ghost use Rattle.iri_link.specs.Token.{is_token_char};
 ghost use Rattle.iri_grammar.specs.inside.Runs.{first_passes};
+ghost use Rattle.iri_link.specs.inside.LaxPieces.{without_end};
 ghost use Rattle.iri_link.specs.inside.Runs.{run_test, IsRun};
+
+use crate::quoted::is_pair_char;
 
 // What a run is of.
 #[derive(Clone, Copy)]
@@ -12,6 +16,12 @@ pub(crate) enum Run {
     Blank,
     // Characters of a token.
     Token,
+    // Characters of a name that is read laxly.
+    Name,
+    // Characters of such a value that is no quoted string.
+    Value,
+    // Characters that may stand after a `\` in a quoted string.
+    Pair,
 }
 
 impl Run {
@@ -40,6 +50,9 @@ impl Run {
                             | b'~'
                     )
             }
+            Run::Name => !matches!(b, b' ' | b'\t' | b'=' | b';' | b','),
+            Run::Value => !matches!(b, b';' | b','),
+            Run::Pair => is_pair_char(b),
         }
     }
 }
@@ -56,11 +69,41 @@ fn run_len(run: Run, bytes: &[u8]) -> usize
     bytes.len()
 }
 
+// Whether all bytes are of the run.
+pub(crate) fn is_all(run: Run, bytes: &[u8]) -> bool
+    ensures { result ≡ list_all (run_test run) bytes.now }
+{
+    run_len(run, bytes) == bytes.len()
+}
+
 // The run at the start, and what follows it.
 pub(crate) fn cut_run(run: Run, s: &str) -> (&str, &str)
     ensures { IsRun (run_test run) s.now result.0.now result.1.now }
 {
     s.split_at(run_len(run, s.as_bytes()))
+}
+
+// How many bytes stand before the blanks at the end.
+fn len_without_end(bytes: &[u8]) -> usize
+    ensures bound { result ≤ length bytes.now }
+    ensures value { take result bytes.now ≡ without_end bytes.now }
+    ensures ascii { result < length bytes.now → slice_index bytes.now result < 128 }
+{
+    let mut len = bytes.len();
+    while len > 0 {
+        if !Run::Blank.has(bytes[len - 1]) {
+            return len;
+        }
+        len -= 1;
+    }
+    len
+}
+
+// The text without the blanks at its end.
+pub(crate) fn trim_end(s: &str) -> &str
+    ensures { result.now ≡ without_end s.now }
+{
+    &s[..len_without_end(s.as_bytes())]
 }
 
 // Whether the delimiter comes first.

@@ -1,26 +1,26 @@
-// The written form of the link-values of a text, shown piece by piece (RFC 8288 section 3). It allocates nothing.
-ghost use Rattle.std.specs.Prelude.{◌≡◌, ◌≤◌, ◌++◌, ◌∷◌, [], None, codes, length, map, true};
+// The written form of the link-values of a text, shown piece by piece (RFC 8288 section 3 and appendix B.2). It allocates nothing.
+ghost use Rattle.std.specs.Prelude.{◌≡◌, ◌≤◌, ◌++◌, ◌∷◌, [], codes, cond, is_none, length, map, true};
 ghost use Rattle.std.specs.List.{list_all};
 ghost use Rattle.std.specs.Str.{IsAscii, str_to_ascii_lowercase};
 ghost use Rattle.iri_grammar.specs.WholeFault.{reference_fault};
-ghost use Rattle.iri_link.specs.Characters.{greater_than_sign, less_than_sign};
+ghost use Rattle.iri_types.specs.SplitText.{split_text};
 ghost use Rattle.iri_text.specs.Shown.{Shows};
-ghost use Rattle.iri_normal.specs.NormalForm.{canonical_in};
 ghost use Rattle.iri_normal.specs.Resolver.{base_text};
-ghost use Rattle.iri_link.specs.Fault.{fault_from};
-ghost use Rattle.iri_link.specs.Phases.{before_link};
-ghost use Rattle.iri_link.specs.Readings.{links_in};
+ghost use Rattle.iri_link.specs.LaxReadings.{lax_links_in};
 ghost use Rattle.iri_link.specs.Resolved.{resolved_in};
 ghost use Rattle.iri_link.specs.Token.{is_token_char};
 ghost use Rattle.iri_link.specs.Written.{escaped, written, written_param};
-ghost use Rattle.iri_link.specs.inside.Pieces.{IsNamed, between_past, param_said, piece_fault, piece_text};
-ghost use Rattle.iri_link.specs.inside.ReadQuoted.{unquoted};
+ghost use Rattle.iri_link.specs.inside.LaxPieces.{between_at, passed_at, piece_text, place_past, target_text};
+ghost use Rattle.iri_link.specs.declared.shown_text.Place.TheVariants.{Within};
+ghost use Rattle.iri_link.specs.inside.Pieces.{IsNamed, param_said};
+ghost use Rattle.iri_link.specs.inside.ReadQuoted.{said, unquoted};
 
+use crate::lax::next_lax_piece;
 use crate::param_text::ParamText;
 use crate::piece::Piece;
 use crate::quoted::cut_chunk;
-use crate::walk::{is_inside, next_piece};
-use crate::written::Escaped;
+use crate::walk::is_inside;
+use crate::written::{Escaped, show_escaped};
 use iri_grammar::spec::Spec;
 use iri_normal::canonical::show_canonical_in;
 use iri_normal::mode::CanonMode;
@@ -44,17 +44,22 @@ fn show_value<W: TextSink>(sink: &mut W, raw: &str) -> Result<(), Stop>
     }
 }
 
-// A value as it stands in a quoted string.
+// A value as it stands, and whether a `\` before a character goes there.
 #[derive(Drop)]
-struct Quoted<'a> {
+struct Value<'a> {
     raw: &'a str,
+    escapes: bool,
 }
 
-impl Show for Quoted<'_> {
-    ghost text = { λ q. escaped (unquoted q.raw.now) };
+impl Show for Value<'_> {
+    ghost text = { λ v. escaped (said v.escapes v.raw.now) };
 
     fn show<W: TextSink>(&self, sink: &mut W) -> Result<(), Stop> {
-        show_value(sink, self.raw)
+        if self.escapes {
+            show_value(sink, self.raw)
+        } else {
+            show_escaped(sink, self.raw)
+        }
     }
 }
 
@@ -103,87 +108,128 @@ fn show_param<W: TextSink>(sink: &mut W, param: ParamText<'_>) -> Result<(), Sto
 {
     show_name(sink, param.name)?;
     match param.value {
-        Some(raw) => show_three(sink, &"=\"", &Quoted { raw }, &"\""),
+        Some(raw) => {
+            let escapes = param.escapes;
+            show_three(sink, &"=\"", &Value { raw, escapes }, &"\"")
+        }
         None => Ok(()),
     }
 }
 
+// Where a display of link-values stands.
+#[derive(Clone, Copy)]
+pub(crate) enum Place {
+    // Before the first link-value that is shown.
+    First,
+    // After one, and not within it.
+    Later,
+    // Within one.
+    Within,
+}
+
+// What comes before the next target.
+fn between_at(place: Place) -> &'static str
+    ensures { result.now ≡ between_at place }
+{
+    match place {
+        Place::First => "",
+        Place::Later | Place::Within => ", ",
+    }
+}
+
+// Where a link-value that isn't shown leaves.
+fn passed_at(place: Place) -> Place
+    ensures { result ≡ passed_at place }
+{
+    match place {
+        Place::First => Place::First,
+        Place::Later | Place::Within => Place::Later,
+    }
+}
+
 // Shows the canonical text of a target in angle brackets, after what comes before it.
+fn show_reference<S: Spec, W: TextSink>(
+    sink: &mut W,
+    mode: CanonMode,
+    resolver: &FixedBaseResolver<'_, S>,
+    place: Place,
+    reference: &SplitView<'_, S, Reference>,
+) -> Result<(), Stop>
+    ensures { Shows W.puts W.halts W.stops sink.old
+        (target_text S.tests mode (base_text resolver.now) place (split_text reference.now)) sink.new result }
+{
+    show_two(sink, &between_at(place), &"<")?;
+    show_canonical_in(sink, mode, resolver, reference)?;
+    sink.put(">")
+}
+
+// Shows a target that is a URI-reference, and no other.
 fn show_target<S: Spec, W: TextSink>(
     sink: &mut W,
     mode: CanonMode,
     resolver: &FixedBaseResolver<'_, S>,
-    between: &str,
+    place: &mut Place,
     target: &str,
 ) -> Result<(), Stop>
-    requires { reference_fault S.tests target.now ≡ None }
-    ensures { Shows W.puts W.halts W.stops sink.old ((between.now ++ less_than_sign ∷ [])
-        ++ (canonical_in S.tests mode (base_text resolver.now) target.now ++ greater_than_sign ∷ [])) sink.new result }
+    ensures shows { Shows W.puts W.halts W.stops sink.old
+        (cond (is_none (reference_fault S.tests target.now))
+        (target_text S.tests mode (base_text resolver.now) place.old target.now) []) sink.new result }
+    ensures place { place.new ≡ cond (is_none (reference_fault S.tests target.now)) Within (passed_at place.old) }
 {
+    let before = *place;
     match SplitView::<S, Reference>::new(target) {
         Ok(reference) => {
-            show_two(sink, &between, &"<")?;
-            show_canonical_in(sink, mode, resolver, &reference)?;
-            sink.put(">")
+            *place = Place::Within;
+            show_reference(sink, mode, resolver, before, &reference)
         }
-        Err(_) => unreachable!(),
+        Err(_) => {
+            *place = passed_at(before);
+            Ok(())
+        }
     }
 }
 
-// Shows a piece; `between` comes before a target.
+// Shows a piece.
 fn show_piece<S: Spec, W: TextSink>(
     sink: &mut W,
     mode: CanonMode,
     resolver: &FixedBaseResolver<'_, S>,
-    between: &str,
+    place: &mut Place,
     piece: Piece<'_>,
 ) -> Result<(), Stop>
-    requires faultless { piece_fault S.tests piece ≡ None }
-    requires named { IsNamed piece }
-    ensures { Shows W.puts W.halts W.stops sink.old
-        (piece_text S.tests mode (base_text resolver.now) between.now piece.entry) sink.new result }
+    requires { IsNamed piece }
+    ensures shows { Shows W.puts W.halts W.stops sink.old
+        (piece_text S.tests mode (base_text resolver.now) place.old piece.entry) sink.new result }
+    ensures place { place.new ≡ place_past S.tests place.old piece.entry }
 {
-    match piece {
-        Piece::Target(_, target) => show_target(sink, mode, resolver, between, target),
-        Piece::Param(param) => show_param(sink, param),
+    match (piece, *place) {
+        (Piece::Target(_, target), _) => show_target(sink, mode, resolver, place, target),
+        (Piece::Param(param), Place::Within) => show_param(sink, param),
         _ => Ok(()),
     }
 }
 
-// What comes before the next target, past a piece.
-fn between_past<'a>(between: &'a str, piece: Piece<'_>) -> &'a str
-    ensures { result.now ≡ between_past between.now piece.entry }
-{
-    match piece {
-        Piece::Target(_, _) => ", ",
-        _ => between,
-    }
-}
-
-// Shows the link-values of a text without a fault.
+// Shows the link-values of a text that is read laxly.
 pub(crate) fn show_text<S: Spec, W: TextSink>(
     sink: &mut W,
     mode: CanonMode,
     resolver: &FixedBaseResolver<'_, S>,
     text: &str,
 ) -> Result<(), Stop>
-    requires { fault_from S.tests before_link text.now ≡ None }
     ensures { Shows W.puts W.halts W.stops sink.old
-        (written (map (resolved_in S.tests mode (base_text resolver.now)) (links_in text.now))) sink.new result }
+        (written (map (resolved_in S.tests mode (base_text resolver.now)) (lax_links_in S.tests text.now))) sink.new result }
 {
-    let mut between = "";
+    let mut place = Place::First;
     let mut inside = false;
     let mut rest = text;
     'pieces: loop {
-        match next_piece(inside, rest) {
-            Ok(Some((piece, after))) => {
-                show_piece(sink, mode, resolver, between, piece)?;
-                between = between_past(between, piece);
+        match next_lax_piece(inside, rest) {
+            Some((piece, after)) => {
+                show_piece(sink, mode, resolver, &mut place, piece)?;
                 inside = is_inside(piece);
                 rest = after;
             }
-            Ok(None) => return Ok(()),
-            Err(_) => unreachable!(),
+            None => return Ok(()),
         }
     }
 }

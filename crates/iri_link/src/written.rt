@@ -28,7 +28,7 @@ fn cut_delimiter(s: &str) -> Option<(&str, &str, &str)>
 }
 
 // Shows a value with a `\` before each `"` and `\`.
-fn show_escaped<W: TextSink>(sink: &mut W, value: &str) -> Result<(), Stop>
+pub(crate) fn show_escaped<W: TextSink>(sink: &mut W, value: &str) -> Result<(), Stop>
     ensures { Shows W.puts W.halts W.stops sink.old (escaped value.now) sink.new result }
 {
     let mut rest = value;

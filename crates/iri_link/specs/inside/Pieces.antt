@@ -1,13 +1,10 @@
 -- What a walk over a field value comes to, piece by piece.
-use Rattle.std.specs.Prelude.{◌≡◌, ◌<◌, ℕ, Bool, true, false, List, [], ◌∷◌, ◌++◌, length, ⊤, Option, None, codes}
+use Rattle.std.specs.Prelude.{◌≡◌, ◌<◌, ℕ, Bool, true, false, List, [], ◌∷◌, length, ⊤, Option, None}
 use Rattle.std.specs.Option.{option_map}
 use Rattle.std.specs.Str.{str_to_ascii_lowercase}
 use Rattle.iri_grammar.specs.Classes.{Tests}
 use Rattle.iri_grammar.specs.OptionalSlices.{now_of}
 use Rattle.iri_grammar.specs.WholeFault.{reference_fault}
-use Rattle.iri_percent.specs.declared.canon_mode.CanonMode.{CanonMode}
-use Rattle.iri_normal.specs.NormalForm.{canonical_in}
-use Rattle.iri_link.specs.Characters.{greater_than_sign, less_than_sign}
 use Rattle.iri_link.specs.Fault.{Fault, earlier, fault_from, told_target}
 use Rattle.iri_link.specs.Field.{LinkParam, LinkValue}
 use Rattle.iri_link.specs.Phases.{Phase, before_link, after_param}
@@ -15,15 +12,14 @@ use Rattle.iri_link.specs.Readings.{reading}
 use Rattle.iri_link.specs.Refusals.{KeepsTarget}
 use Rattle.std.specs.List.{list_all}
 use Rattle.iri_link.specs.Token.{is_token_char}
-use Rattle.iri_link.specs.Written.{written_param}
 use Rattle.iri_link.specs.declared.param_text.ParamText.{ParamText}
 use Rattle.iri_link.specs.declared.piece.Piece.{Piece}
 use Rattle.iri_link.specs.declared.piece.Piece.TheVariants.{Target, Param, Comma}
-use Rattle.iri_link.specs.inside.ReadQuoted.{unquoted}
+use Rattle.iri_link.specs.inside.ReadQuoted.{said}
 
 -- a parameter, from what stands in a text
 abbrev pub param_said : ParamText → LinkParam
-param_said p = record { name = str_to_ascii_lowercase p.name.now; value = option_map unquoted (now_of p.value) }
+param_said p = record { name = str_to_ascii_lowercase p.name.now; value = option_map (said p.escapes) (now_of p.value) }
 
 -- where a walk stands that is after a target or a parameter, or that isn't
 abbrev pub phase_at : Bool → Phase
@@ -71,22 +67,9 @@ pub record Comes (inside : Bool) (t : List ℕ) (x : Piece) (rest : List ℕ) : 
   pub goes : (s : Tests) → fault_from s (phase_at inside) t ≡ earlier (piece_fault s x) (fault_from s (phase_at (stands x)) rest)
   pub reads : (s : Tests) → fault_from s (phase_at (stands x)) rest ≡ None → left_at inside t ≡ with_piece x (left_at (stands x) rest)
   pub keeps : (s : Tests) → inside ≡ false → piece_fault s x ≡ None → Keeps s (stands x) t rest
-  pub named : IsNamed x
   pub shorter : length rest < length t
 
 -- nothing comes in t
 pub record Ends (inside : Bool) (t : List ℕ) : Type 0 where
   pub faultless : (s : Tests) → fault_from s (phase_at inside) t ≡ None
   pub none_left : (s : Tests) → left_at inside t ≡ record { params = []; links = [] }
-
--- what is shown of a piece, before which this stands where it is a target
-abbrev pub piece_text : Tests → CanonMode → (base between : List ℕ) → Piece → List ℕ
-piece_text s mode base between (Target inner target) =
-    (between ++ less_than_sign ∷ []) ++ (canonical_in s mode base target.now ++ greater_than_sign ∷ [])
-piece_text s mode base between (Param p) = written_param (param_said p)
-piece_text s mode base between _ = []
-
--- what stands before the next target, past a piece
-abbrev pub between_past : List ℕ → Piece → List ℕ
-between_past between (Target inner target) = codes ", "
-between_past between _ = between

@@ -1,5 +1,5 @@
 -- What is read of parameters.
-use Rattle.std.specs.Prelude.{◌≡◌, ℕ, true, false, List, ◌∷◌, ◌++◌}
+use Rattle.std.specs.Prelude.{◌≡◌, ◌==◌, ℕ, true, false, List, ◌∷◌, ◌++◌}
 use Rattle.iri_grammar.specs.Characters.{equals_sign}
 use Rattle.iri_grammar.specs.Classes.{Tests}
 use Rattle.iri_link.specs.Fault.{fault_from}
@@ -8,6 +8,7 @@ use Rattle.iri_link.specs.Phases.{after_param, in_name, after_name, after_equals
 use Rattle.iri_grammar.specs.Blanks.{is_blank}
 use Rattle.iri_link.specs.Token.{is_blanks}
 use Rattle.iri_grammar.specs.inside.Runs.{first_passes}
+use Rattle.iri_link.specs.inside.Runs.{IsRun}
 
 -- t is a value and a rest
 pub record ReadsValue (t rest v : List ℕ) : Type 0 where
@@ -25,6 +26,13 @@ pub record ReadsEquals (t rest : List ℕ) : Type 0 where
   pub following : is_blanks b ≡ true
   pub ends : first_passes is_blank rest ≡ false
   pub goes : (s : Tests) → fault_from s after_name t ≡ fault_from s after_equals rest
+
+-- no `=` stands in t after blanks
+pub record LacksEquals (t : List ℕ) : Type 0 where
+  pub a : List ℕ
+  pub rest : List ℕ
+  pub run : IsRun is_blank t a rest
+  pub none : first_passes (λ c. c == equals_sign) rest ≡ false
 
 -- t is a parameter and a rest
 pub record ReadsParam (t rest : List ℕ) (q : LinkParam) : Type 0 where

@@ -1,5 +1,5 @@
 -- The end and the value of a quoted string.
-use Rattle.std.specs.Prelude.{◌≡◌, ℕ, suc, Bool, true, false, cond, ◌==◌, List, [], ◌∷◌, ◌++◌}
+use Rattle.std.specs.Prelude.{◌≡◌, ℕ, suc, Bool, true, false, cond, ◌==◌, List, [], ◌∷◌, ◌++◌, ◌≤◌, length, take, drop}
 use Rattle.iri_link.specs.Characters.{backslash, quotation_mark}
 use Rattle.iri_link.specs.Token.{IsQuoted}
 
@@ -17,6 +17,17 @@ unquoted_from false (c ∷ cs) = cond (c == backslash) (unquoted_from true cs) (
 
 abbrev pub unquoted : List ℕ → List ℕ
 unquoted t = unquoted_from false t
+
+-- the value of a text, in which a `\` before a character goes or stays
+abbrev pub said : Bool → List ℕ → List ℕ
+said true t = unquoted t
+said false t = t
+
+-- t is what stands in a quoted string, and what follows its last delimiter, where it has one
+pub record IsCutOpen (t raw rest : List ℕ) : Type 0 where
+  pub prefix : raw ≡ take (quoted_len false t) t
+  pub suffix : rest ≡ drop (suc (quoted_len false t)) t
+  pub short : length rest ≤ length t
 
 -- t is what stands in a quoted string, its last delimiter and a rest
 pub record IsCutQuoted (t raw rest : List ℕ) : Type 0 where

@@ -8,7 +8,7 @@ returns-then-not-begins_token c =
 
 pub returns-in-Ok : goal.returns-in-Ok
 returns-in-Ok c =
-    param_after c.args.whole.now c.args.following.now c.cut_run.result.0.now c.cut_run.result.1.now c.requires c.cut_run.ensures c.in-Ok.param c.in-Ok.rest.now (sym c.begins_token.ensures ∙ c.if-not-begins_token.false) c.in-Ok.ensures.0 c.in-Ok.ensures.1
+    param_after c.args.whole.now c.args.following.now c.cut_run.result.0.now c.cut_run.result.1.now c.requires c.cut_run.ensures c.in-Ok.param c.in-Ok.rest.now (sym c.begins_token.ensures ∙ c.if-not-begins_token.false) c.in-Ok.ensures
 
 pub returns-in-Err : goal.returns-in-Err
 returns-in-Err c = λ t.
