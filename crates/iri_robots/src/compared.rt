@@ -6,6 +6,7 @@ ghost use Rattle.iri_robots.specs.Compared.{compared};
 ghost use Rattle.iri_grammar.specs.Runs.{run_of};
 ghost use Rattle.iri_robots.specs.inside.Prefixes.{IsPrefix, HasAsciiDigits, stays, written_text};
 
+use iri_grammar::cutting;
 use iri_grammar::spec::UriSpec;
 use iri_percent::capital_digit;
 use iri_percent::character::decoded_char;
@@ -38,12 +39,7 @@ fn stays(b: u8) -> bool
 fn run_len(text: &[u8]) -> usize
     ensures { result ≡ run_of stays text.now }
 {
-    for (i, b) in text.iter().enumerate() {
-        if !stays(*b) {
-            return i;
-        }
-    }
-    text.len()
+    cutting::run_len(text, |b| stays(b))
 }
 
 // The start of a text that begins with a byte that stays.

@@ -4,7 +4,7 @@ ghost use Rattle.std.specs.List.{prefix_len};
 ghost use Rattle.std.specs.Str.{is_utf8, str_eq_ignore_ascii_case};
 ghost use Rattle.iri_grammar.specs.Characters.{number_sign};
 ghost use Rattle.iri_grammar.specs.Blanks.{is_blank};
-ghost use Rattle.iri_grammar.specs.Cut.{before, after, CutAt, NoCut};
+ghost use Rattle.iri_grammar.specs.Cut.{before, after};
 ghost use Rattle.iri_grammar.specs.OptionalSlices.{now_of};
 ghost use Rattle.iri_grammar.specs.Runs.{run_of};
 ghost use Rattle.iri_robots.specs.FileLines.{line_of, line_of_text, keyed, trimmed, without_start};
@@ -12,14 +12,7 @@ ghost use Rattle.iri_robots.specs.FileLines.{without_end, without_byte_order_mar
 ghost use Rattle.iri_robots.specs.Files.{file_lines, is_in_line, more_lines};
 ghost use Rattle.iri_robots.specs.inside.ReadLines.{said};
 
-use memchr::memchr;
-
-// Where the delimiter first is.
-fn find(text: &[u8], special: u8) -> Option<usize>
-    ensures { MatchOption result (NoCut special text.now) (λ k. CutAt special text.now k) }
-{
-    memchr(special, text)
-}
+use iri_grammar::cutting::{find_byte, run_len};
 
 // What a line says.
 #[derive(Clone, Copy)]
@@ -110,7 +103,7 @@ fn strip_byte_order_mark(line: &[u8]) -> &[u8]
 fn strip_comment(line: &[u8]) -> &[u8]
     ensures { result.now ≡ before number_sign line.now }
 {
-    match find(line, b'#') {
+    match find_byte(line, b'#') {
         Some(end) => &line[..end],
         None => line,
     }
@@ -140,7 +133,7 @@ fn say<'a>(key: &[u8], value: &'a [u8]) -> Said<'a>
 fn say_parts(text: &[u8]) -> Said<'_>
     ensures { said result ≡ line_of_text text.now }
 {
-    match find(text, b':') {
+    match find_byte(text, b':') {
         Some(at) => say(trim(&text[..at]), trim(&text[at + 1..])),
         None => Said::Nothing,
     }
@@ -161,12 +154,7 @@ fn line_len(text: &[u8]) -> usize
     ensures value { result ≡ run_of is_in_line text.now }
     ensures within { result ≤ length text.now }
 {
-    for (i, b) in text.iter().enumerate() {
-        if *b == b'\r' || *b == b'\n' {
-            return i;
-        }
-    }
-    text.len()
+    run_len(text, |b| b != b'\r' && b != b'\n')
 }
 
 // The first line of a file, and what follows its end, where it has one.
@@ -186,7 +174,7 @@ pub(crate) fn cut(text: &[u8], delimiter: u8) -> (&[u8], Option<&[u8]>)
     ensures before { result.0.now ≡ before delimiter text.now }
     ensures after { now_of result.1 ≡ after delimiter text.now }
 {
-    match find(text, delimiter) {
+    match find_byte(text, delimiter) {
         Some(at) => (&text[..at], Some(&text[at + 1..])),
         None => (text, None),
     }
