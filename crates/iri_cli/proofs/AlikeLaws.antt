@@ -23,7 +23,7 @@ use Rattle.iri_register.specs.Commands.{entries_of_commands, Add, Remove}
 use Rattle.iri_register.specs.Entries.{Entry, line_count, place}
 use Rattle.iri_robots.specs.Records.{FileRecord}
 use Rattle.iri_cli.specs.declared.run.words.LineCommand.{LineCommand}
-use Rattle.iri_cli.specs.declared.run.words.LineCommand.TheVariants.{Canon, Expand, Register, Links, Docs, Robots}
+use Rattle.iri_cli.specs.declared.run.words.LineCommand.TheVariants.{Canon, Expand, Register, Links, Docs, Robots, Pairs}
 use Rattle.iri_cli.specs.expand.Answers.{answer_to as expand_to}
 use Rattle.iri_cli.specs.expand.Lines.{ExpandLine, changes, expands, bad as no_template, values_after, line_of as expand_line}
 use Rattle.iri_cli.specs.inside.Opening.{IsPreparedOf}
@@ -161,3 +161,4 @@ module _ (s : Tests) (line text : List ℕ) (k : IsSpec s) (p : IsPreparedOf s l
     alike Links = record { answer = λ between. links_same; closing = λ between. refl; wants_memory = λ between l. refl }
     alike Docs = record { answer = λ between. documents_same; closing = λ between. refl; wants_memory = λ between l. refl }
     alike (Robots token) = robots_alike token.now
+    alike Pairs = record { answer = λ between l. refl; closing = λ between. refl; wants_memory = λ between l. refl }

@@ -3,12 +3,14 @@ use Rattle.iri_cli.proofs.Common.{◌≡◌, ◌≢◌, ℕ, ◌+◌, ◌≤◌,
 use Rattle.iri_cli.proofs.Common.{Some, Result, Ok, Err, refl, sym, ◌∙◌, ap, subst, arith, append_assoc, length-append, concat, list_all}
 use Rattle.iri_cli.proofs.Common.{append-nil, Rose, Consumes, IsAtEnd, Appends, AppendsPrefix, KeepsRoom, SinkState, LineState, Advances}
 use Rattle.iri_cli.proofs.Common.{Source, FaultLineTooLong, FaultInputTooLong, Appends-none, room-then, room-so, Rules, Ending, answers}
-use Rattle.iri_cli.proofs.Common.{answered, IsBaseTaken, ending, HasRead, ReadsAll, ReadsSome, ReadsPast, IsGoing, outside, Finishes}
+use Rattle.iri_cli.proofs.Common.{ended_lines, answered, IsBaseTaken, ending, HasRead, ReadsAll, ReadsSome, ReadsPast, IsGoing, outside, Finishes}
 use Rattle.iri_cli.proofs.Common.{Decides, StopsShort, RanTo, Ran, Answering, AnswersLine, PutsAnswer, AnswerError, End, Done, SomeBad}
+use Rattle.iri_cli.proofs.Common.{BeginsWith, with_base}
 use Rattle.iri_text.specs.declared.streams.reader.LineFault.{LineFault}
 use Rattle.iri_text.proofs.Puts.{Appends-append, prefix-after, prefix-longer}
 use Rattle.iri_text.proofs.LinesLemmas.{no_cr-shorter}
 use Rattle.iri_cli.specs.inside.Steps.{end_at}
+use Rattle.iri_cli.specs.run.Run.{WantsMemory}
 use Rattle.iri_cli.specs.inside.Answering.{ClosesRun, end_of_error}
 use Rattle.iri_cli.specs.declared.run.answers.AnswerError.TheVariants.{SinkFailed as AnswerFailed, Memory as AnswerMemory}
 use Rattle.iri_cli.specs.declared.run.end.End.TheVariants.{SinkFailed}
@@ -37,8 +39,8 @@ pub record Goes (stands_at : Answering → Type 0) (start : Answering) (reader_o
   pub going : IsGoing start.rules reader
   -- each line had a byte
   pub few : length between + length reader.held ≤ reader.taken
-  pub read : (before : Option (List ℕ)) → HasRead start.rules before left_old reader_old (start.base ∷ [])
-      → HasRead start.rules before left reader (start.base ∷ between)
+  pub read : (before : Option (List ℕ)) (first : List (List ℕ)) → HasRead start.rules before left_old reader_old first
+      → HasRead start.rules before left reader (first ++ between)
   pub writes : Appends sink_old.written sink.written (answered_to start.rules start.base between)
   pub all_good : good ≡ list_all start.rules.is_good (answers start.rules start.base between)
   pub source_later : source_old ≤ source
@@ -63,7 +65,7 @@ start_lines stands_at start reader left so ko k at none is kept same room = reco
   at = subst (λ (b : List (List ℕ)). stands_at (record start { between = b })) none at;
   going = is;
   few = omega (arith, is.counted);
-  read = λ before h. h;
+  read = λ before first h. subst (HasRead start.rules before left reader) (sym (append-nil first)) h;
   writes = subst (λ (o : Option (List ℕ)). Appends ko.written o []) (sym kept) (Appends-none ko.written);
   all_good = refl;
   source_later = omega arith;
@@ -86,6 +88,12 @@ module _ (stands_at : Answering → Type 0) (start : Answering) (reader0 old new
   abbrev text : List ℕ
   text = rules.closing start.base go.between
 
+  -- One line more was given after the lines up to the base, and those after it.
+  reads_more : (before : Option (List ℕ)) (first : List (List ℕ)) → HasRead rules before l0 reader0 first
+      → Advances old new lm ln sm sn (Ok true) → HasRead rules before ln new (first ++ (go.between ++ new.line ∷ []))
+  reads_more before first h a = subst (HasRead rules before ln new) (append_assoc first go.between (new.line ∷ []))
+      (reads_line rules before lm ln sm sn old new (first ++ go.between) go.going (go.read before first h) a)
+
   -- A line was given and answered.
   pub one_line_more : (is_next : Answering → Type 0) (kn : SinkState) (answer_good : Bool)
       → Advances old new lm ln sm sn (Ok true)
@@ -101,7 +109,7 @@ module _ (stands_at : Answering → Type 0) (start : Answering) (reader0 old new
             let more = counts_more rules lm ln sm sn old new go.going a in
             let size = length-append go.between (new.line ∷ []) in
             omega (arith, more, size, go.few);
-        read = λ before h. reads_line rules before lm ln sm sn old new (start.base ∷ go.between) go.going (go.read before h) a;
+        read = λ before first h. reads_more before first h a;
         writes = subst (Appends ko.written kn.written) (sym (one_more rules start.base taken go.between new.line))
             (Appends-append ko.written km.written kn.written out answer go.writes q.puts.0);
         all_good = ap (λ (b : Bool). b && answer_good) go.all_good
@@ -119,8 +127,18 @@ module _ (stands_at : Answering → Type 0) (start : Answering) (reader0 old new
   line_fits a =
       omega (arith, go.going.line_limit, a.line_limit, a.says.short, no_cr-shorter a.says.raw, ap length a.says.line)
 
-  module _ (before : Option (List ℕ)) (faults : ℕ) (first : HasRead rules before l0 reader0 (start.base ∷ []))
-      (earlier : faults ≤ so) where
+  module _ (before : Option (List ℕ)) (faults : ℕ) (first : List (List ℕ)) (begins : BeginsWith rules start.base first)
+      (read : HasRead rules before l0 reader0 first) (earlier : faults ≤ so) where
+    -- the lines that were given, and how the base and the lines after it are had from them
+    abbrev given : List (List ℕ)
+    given = first ++ go.between
+
+    given_read : HasRead rules before lm old given
+    given_read = go.read before first read
+
+    from_base : (whole : List (List ℕ)) → whole ≡ given → with_base rules whole ≡ start.base ∷ go.between
+    from_base whole is = ap (with_base rules) is ∙ begins go.between
+
     -- the outside at both ends of the run
     abbrev Ends : SinkState → End → Type 0
     Ends kn end = Ran rules (outside before faults ko) (outside ln sn kn) end
@@ -135,8 +153,8 @@ module _ (stands_at : Answering → Type 0) (start : Answering) (reader0 old new
         -- the whole output begins with the answers, this one among them
         output : (x : List ℕ) → before ≡ Some x → (more : List ℕ) × ((ending rules x).output ≡ (out ++ answer) ++ more)
         output x known =
-            let h = first_read rules start.base taken before ln new (go.between ++ new.line ∷ [])
-            (reads_line rules before lm ln sm sn old new (start.base ∷ go.between) go.going (go.read before first) a) x known in
+            let h = first_read rules start.base taken first begins before ln new (go.between ++ new.line ∷ [])
+            (reads_more before first read a) x known in
             (h.0, h.1 ∙ ap (λ (t : List ℕ). t ++ h.0) (one_more rules start.base taken go.between new.line))
 
         by_error : (e : AnswerError) → PutsAnswer rules.is_good km kn (rules.wants_memory start.base go.between new.line) answer (Err e)
@@ -147,15 +165,15 @@ module _ (stands_at : Answering → Type 0) (start : Answering) (reader0 old new
         by_error AnswerMemory q k =
             let writes = subst (λ (w : Option (List ℕ)). Appends ko.written w out) (sym q.1) go.writes in
             ran_by (out ++ answer) (record {
-              whole = start.base ∷ go.between;
+              whole = given;
               line = new.line;
-              wants = q.0;
+              wants = subst (λ (t : List (List ℕ)). WantsMemory rules t new.line) (sym (begins go.between)) q.0;
               first = λ x known.
-                  let h = first_lines rules before ln new (start.base ∷ (go.between ++ new.line ∷ []))
-                  (reads_line rules before lm ln sm sn old new (start.base ∷ go.between) go.going (go.read before first) a) x known in
-                  (h.0, h.1 ∙ append_assoc (start.base ∷ go.between) (new.line ∷ []) h.0);
-              base_taken = taken;
-              writes = writes;
+                  let h = first_lines rules before ln new (given ++ new.line ∷ [])
+                  (reads_line rules before lm ln sm sn old new given go.going given_read a) x known in
+                  (h.0, h.1 ∙ append_assoc given (new.line ∷ []) h.0);
+              base_taken = subst (IsBaseTaken rules) (sym (begins go.between)) taken;
+              writes = subst (λ (t : List (List ℕ)). Appends ko.written kn.written (answered rules t)) (sym (begins go.between)) writes;
               sink = q.2 ∙ go.sink_same;
             }) output (prefix-longer answer (whole_prefix writes)) (room-then go.room (room-so (λ _ h. cc h) k))
             (omega (arith, earlier, go.source_later, a.later)) (omega (arith, q.2, go.sink_same))
@@ -168,12 +186,12 @@ module _ (stands_at : Answering → Type 0) (start : Answering) (reader0 old new
     finishes kn end a p k =
         by_end end (p (record start { between = go.between }) go.at) (k (record start { between = go.between }) go.at)
       where
-        all : ReadsAll rules before ln (start.base ∷ go.between)
-        all = reads_all rules before lm ln sm sn old new (start.base ∷ go.between) go.going (go.read before first) a
+        all : ReadsAll rules before ln given
+        all = reads_all rules before lm ln sm sn old new given go.going given_read a
 
         ends : ending rules all.taken
             ≡ record { status = if list_all rules.is_good (answers rules start.base go.between) then 0 else 1; output = out ++ text }
-        ends = ends_all rules start.base taken before ln go.between all
+        ends = ends_all rules start.base taken first begins before ln go.between all
 
         -- the whole output
         output : (x : List ℕ) → before ≡ Some x → (more : List ℕ) × ((ending rules x).output ≡ (out ++ text) ++ more)
@@ -210,29 +228,30 @@ module _ (stands_at : Answering → Type 0) (start : Answering) (reader0 old new
     pub stops_at : (fault : LineFault) (end : End) → end ≡ end_at fault → Advances old new lm ln sm sn (Err fault) → Ends km end
     stops_at fault end is a =
         subst (Ends km) (sym is) (ran_by out (by_fault fault a)
-        (first_read rules start.base taken before lm old go.between (go.read before first)) (whole_prefix go.writes)
+        (first_read rules start.base taken first begins before lm old go.between given_read) (whole_prefix go.writes)
         (room-so (λ _. not_sink fault) go.room) (omega (arith, earlier, go.source_later, a.later)) (omega (arith, go.sink_same)))
       where
-        decided : (status : ℕ) → ReadsPast rules status before ln (start.base ∷ go.between)
+        decided : (status : ℕ) → ReadsPast rules status before ln given
             → Decides rules status (outside before faults ko) (outside ln sn km)
         decided status r = record {
           taken = r.taken;
           takes = r.takes;
-          ends = λ more. ap (λ (e : Ending). e.status) (ends_past rules start.base taken status before ln go.between r more);
+          ends = λ more. ap (λ (e : Ending). e.status) (ends_past rules start.base taken first begins status before ln go.between r more);
           writes = λ more. subst (Appends ko.written km.written) (sym
-              (ap (λ (e : Ending). e.output) (ends_past rules start.base taken status before ln go.between r more))) go.writes;
+              (ap (λ (e : Ending). e.output) (ends_past rules start.base taken first begins status before ln go.between r more))) go.writes;
           sink = go.sink_same;
         }
 
         short : (f : LineFault) → f ≡ Source → Advances old new lm ln sm sn (Err f)
-            → ReadsSome rules before ln (start.base ∷ go.between)
+            → ReadsSome rules before ln given
             → StopsShort rules (outside before faults ko) (outside ln sn km)
         short f is b r = record {
           taken = r.taken;
           takes = r.takes;
           passes = r.passes;
-          base_taken = subst (IsBaseTaken rules) (sym r.ended) taken;
-          writes = subst (λ (t : List (List ℕ)). Appends ko.written km.written (answered rules t)) (sym r.ended) go.writes;
+          base_taken = subst (IsBaseTaken rules) (sym (from_base (ended_lines r.taken) r.ended)) taken;
+          writes = subst (λ (t : List (List ℕ)). Appends ko.written km.written (answered rules t))
+              (sym (from_base (ended_lines r.taken) r.ended)) go.writes;
           source = rose (subst (λ (e : LineFault). Advances old new lm ln sm sn (Err e)) is b);
           sink = go.sink_same;
         }
@@ -242,12 +261,9 @@ module _ (stands_at : Answering → Type 0) (start : Answering) (reader0 old new
 
         by_fault : (f : LineFault) → Advances old new lm ln sm sn (Err f)
             → RanTo rules (outside before faults ko) (outside ln sn km) (end_at f)
-        by_fault Source b = short Source refl b (reads_some rules before lm ln sm sn old new (start.base ∷ go.between) go.going
-            (go.read before first) b)
-        by_fault FaultLineTooLong b = decided 7 (reads_long rules before lm ln sm sn old new (start.base ∷ go.between) go.going
-            (go.read before first) b)
-        by_fault FaultInputTooLong b = decided 8 (reads_over rules before lm ln sm sn old new (start.base ∷ go.between) go.going
-            (go.read before first) b)
+        by_fault Source b = short Source refl b (reads_some rules before lm ln sm sn old new given go.going given_read b)
+        by_fault FaultLineTooLong b = decided 7 (reads_long rules before lm ln sm sn old new given go.going given_read b)
+        by_fault FaultInputTooLong b = decided 8 (reads_over rules before lm ln sm sn old new given go.going given_read b)
 
 -- The sink failed before the first line.
 pub fails_first : (start : Answering) (before left : Option (List ℕ)) (faults sn : ℕ) (ko kn : SinkState) → kn.written ≡ ko.written

@@ -3,8 +3,8 @@ use Rattle.iri_cli.proofs.Common.{◌≡◌, ◌≢◌, ◌⊎◌, ℕ, ◌≤�
 use Rattle.iri_cli.proofs.Common.{◌∙◌, ap, subst, arith, inl, inr, ⊎_elim, append_assoc, append-nil, Rose, Consumes, IsAtEnd, Appends}
 use Rattle.iri_cli.proofs.Common.{KeepsRoom, SinkState, LineState, Advances, Source, FaultLineTooLong, FaultInputTooLong, Appends-none}
 use Rattle.iri_cli.proofs.Common.{room-same, Rules, Ending, Passed, unless_refused, first_passed, completed, completed_lines, stopped}
-use Rattle.iri_cli.proofs.Common.{answered, IsBaseTaken, ending_by, ending, IsOpen, HasRead, ReadsSome, ReadsPast, IsGoing, outside}
-use Rattle.iri_cli.proofs.Common.{Decides, StopsShort, RanTo, Ran, End, BadBase}
+use Rattle.iri_cli.proofs.Common.{◌-◌, take, lines, ended_lines, answered, IsBaseTaken, ending_by, ending, IsOpen, HasRead, ReadsSome, ReadsPast, IsGoing, outside}
+use Rattle.iri_cli.proofs.Common.{Decides, StopsShort, RanTo, Ran, End, BadBase, with_base}
 use Rattle.iri_text.specs.declared.streams.reader.LineFault.{LineFault}
 use Rattle.iri_cli.specs.run.Ending.{base_line}
 use Rattle.iri_cli.specs.run.Buffers.{IsNew}
@@ -12,7 +12,7 @@ use Rattle.iri_cli.specs.inside.Steps.{end_at, GivesBase}
 use Rattle.iri_cli.specs.inside.Answering.{RefusesBase}
 use Rattle.iri_cli.specs.declared.run.end.End.TheVariants.{SinkFailed}
 use Rattle.iri_cli.proofs.Reading.{left_is, read_none, reads_line, reads_all, reads_some, reads_long, reads_over, goes_on}
-use Rattle.iri_cli.proofs.Ends.{ended_before, ends_past_none, ran_by}
+use Rattle.iri_cli.proofs.Ends.{ended_before, ends_past_none, no_fixed, ran_by}
 use Rattle.iri_text.proofs.LinesLemmas.{no_cr-shorter}
 use Rattle.iri_cli.proofs.Answered.{whole_prefix, taken_is, not_sink}
 
@@ -56,18 +56,18 @@ module _ (rules : Rules) where
     )
 
     -- The reader answered a fault.
-    pub gives_fault : (fault : LineFault) → Advances old new lo ln fo fn (Err fault)
+    pub gives_fault : rules.fixed_base ≡ None → (fault : LineFault) → Advances old new lo ln fo fn (Err fault)
         → (sink : SinkState) → Ran rules (outside lo fo sink) (outside ln fn sink) (end_at fault)
-    gives_fault fault a sink = ran_by [] (by_fault fault a) (λ x known. (_, refl)) (whole_prefix (Appends-none sink.written))
+    gives_fault none fault a sink = ran_by [] (by_fault fault a) (λ x known. (_, refl)) (whole_prefix (Appends-none sink.written))
         (room-same sink.room_left [] (λ _. not_sink fault)) a.later (omega arith)
       where
         decided : (status : ℕ) → ReadsPast rules status lo ln [] → Decides rules status (outside lo fo sink) (outside ln fn sink)
         decided status r = record {
           taken = r.taken;
           takes = r.takes;
-          ends = λ more. ap (λ (e : Ending). e.status) (ends_past_none rules status lo ln r more);
+          ends = λ more. ap (λ (e : Ending). e.status) (ends_past_none rules none status lo ln r more);
           writes = λ more. subst (Appends sink.written sink.written) (sym
-              (ap (λ (e : Ending). e.output) (ends_past_none rules status lo ln r more)))
+              (ap (λ (e : Ending). e.output) (ends_past_none rules none status lo ln r more)))
               (Appends-none sink.written);
           sink = refl;
         }
@@ -77,8 +77,9 @@ module _ (rules : Rules) where
           taken = r.taken;
           takes = r.takes;
           passes = r.passes;
-          base_taken = subst (IsBaseTaken rules) (sym r.ended) tt;
-          writes = subst (λ (t : List (List ℕ)). Appends sink.written sink.written (answered rules t)) (sym r.ended)
+          base_taken = subst (IsBaseTaken rules) (sym (ap (with_base rules) r.ended ∙ no_fixed rules none [])) tt;
+          writes = subst (λ (t : List (List ℕ)). Appends sink.written sink.written (answered rules t))
+              (sym (ap (with_base rules) r.ended ∙ no_fixed rules none []))
               (Appends-none sink.written);
           source = rose;
           sink = refl;
@@ -91,9 +92,13 @@ module _ (rules : Rules) where
         by_fault FaultInputTooLong b = decided 8 (reads_over rules lo lo ln fo fn old new [] (new_going old is) before b)
 
   -- the ending where a base is refused
-  module _ (base words : List ℕ) (refused : rules.refusal base ≡ Some words) where
+  module _ (none : rules.fixed_base ≡ None) (base words : List ℕ) (refused : rules.refusal base ≡ Some words) where
     refused_is : (e : Ending) → unless_refused (rules.refusal base) e ≡ record { status = 3; output = base_line words }
     refused_is e = ap (λ (o : Option (List ℕ)). unless_refused o e) refused
+
+    -- a base line, and lines after it
+    base_first : (whole more : List (List ℕ)) → whole ≡ base ∷ more → with_base rules whole ≡ base ∷ more
+    base_first whole more is = no_fixed rules none whole ∙ is
 
     refused_open : (given : List ℕ) → IsOpen rules given (base ∷ []) → (y : List ℕ)
         → ending rules (given ++ y) ≡ record { status = 3; output = base_line words }
@@ -101,8 +106,10 @@ module _ (rules : Rules) where
       where
         by_passed : (p : Option Passed) → first_passed rules (given ++ y) ≡ p
             → ending_by rules (given ++ y) p ≡ record { status = 3; output = base_line words }
-        by_passed None is = ap (completed_lines rules) (o.all y) ∙ refused_is _
-        by_passed (Some p) is = ap (stopped rules p.status) (ended_before rules given (base ∷ []) o y p is) ∙ refused_is _
+        by_passed None is = ap (completed_lines rules) (base_first (lines (given ++ y)) (lines y) (o.all y)) ∙ refused_is _
+        by_passed (Some p) is = ap (stopped rules p.status)
+            (base_first (ended_lines (take p.place (given ++ y))) (ended_lines (take (p.place - length given) y))
+            (ended_before rules given (base ∷ []) o y p is)) ∙ refused_is _
 
     -- these bytes were taken, and have this ending however the source goes on; or they are all
     abbrev EndsOpen : Option (List ℕ) → Option (List ℕ) → Type 0
@@ -131,14 +138,16 @@ module _ (rules : Rules) where
               h.0.given,
               subst (Consumes lo ln) (ap (λ (t : List ℕ). h.0.given ++ t) (c.1).nothing ∙ append-nil h.0.given) h.0.takes,
               (c.1).at_end,
-              ap (ending_by rules h.0.given) (c.1).passes ∙ ap (completed_lines rules) (c.1).all ∙ refused_is _,
+              ap (ending_by rules h.0.given) (c.1).passes
+                  ∙ ap (completed_lines rules) (base_first (lines h.0.given) [] (c.1).all) ∙ refused_is _,
             ))
             h.0.place)
             (λ h. inr (
               h.0.taken,
               h.0.takes,
               h.0.at_end,
-              ap (ending_by rules h.0.taken) h.0.passes ∙ ap (completed_lines rules) h.0.all
+              ap (ending_by rules h.0.taken) h.0.passes
+                  ∙ ap (completed_lines rules) (no_fixed rules none (lines h.0.taken) ∙ h.0.all)
                   ∙ ap (λ (b : List ℕ). completed rules b []) (sym h.1) ∙ refused_is _,
             ))
             gives

@@ -67,8 +67,8 @@ pub use Rattle.iri_cli.specs.robots.Answers.{answer_to, normal_base}
 pub use Rattle.iri_cli.specs.robots.Rules.{robots_rules}
 pub use Rattle.iri_cli.specs.inside.Answering.{Answering, AnswersLine, PutsAnswer, IsReady}
 pub use Rattle.iri_cli.specs.run.Ending.{Rules, Ending, answers, answered, IsBaseTaken, ending, Passed, unless_refused, first_passed}
-pub use Rattle.iri_cli.specs.run.Ending.{completed, completed_lines, stopped, ending_by, passed_from}
+pub use Rattle.iri_cli.specs.run.Ending.{completed, completed_lines, stopped, ending_by, passed_from, with_base, after_fixed}
 pub use Rattle.iri_cli.specs.run.Limits.{longest_line}
-pub use Rattle.iri_cli.specs.inside.Read.{HasRead, ReadsAll, ReadsSome, ReadsPast, IsGoing, IsOpen}
+pub use Rattle.iri_cli.specs.inside.Read.{BeginsWith, HasRead, ReadsAll, ReadsSome, ReadsPast, IsGoing, IsOpen}
 pub use Rattle.iri_cli.specs.run.Run.{outside, Finishes, Decides, StopsShort, RanTo, Ran, Outside, status_of, RunsLines, outside_state}
 pub use Rattle.iri_cli.specs.run.Words.{tests_of, rules_of}

@@ -3,7 +3,7 @@ use Rattle.iri_cli.proofs.Common.{◌≡◌, ℕ, ◌+◌, ◌-◌, ◌≤◌, L
 use Rattle.iri_cli.proofs.Common.{refl, sym, ◌∙◌, ap, subst, arith, ⊎_elim, append_assoc, concat, list_all, append-nil, lines, Consumes}
 use Rattle.iri_cli.proofs.Common.{IsAtEnd, LineState, ended_lines, Rules, Ending, Passed, unless_refused, first_passed, answers, completed}
 use Rattle.iri_cli.proofs.Common.{completed_lines, stopped, ending_by, ending, IsOpen, HasRead, ReadsAll, ReadsPast}
-use Rattle.iri_cli.proofs.Common.{◌⊎◌, inl, inr, ◌≢◌, AppendsPrefix, KeepsRoom, Outside, RanTo, Ran, End}
+use Rattle.iri_cli.proofs.Common.{◌⊎◌, inl, inr, ◌≢◌, AppendsPrefix, KeepsRoom, Outside, RanTo, Ran, End, with_base, after_fixed, BeginsWith}
 use Rattle.iri_text.proofs.Puts.{prefix-longer, room-longer}
 use Rattle.iri_cli.specs.declared.run.end.End.TheVariants.{SinkFailed}
 use Rattle.std.proofs.Math.Bool.{and-true}
@@ -111,46 +111,61 @@ module _ (rules : Rules) where
           ∙ more_lines rest others,
     )
 
-    -- after whole lines
-    first_open : (given : List ℕ) (rest : List (List ℕ)) → IsOpen rules given (base ∷ rest) → (y : List ℕ)
-        → IsFirst rest (ending rules (given ++ y)).output
-    first_open given rest o y = by_passed (first_passed rules (given ++ y)) refl
-      where
-        by_passed : (p : Option Passed) → first_passed rules (given ++ y) ≡ p → IsFirst rest (ending_by rules (given ++ y) p).output
-        by_passed None is = subst (λ (t : List (List ℕ)). IsFirst rest (completed_lines rules t).output) (sym (o.all y))
-            (first_completed rest (lines y))
-        by_passed (Some p) is = subst (λ (t : List (List ℕ)). IsFirst rest (stopped rules p.status t).output)
-            (sym (ended_before given (base ∷ rest) o y p is)) (first_stopped p.status rest (ended_lines (take (p.place - length given) y)))
+    module _ (first : List (List ℕ)) (begins : BeginsWith rules base first) where
+      -- lines up to the base and after it, by the base
+      lines_on : (rest others whole : List (List ℕ)) → whole ≡ (first ++ rest) ++ others → with_base rules whole ≡ base ∷ (rest ++ others)
+      lines_on rest others whole is = ap (with_base rules) (is ∙ append_assoc first rest others) ∙ begins (rest ++ others)
 
-    -- of an input whose lines were read so far
-    pub first_read : (lo ln : Option (List ℕ)) (reader : LineState) (rest : List (List ℕ)) → HasRead rules lo ln reader (base ∷ rest)
-        → (input : List ℕ) → lo ≡ Some input → IsFirst rest (ending rules input).output
-    first_read lo ln reader rest go input known =
-        ⊎_elim (λ o. subst (λ (x : List ℕ). IsFirst rest (ending rules x).output) (sym o.2) (first_open go.given rest o.0 o.1))
-        (λ c. subst (λ (x : List ℕ). IsFirst rest (ending rules x).output) (sym c.1)
-        (subst (λ (p : Option Passed). IsFirst rest (ending_by rules go.given p).output) (sym (c.0).passes)
-        (subst (λ (t : List (List ℕ)). IsFirst rest (completed_lines rules t).output)
-        (sym ((c.0).all ∙ ap (λ (t : List (List ℕ)). base ∷ t) (sym (append-nil rest)))) (first_completed rest [])))) (read_input go known)
+      -- after whole lines
+      first_open : (given : List ℕ) (rest : List (List ℕ)) → IsOpen rules given (first ++ rest) → (y : List ℕ)
+          → IsFirst rest (ending rules (given ++ y)).output
+      first_open given rest o y = by_passed (first_passed rules (given ++ y)) refl
+        where
+          by_passed : (p : Option Passed) → first_passed rules (given ++ y) ≡ p → IsFirst rest (ending_by rules (given ++ y) p).output
+          by_passed None is = subst (λ (t : List (List ℕ)). IsFirst rest (completed_lines rules t).output)
+              (sym (lines_on rest (lines y) (lines (given ++ y)) (o.all y))) (first_completed rest (lines y))
+          by_passed (Some p) is =
+              let others = ended_lines (take (p.place - length given) y) in
+              subst (λ (t : List (List ℕ)). IsFirst rest (stopped rules p.status t).output)
+              (sym (lines_on rest others (ended_lines (take p.place (given ++ y))) (ended_before given (first ++ rest) o y p is)))
+              (first_stopped p.status rest others)
 
-    -- the ending of a whole input
-    pub ends_all : (lo ln : Option (List ℕ)) (rest : List (List ℕ)) → (r : ReadsAll rules lo ln (base ∷ rest))
-        → ending rules r.taken ≡ record {
-          status = if list_all rules.is_good (answers rules base rest) then 0 else 1;
-          output = concat (answers rules base rest) ++ rules.closing base rest;
-        }
-    ends_all lo ln rest r = ap (ending_by rules r.taken) r.passes ∙ ap (completed_lines rules) r.all ∙ is_taken _
+      -- of an input whose lines were read so far
+      pub first_read : (lo ln : Option (List ℕ)) (reader : LineState) (rest : List (List ℕ)) → HasRead rules lo ln reader (first ++ rest)
+          → (input : List ℕ) → lo ≡ Some input → IsFirst rest (ending rules input).output
+      first_read lo ln reader rest go input known =
+          ⊎_elim (λ o. subst (λ (x : List ℕ). IsFirst rest (ending rules x).output) (sym o.2) (first_open go.given rest o.0 o.1))
+          (λ c. subst (λ (x : List ℕ). IsFirst rest (ending rules x).output) (sym c.1)
+          (subst (λ (p : Option Passed). IsFirst rest (ending_by rules go.given p).output) (sym (c.0).passes)
+          (subst (λ (t : List (List ℕ)). IsFirst rest (completed_lines rules t).output)
+          (sym (lines_on rest [] (lines go.given) ((c.0).all ∙ sym (append-nil (first ++ rest))))) (first_completed rest []))))
+          (read_input go known)
 
-    -- the ending where a limit is passed
-    pub ends_past : (status : ℕ) (lo ln : Option (List ℕ)) (rest : List (List ℕ)) → (r : ReadsPast rules status lo ln (base ∷ rest))
-        → (more : List ℕ)
-        → ending rules (r.taken ++ more) ≡ record { status = status; output = concat (answers rules base rest) }
-    ends_past status lo ln rest r more = ap (ending_by rules (r.taken ++ more)) (r.passes more) ∙ ap (stopped rules status) (r.ended more)
-        ∙ is_taken _
+      -- the ending of a whole input
+      pub ends_all : (lo ln : Option (List ℕ)) (rest : List (List ℕ)) → (r : ReadsAll rules lo ln (first ++ rest))
+          → ending rules r.taken ≡ record {
+            status = if list_all rules.is_good (answers rules base rest) then 0 else 1;
+            output = concat (answers rules base rest) ++ rules.closing base rest;
+          }
+      ends_all lo ln rest r = ap (ending_by rules r.taken) r.passes
+          ∙ ap (completed_lines rules) (ap (with_base rules) r.all ∙ begins rest) ∙ is_taken _
+
+      -- the ending where a limit is passed
+      pub ends_past : (status : ℕ) (lo ln : Option (List ℕ)) (rest : List (List ℕ)) → (r : ReadsPast rules status lo ln (first ++ rest))
+          → (more : List ℕ)
+          → ending rules (r.taken ++ more) ≡ record { status = status; output = concat (answers rules base rest) }
+      ends_past status lo ln rest r more = ap (ending_by rules (r.taken ++ more)) (r.passes more)
+          ∙ ap (stopped rules status) (ap (with_base rules) (r.ended more) ∙ begins rest) ∙ is_taken _
+
+  -- where no base is fixed the lines of an input have it
+  pub no_fixed : rules.fixed_base ≡ None → (whole : List (List ℕ)) → with_base rules whole ≡ whole
+  no_fixed none whole = ap (λ (b : Option (List ℕ)). after_fixed b whole) none
 
   -- the ending where a limit is passed in the base line
-  pub ends_past_none : (status : ℕ) (lo ln : Option (List ℕ)) → (r : ReadsPast rules status lo ln []) → (more : List ℕ)
-      → ending rules (r.taken ++ more) ≡ record { status = status; output = [] }
-  ends_past_none status lo ln r more = ap (ending_by rules (r.taken ++ more)) (r.passes more) ∙ ap (stopped rules status) (r.ended more)
+  pub ends_past_none : rules.fixed_base ≡ None → (status : ℕ) (lo ln : Option (List ℕ)) → (r : ReadsPast rules status lo ln [])
+      → (more : List ℕ) → ending rules (r.taken ++ more) ≡ record { status = status; output = [] }
+  ends_past_none none status lo ln r more = ap (ending_by rules (r.taken ++ more)) (r.passes more)
+      ∙ ap (stopped rules status) (ap (with_base rules) (r.ended more) ∙ no_fixed none [])
 
   -- the lines of an input that were read come first in it
   pub first_lines : (lo ln : Option (List ℕ)) (reader : LineState) (whole : List (List ℕ)) → HasRead rules lo ln reader whole

@@ -1,15 +1,13 @@
 -- No reference of `gen` has a fault: each segment of the table is over the characters of a registered name, which are of a path too.
 use Rattle.iri_cli.proofs.Common.{◌≡◌, ℕ, suc, ◌<◌, ◌^◌, Bool, true, false, not, ◌&&◌, ◌||◌, List, [], ◌∷◌, ◌++◌, Some, None, refl, ◌∙◌, ap}
 use Rattle.iri_cli.proofs.Common.{subst, arith, append-nil, ◌==◌, get_or, nat_lt, list_all, nat_tests, Tests, IsSpec}
-use Rattle.iri_cli.proofs.Common.{path_char, before, lacks, both, IsAbsolute, recompose, is_empty, starts_with_slash, starts_with_slashes}
-use Rattle.iri_cli.proofs.Common.{absolute_fault, reference_fault, absolute-law, of_bytes, reference-utf8, refusal, more_segments}
+use Rattle.iri_cli.proofs.Common.{path_char, before, lacks, both, recompose, is_empty, starts_with_slash, starts_with_slashes}
+use Rattle.iri_cli.proofs.Common.{absolute_fault, reference_fault, refusal, more_segments}
 use Rattle.iri_cli.proofs.Common.{gen_reference, gen_base}
 use Rattle.std.proofs.Common.{zero, ◌/◌, ◌%◌}
 use Rattle.std.specs.Str.{IsAscii}
 use Rattle.std.proofs.lemmas.Str.{IsAscii-append, IsUtf8-from_ascii, chars-IsAscii}
-use Rattle.std.specs.Prelude.{option_map}
 use Rattle.std.proofs.lemmas.Str.{is_utf8-from_IsUtf8}
-use Rattle.iri_grammar.specs.ErrorTexts.{description}
 use Rattle.iri_grammar.specs.Classes.{uri_tests, is_ascii_reg_name, is_ascii_pchar, is_ascii_path, reg_name_char}
 use Rattle.iri_grammar.proofs.units.ClassLaws.{class_has_no_percent}
 use Rattle.iri_grammar.specs.declared.class.Class.TheVariants.{RegName, Path}
@@ -23,8 +21,7 @@ use Rattle.iri_grammar.specs.Authority.{is_authority, recompose_authority}
 use Rattle.iri_grammar.proofs.authorities.AuthorityLaws.{passes}
 use Rattle.iri_grammar.proofs.authorities.AuthorityTexts.{all_below}
 use Rattle.iri_grammar.proofs.faults.MadeLaws.{made-reference}
-use Rattle.iri_grammar.proofs.faults.UriLaws.{absolute-wider}
-use Rattle.iri_grammar.specs.inside.Laws.{uri_is_spec}
+use Rattle.iri_cli.proofs.BytesLemmas.{taken_of_uris}
 use Rattle.iri_normal.proofs.targets.Targets.{slash_in_path}
 use Rattle.iri_normal.proofs.triplets.PathTriplets.{head-apart}
 use Rattle.iri_docs.specs.OnLiterals.{on_literals}
@@ -186,8 +183,4 @@ unfolding on_literals
 base_of_uris = refl
 
 pub base_taken : (s : Tests) → IsSpec s → refusal s gen_base ≡ None
-unfolding refusal
-base_taken s k =
-    let valid = absolute-wider s gen_base ((absolute-law uri_tests uri_is_spec gen_base).0 base_of_uris) in
-    ap (option_map description) ((of_bytes (absolute_fault s) (IsAbsolute s gen_base) gen_base (λ r. reference-utf8 s gen_base (r.0, r.1))
-    (absolute-law s k gen_base)).1 valid)
+base_taken s k = taken_of_uris s k gen_base base_of_uris

@@ -25,3 +25,4 @@ pub mod RegisterLaws
 pub mod RobotsLemmas
 pub mod AlikeLaws
 pub mod ToolLaws
+pub mod PairsLemmas

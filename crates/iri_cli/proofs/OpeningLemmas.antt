@@ -1,15 +1,18 @@
 -- How a run begins.
-use Rattle.iri_cli.proofs.Common.{◌≡◌, ℕ, ◌≤◌, Bool, cond, List, [], ◌∷◌, length, true, Option, None, Ok, refl, ◌∙◌, ap, subst, arith, ⊎_elim, Tests, bytes_fault}
-use Rattle.iri_cli.proofs.Common.{absolute_fault, LineState, Appends-none, room-same, SinkState, refusal, Answering, IsReady, Rules, begun}
-use Rattle.iri_cli.proofs.Common.{HasRead, IsGoing, outside, Ran, Memory, Advances, longest_line}
+use Rattle.iri_cli.proofs.Common.{◌≡◌, ℕ, ◌≤◌, Bool, cond, List, [], ◌∷◌, ◌++◌, length, true, Option, None, Ok, refl, sym, ◌∙◌, ap, subst, arith}
+use Rattle.iri_cli.proofs.Common.{⊎_elim, append-nil, Tests, bytes_fault, absolute_fault, LineState, Appends, Appends-none, room-same, SinkState}
+use Rattle.iri_cli.proofs.Common.{refusal, Answering, IsReady, Rules, begun, answered, IsBaseTaken, with_base, after_fixed}
+use Rattle.iri_cli.proofs.Common.{HasRead, outside, Ran, Memory, Advances, longest_line}
 use Rattle.iri_normal.proofs.canonical_texts.CanonicalTexts.{fault_none}
 use Rattle.iri_cli.specs.run.Buffers.{AreBuffers, IsNew}
-use Rattle.iri_cli.specs.inside.Opening.{BeginsAsCanon}
+use Rattle.iri_cli.specs.run.Run.{WantsMemory}
+use Rattle.iri_cli.specs.inside.Opening.{BeginsAsCanon, IsFixed, IsPreparedOf, StandsAfter}
 use Rattle.iri_cli.specs.inside.Steps.{GivesBase}
 use Rattle.iri_cli.proofs.BytesLemmas.{refused_none}
 use Rattle.iri_cli.proofs.Answered.{whole_prefix}
-use Rattle.iri_cli.proofs.BaseLine.{gives_base}
-use Rattle.iri_cli.proofs.Ends.{first_lines, ran_by}
+use Rattle.iri_cli.proofs.BaseLine.{gives_base, new_going}
+use Rattle.iri_cli.proofs.Ends.{first_lines, no_fixed, ran_by}
+use Rattle.iri_cli.proofs.Reading.{read_none}
 
 -- the empty text is no base
 refuses_empty : (s : Tests) → refusal s [] ≡ None → ⊥
@@ -35,26 +38,52 @@ module _ (s : Tests) (rules : Rules) (begins : BeginsAsCanon s rules) where
     pub refusal_is : rules.refusal line ≡ refusal s line
     refusal_is = ap (λ (r : List ℕ → Option (List ℕ)). r line) begins.refusal
 
-    module _ (taken : refusal s line ≡ None) (lo lm : Option (List ℕ)) (reader : LineState) (gives : GivesBase rules lo lm reader line) where
-      -- the base line was read, and the reader goes on
-      pub base_read : HasRead rules lo lm reader (line ∷ []) × IsGoing rules reader
-      base_read =
-          ⊎_elim (λ h. h) (λ h. absurd (refuses_empty s (subst (λ (t : List ℕ). refusal s t ≡ None) h.1 taken))) gives
+    -- the base line was read, and the reader goes on
+    pub after_line : (lo lm : Option (List ℕ)) (reader : LineState) (text : List ℕ) → rules.fixed_base ≡ None
+        → GivesBase rules lo lm reader line → length line ≤ longest_line → IsPreparedOf s line text → StandsAfter s rules lo lm reader line text
+    after_line lo lm reader text none gives short p =
+        let read = ⊎_elim (λ h. h) (λ h. absurd (refuses_empty s (subst (λ (t : List ℕ). refusal s t ≡ None) h.1 p.taken))) gives in
+        record {
+          first = line ∷ [];
+          begins = λ more. no_fixed rules none (line ∷ more);
+          read = read.0;
+          going = read.1;
+          short = short;
+          is_prepared = p;
+          is_line = λ _. none;
+        }
 
+    -- a fixed base, before the first line
+    pub after_none : (left : Option (List ℕ)) (reader : LineState) (base output : ℕ) (text : List ℕ) → IsFixed s rules line
+        → AreBuffers reader base output → IsPreparedOf s line text → StandsAfter s rules left left reader line text
+    after_none left reader base output text f b p = record {
+      first = [];
+      begins = λ more. ap (λ (x : Option (List ℕ)). after_fixed x more) f.fixed;
+      read = read_none rules left reader b.new.held b.new.taken b.new.ended;
+      going = new_going rules reader (new_reader reader base output b);
+      short = f.short;
+      is_prepared = p;
+      is_line = λ m. absurd (cc (m, f.no_memory));
+    }
+
+    module _ (lo lm : Option (List ℕ)) (reader : LineState) (text : List ℕ) (at : StandsAfter s rules lo lm reader line text) where
       -- the command stands after it
       pub ready : (stands_at : Answering → Type 0) → stands_at (begun rules line) → IsReady stands_at (begun rules line) reader
-      ready stands_at at = record { at = at; first = refl; base_taken = refusal_is ∙ taken; going = base_read.1 }
+      ready stands_at stands = record { at = stands; first = refl; base_taken = refusal_is ∙ at.is_prepared.taken; going = at.going }
 
       -- allocation failed before the first line after the base was answered
       pub ends_in_memory : (fo fn : ℕ) (ko : SinkState) → rules.base_wants_memory ≡ true → fo ≤ fn
           → Ran rules (outside lo fo ko) (outside lm fn ko) Memory
       ends_in_memory fo fn ko takes later =
+          let none = at.is_line takes in
+          let is : line ∷ [] ≡ at.first = sym (at.begins []) ∙ no_fixed rules none (at.first ++ []) ∙ append-nil at.first in
+          let empty : with_base rules [] ≡ [] = no_fixed rules none [] in
           ran_by [] (record {
             whole = [];
             line = line;
-            wants = (takes, refusal_is ∙ taken);
-            first = first_lines rules lo lm reader (line ∷ []) base_read.0;
-            base_taken = tt;
-            writes = Appends-none ko.written;
+            wants = subst (λ (t : List (List ℕ)). WantsMemory rules t line) (sym empty) (takes, refusal_is ∙ at.is_prepared.taken);
+            first = first_lines rules lo lm reader (line ∷ []) (subst (HasRead rules lo lm reader) (sym is) at.read);
+            base_taken = subst (IsBaseTaken rules) (sym empty) tt;
+            writes = subst (λ (t : List (List ℕ)). Appends ko.written ko.written (answered rules t)) (sym empty) (Appends-none ko.written);
             sink = refl;
           }) (λ x known. (_, refl)) (whole_prefix (Appends-none ko.written)) (room-same ko.room_left [] (λ _ h. cc h)) later (omega arith)

@@ -2,7 +2,7 @@
 use Rattle.iri_cli.proofs.Common.{◌≡◌, ◌≢◌, ◌⊎◌, ℕ, ◌+◌, List, [], ◌∷◌, length, false, Option, Some, refl, sym, ◌∙◌, ap, subst, arith}
 use Rattle.iri_cli.proofs.Common.{inl, inr, ⊎_elim, Rose, Consumes, Appends, AppendsPrefix, KeepsRoom, SinkState, Rules}
 use Rattle.iri_cli.proofs.Common.{ending, Outside, outside, Finishes, Decides, RanTo, Ran, status_of, End, Done, SomeBad}
-use Rattle.iri_cli.proofs.Common.{BadBase, SourceFailed, Memory, LineTooLong, InputTooLong}
+use Rattle.iri_cli.proofs.Common.{BadBase, SourceFailed, Memory, LineTooLong, InputTooLong, with_base}
 use Rattle.iri_text.proofs.Puts.{room-less}
 use Rattle.iri_text.specs.Sink.{HasRoom}
 use Rattle.iri_cli.specs.run.Run.{RunsOut, Runs, MayRunOut, WantsMemory}
@@ -63,7 +63,7 @@ module _ (rules : Rules) (old new : Outside) where
   pub never_six : rules.base_wants_memory ≡ false
       → ((base : List ℕ) (between : List (List ℕ)) (line : List ℕ) → rules.wants_memory base between line ≡ false) → (status : ℕ)
       → Runs rules old new status → status ≢ 6
-  never_six none no_line status r h = let p = ran_out r.end r.ran.to (sym r.status_is ∙ h) in by_whole p.whole p.line p.wants
+  never_six none no_line status r h = let p = ran_out r.end r.ran.to (sym r.status_is ∙ h) in by_whole (with_base rules p.whole) p.line p.wants
     where
       by_whole : (whole : List (List ℕ)) (line : List ℕ) → WantsMemory rules whole line → ⊥
       by_whole [] line wants = let m = wants.0 in cc

@@ -12,7 +12,7 @@ use Rattle.iri_cli.specs.declared.help.Notice.TheVariants.{Help, Version}
 use Rattle.iri_cli.specs.declared.run.words.Command.{Command}
 use Rattle.iri_cli.specs.declared.run.words.Command.TheVariants.{Lines, Gen, Tell}
 use Rattle.iri_cli.specs.declared.run.words.LineCommand.{LineCommand}
-use Rattle.iri_cli.specs.declared.run.words.LineCommand.TheVariants.{Canon, Expand, Register, Links, Docs, Robots}
+use Rattle.iri_cli.specs.declared.run.words.LineCommand.TheVariants.{Canon, Expand, Register, Links, Docs, Robots, Pairs}
 use Rattle.iri_cli.specs.declared.run.words.Grammar.{Grammar}
 use Rattle.iri_cli.specs.declared.run.words.Grammar.TheVariants.{Uri, Iri}
 
@@ -42,6 +42,7 @@ one_line_command s m n Expand Expand e f = ap (rules_of Expand s) (one_mode m n 
 one_line_command s m n Register Register e f = ap (rules_of Register s) (one_mode m n (ap length f))
 one_line_command s m n Links Links e f = ap (rules_of Links s) (one_mode m n (ap length f))
 one_line_command s m n Docs Docs e f = ap (rules_of Docs s) (one_mode m n (ap length f))
+one_line_command s m n Pairs Pairs e f = ap (rules_of Pairs s) (one_mode m n (ap length f))
 one_line_command s m n (Robots t) (Robots u) e f =
     ap (λ x. robots_rules s x t.now) (one_mode m n (ap (λ (ws : List (List ℕ)). length (drop 1 ws)) f))
     ∙ ap (λ (ws : List (List ℕ)). robots_rules s n (get_or ws 0 [])) f

@@ -3,6 +3,7 @@ pub mod canon
 pub mod expand
 pub mod register
 pub mod robots
+pub mod pairs
 pub mod links
 pub mod docs
 pub mod generator

@@ -18,3 +18,4 @@ pub mod StatelessAt
 pub mod RobotsSaid
 pub mod RobotsAt
 pub mod SinkTexts
+pub mod PairsAt

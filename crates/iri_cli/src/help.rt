@@ -21,6 +21,7 @@ pub enum Notice {
 pub const HELP: &str = "\
 irikit: canonical texts of URI and IRI references (RFC 3986, RFC 3987)
   irikit canon GRAMMAR [scheme]          answers each reference line by its canonical text against a base
+  irikit pairs GRAMMAR [scheme]          answers each line, a page, a tab and a link, by the link's canonical text against its page
   irikit expand GRAMMAR [scheme]         answers each URI template by the canonical text of its expansion (RFC 6570)
   irikit register GRAMMAR [scheme]       keeps each link once, with the numbers of its lines, and writes them at the end
   irikit links GRAMMAR [scheme]          answers the value of each Link header field by its links in one form (RFC 8288)
@@ -30,14 +31,15 @@ irikit: canonical texts of URI and IRI references (RFC 3986, RFC 3987)
   irikit --help                          writes this text
   irikit --version                       writes the version
 GRAMMAR is uri or iri. With scheme canonical texts are by the rules of five schemes too: default ports go, empty paths become /
-  (RFC 3986 6.2.3). The first line of the input is the base; each line after it has one answer line at most.
+  (RFC 3986 6.2.3). The first line of the input is the base, but for pairs; each line after it has one answer line at most.
 Lines of expand: 's NAME VALUE' sets a string, 'l NAME ITEM' adds to a list, 'a NAME KEY VALUE' adds a pair,
   'u NAME' unsets, and 't TEMPLATE' is answered; of register: 'a REF' adds, 'd REF' removes, 'f REF' finds a link;
   of robots: 'r LINE' feeds a line of the file, 'u REF' asks for a link
-Answers of canon, expand and docs: 'ok ' and the canonical text; of links: 'ok ' and the links with canonical targets;
+Answers of canon, pairs, expand and docs: 'ok ' and the canonical text; of links: 'ok ' and the links with canonical targets;
   of register: 'new K' or 'old K', 'gone N', 'at K' or 'none', with the place K of an entry or its count N of lines;
   of robots: 'allow ', 'disallow ' or 'other ' and the canonical text; otherwise 'bad ' and why, and where expand or docs
-  refuses a template, 'template ' and its fault; where the base is refused, the one line 'base ' and its first fault
+  refuses a template, 'template ' and its fault; where the base is refused, the one line 'base ' and its first fault,
+  and so for each page of pairs
 Statuses: 0 every answer is good, 1 some answer is bad, 2 the words are no command, 3 the base is refused,
   4 reading failed, 5 writing failed, 6 memory was refused, 7 a line is too long, 8 the input is too long
 ";

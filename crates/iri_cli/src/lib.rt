@@ -49,6 +49,7 @@ mod generator;
 pub mod help;
 pub mod laws;
 mod links;
+mod pairs;
 mod register;
 mod robots;
 pub mod run;

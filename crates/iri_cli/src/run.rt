@@ -3,6 +3,7 @@ ghost use Rattle.std.specs.Prelude.{◌≡◌, ℕ, List, [], ◌∷◌, codes, 
 ghost use Rattle.iri_cli.specs.run.Words.{HasToken, IsCommand, mode_words, rules_of, tests_of, word_of};
 ghost use Rattle.iri_cli.specs.docs.Expansions.{AnswersAreExpansions};
 ghost use Rattle.iri_cli.specs.links.FieldValues.{AnswersAreLinks};
+ghost use Rattle.iri_cli.specs.pairs.OfCanon.{AnswersAreOfCanon};
 ghost use Rattle.iri_cli.specs.register.Shared.{LiveLinesShareEntries};
 ghost use Rattle.iri_cli.specs.robots.Verdicts.{AnswersAreVerdicts};
 ghost use Rattle.iri_cli.specs.canon.Answers.{AnswersAreCanonicalIn};
@@ -34,6 +35,7 @@ use crate::expand::Expand;
 use crate::generator::generate;
 use crate::help::tell;
 use crate::links::Links;
+use crate::pairs::pairs_lines;
 use crate::register::Registers;
 use crate::robots::robots_lines;
 use crate::run::answers::Setup;
@@ -75,6 +77,7 @@ fn lines_in<S: Spec, I: Source, O: Sink>(
         LineCommand::Robots(token) => {
             robots_lines::<S, I, O>(setup, token, buffers, source, sink)
         }
+        LineCommand::Pairs => pairs_lines::<S, I, O>(setup, buffers, source, sink),
     }
 }
 
@@ -120,15 +123,15 @@ fn obey<I: Source, O: Sink>(
 
 /// Does what the words after the program's name say, and gives the program's status:
 ///
-/// - 0: the input was read to its end, and each answer is a good one (of `canon`, `expand`, `links`
-///   and `docs`: it begins with `ok `; of `register` and `robots`: it doesn't begin with `bad`); 1:
-///   the same, but some answer isn't
+/// - 0: the input was read to its end, and each answer is a good one (of `canon`, `expand`, `links`,
+///   `docs` and `pairs`: it begins with `ok `; of `register` and `robots`: it doesn't begin with
+///   `bad`); 1: the same, but some answer isn't
 /// - 2: the words are no command, and nothing was read or written
-/// - 3: the base line is refused
+/// - 3: the base line is refused; never with `pairs`, which has none
 /// - 4: the source failed: exactly the lines that an LF ended in what was read were answered
 /// - 5: the sink failed: what was written is a prefix of the output. It never comes where the sink
 ///   is known to have room
-/// - 6: allocation failed; with `canon` and `links` nothing was read or written; with the others
+/// - 6: allocation failed; with `canon`, `links` and `pairs` nothing was read or written; with the others
 ///   that may be so, or it failed at a base line that is taken or at a line whose answer takes
 ///   memory, and the lines before it were answered
 /// - 7: a line has more than [`LARGEST_LINE_LIMIT`](iri_text::LARGEST_LINE_LIMIT) bytes before its
@@ -197,6 +200,12 @@ pub fn run<I: Source, O: Sink>(alloc: Global, words: &[String], source: &mut I, 
     ensures robots { (mode : CanonMode) (grammar : Grammar) (token : List ℕ)
         → map string_bytes words.now ≡ codes "robots" ∷ word_of grammar ∷ token ∷ mode_words mode
         → AnswersAreVerdicts (tests_of grammar) mode token }
+
+    // `pairs`, in the mode that its words name: each line is answered by itself alone, as `canon`
+    // answers its link where its page is the base line.
+    ensures pairs { (mode : CanonMode) (grammar : Grammar)
+        → IsCommand (map string_bytes words.now) (Command.Lines LineCommand.Pairs mode grammar)
+        → AnswersAreOfCanon (tests_of grammar) mode }
 {
     obey(alloc, command_of(words), source, sink)
 }

@@ -11,6 +11,7 @@ abbrev small : Rules
 small = record {
   line_limit = 4;
   input_limit = 12;
+  fixed_base = None;
   refusal = refusal;
   answer = λ base between line. line ++ 10 ∷ [];
   is_good = λ answer. starts_with nat_eq answer (codes "ok ");
@@ -69,3 +70,14 @@ by_line_before = record small { answer = λ base between line. last between; clo
 pub answers_by_lines_before : ending by_line_before (codes "b" ++ 10 ∷ (codes "x" ++ 10 ∷ (codes "y" ++ 10 ∷ codes "z")))
     ≡ record { status = 0; output = codes "x" ++ 10 ∷ (codes "y" ++ 10 ∷ (codes "b" ++ 10 ∷ [])) }
 answers_by_lines_before = refl
+
+-- Where the base is fixed, every line is answered, and a run over no line writes what comes after all answers.
+abbrev by_fixed_base : Rules
+by_fixed_base = record by_line_before { fixed_base = Some (codes "b") }
+
+pub answers_every_line : ending by_fixed_base (codes "x" ++ 10 ∷ (codes "y" ++ 10 ∷ []))
+    ≡ record { status = 0; output = codes "x" ++ 10 ∷ (codes "b" ++ 10 ∷ []) }
+answers_every_line = refl
+
+pub no_line_after_fixed_base : ending by_fixed_base [] ≡ record { status = 0; output = codes "b" ++ 10 ∷ [] }
+no_line_after_fixed_base = refl

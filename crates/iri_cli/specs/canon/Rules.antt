@@ -1,5 +1,5 @@
 -- The command `canon`: its rules.
-use Rattle.std.specs.Prelude.{ℕ, codes, nat_eq, Bool, false, List, []}
+use Rattle.std.specs.Prelude.{ℕ, codes, nat_eq, Bool, false, List, [], None}
 use Rattle.std.specs.List.{starts_with}
 use Rattle.iri_grammar.specs.Classes.{Tests}
 use Rattle.iri_percent.specs.declared.canon_mode.CanonMode.{CanonMode}
@@ -19,6 +19,7 @@ abbrev pub canon_rules_in : Tests → CanonMode → Rules
 canon_rules_in s mode = record {
   line_limit = longest_line;
   input_limit = longest_input;
+  fixed_base = None;
   refusal = refusal s;
   answer = λ base between line. answer_in s mode base line;
   is_good = is_ok;

@@ -4,7 +4,7 @@ use Rattle.iri_text.specs.Count.{Rose}
 use Rattle.iri_text.specs.Sink.{Appends, AppendsPrefix, KeepsRoom, SinkState}
 use Rattle.iri_text.specs.Line.{LineState}
 use Rattle.iri_cli.specs.run.Ending.{Rules, base_line}
-use Rattle.iri_cli.specs.inside.Read.{HasRead, IsGoing}
+use Rattle.iri_cli.specs.inside.Read.{BeginsWith, HasRead, IsGoing}
 use Rattle.iri_cli.specs.run.Run.{Outside, outside, Ran}
 use Rattle.iri_cli.specs.declared.run.answers.AnswerError.{AnswerError}
 use Rattle.iri_cli.specs.declared.run.answers.AnswerError.TheVariants.{SinkFailed as AnswerFailed, Memory as AnswerMemory}
@@ -58,18 +58,18 @@ pub record AnswersLine (is_new : Answering → Type 0) (at : Answering) (line : 
   pub next : OnOk result (is_new (record at { between = at.between ++ line ∷ [] }))
   pub room : KeepsRoom old.room_left new.room_left (at.rules.answer at.base at.between line) (result ≢ Err AnswerFailed)
 
--- A base line that is taken was read, no line after it was answered, and the reader goes on.
+-- A base is taken, no line after it was answered, and the reader goes on.
 pub record IsReady (stands_at : Answering → Type 0) (start : Answering) (reader : LineState) : Type 0 where
   pub at : stands_at start
   pub first : start.between ≡ []
   pub base_taken : start.rules.refusal start.base ≡ None
   pub going : IsGoing start.rules reader
 
--- The lines after the base were answered, whatever the source had left before the base line was read.
+-- The lines after the base were answered, whatever the source had left before the lines up to it were read.
 abbrev pub AnswersLines : Answering → LineState → Outside → Outside → End → Type 0
 AnswersLines answering reader old new end =
-    (left : Option (List ℕ)) (faults : ℕ) → HasRead answering.rules left old.left reader (answering.base ∷ []) → faults ≤ old.source_faults
-    → Ran answering.rules (outside left faults old.sink) new end
+    (left : Option (List ℕ)) (faults : ℕ) (first : List (List ℕ)) → BeginsWith answering.rules answering.base first
+    → HasRead answering.rules left old.left reader first → faults ≤ old.source_faults → Ran answering.rules (outside left faults old.sink) new end
 
 -- the end of a run at an answer that failed
 abbrev pub end_of_error : AnswerError → End

@@ -1,10 +1,13 @@
--- How a command begins: its base line.
-use Rattle.std.specs.Prelude.{◌≡◌, ℕ, true, List, [], None, Result, Ok, Err}
+-- How a command begins: its base.
+use Rattle.std.specs.Prelude.{◌≡◌, ◌≤◌, ℕ, true, false, List, [], length, Option, Some, None, Result, Ok, Err}
 use Rattle.std.specs.declared.alloc.AllocError.{AllocError}
 use Rattle.iri_grammar.specs.Classes.{Tests}
 use Rattle.iri_cli.specs.canon.Answers.{refusal}
+use Rattle.iri_text.specs.Line.{LineState}
 use Rattle.iri_cli.specs.inside.Answering.{Answering}
+use Rattle.iri_cli.specs.inside.Read.{BeginsWith, HasRead, IsGoing}
 use Rattle.iri_cli.specs.run.Ending.{Rules}
+use Rattle.iri_cli.specs.run.Limits.{longest_line}
 use Rattle.iri_cli.specs.run.Prepared.{prepared}
 use Rattle.iri_cli.specs.canon.Rules.{canon_rules}
 
@@ -22,6 +25,25 @@ begun rules line = record { rules = rules; base = line; between = [] }
 pub record IsPreparedOf (s : Tests) (line text : List ℕ) : Type 0 where
   pub taken : refusal s line ≡ None
   pub text_is : text ≡ prepared s line
+
+-- This is the fixed base of a command. It is taken, and takes no memory.
+pub record IsFixed (s : Tests) (rules : Rules) (base : List ℕ) : Type 0 where
+  pub fixed : rules.fixed_base ≡ Some base
+  pub taken : refusal s base ≡ None
+  pub short : length base ≤ longest_line
+  pub no_memory : rules.base_wants_memory ≡ false
+
+-- The lines up to a base were read, and the reader goes on. The base is taken, and this text is how a run prepares it. Where it may take
+-- memory it is a line.
+pub record StandsAfter (s : Tests) (rules : Rules) (left_old left_new : Option (List ℕ)) (reader : LineState) (base text : List ℕ)
+    : Type 0 where
+  pub first : List (List ℕ)
+  pub begins : BeginsWith rules base first
+  pub read : HasRead rules left_old left_new reader first
+  pub going : IsGoing rules reader
+  pub short : length base ≤ longest_line
+  pub is_prepared : IsPreparedOf s base text
+  pub is_line : rules.base_wants_memory ≡ true → rules.fixed_base ≡ None
 
 -- The command stands after each base line of which this is the prepared base; or allocation failed.
 abbrev pub Opens : {A : Type 0} → Tests → Rules → List ℕ → (A → List ℕ → Answering → Type 0) → Result A AllocError → Type 0

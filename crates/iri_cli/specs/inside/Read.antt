@@ -1,9 +1,13 @@
 -- What a reader has given of an input, and how reading ends.
-use Rattle.std.specs.Prelude.{◌≡◌, ◌⊎◌, ◌≤◌, ◌+◌, ℕ, true, false, List, [], ◌++◌, length, take, Option, None, Some}
+use Rattle.std.specs.Prelude.{◌≡◌, ◌⊎◌, ◌≤◌, ◌+◌, ℕ, true, false, List, [], ◌∷◌, ◌++◌, length, take, Option, None, Some}
 use Rattle.iri_text.specs.Line.{LineState}
 use Rattle.iri_text.specs.Lines.{lines, ended_lines}
 use Rattle.iri_text.specs.Source.{Consumes, IsAtEnd}
-use Rattle.iri_cli.specs.run.Ending.{Rules, passed_from, first_passed}
+use Rattle.iri_cli.specs.run.Ending.{Rules, passed_from, first_passed, with_base}
+
+-- These are the lines of an input up to its base: those after them come after the base. There is none where the base is fixed.
+abbrev pub BeginsWith : Rules → List ℕ → List (List ℕ) → Type 0
+BeginsWith rules base first = (more : List (List ℕ)) → with_base rules (first ++ more) ≡ base ∷ more
 
 module _ (rules : Rules) where
   -- These bytes are whole lines with their LFs, within the limits, and a line begins after them.

@@ -1,5 +1,6 @@
 -- The ending of an input: the status in which a run over its lines ends, and what it writes.
--- The first line is the base. What a command writes for each further line may depend on the lines between.
+-- The first line is the base, but where a command has a fixed one. What it writes for each line after the base may depend on the lines
+-- between.
 use Rattle.std.specs.Prelude.{◌≡◌, ℕ, ◌+◌, ◌==◌, nat_le, codes, Bool, List, [], ◌∷◌, ◌++◌, take, Option, None, Some, if◌then◌else◌}
 use Rattle.std.specs.List.{concat, list_all}
 use Rattle.iri_text.specs.Lines.{ended_lines, lines}
@@ -10,6 +11,8 @@ pub record Rules : Type 0 where
   -- how many bytes a line may have before its LF, and how many the input may have
   pub line_limit : ℕ
   pub input_limit : ℕ
+  -- the base, where no line of the input is it
+  pub fixed_base : Option (List ℕ)
   -- why a base line is refused, None where it is taken
   pub refusal : List ℕ → Option (List ℕ)
   -- the answer, with its LF, to a line after a base and the lines between them; no bytes where the line has no answer
@@ -41,7 +44,16 @@ abbrev pub unless_refused : Option (List ℕ) → Ending → Ending
 unless_refused None e = e
 unless_refused (Some words) e = record { status = 3; output = base_line words }
 
+-- a base that stands before all lines
+abbrev pub after_fixed : Option (List ℕ) → List (List ℕ) → List (List ℕ)
+after_fixed None lines = lines
+after_fixed (Some base) lines = base ∷ lines
+
 module _ (rules : Rules) where
+  -- the base and the lines after it, by the lines of an input
+  abbrev pub with_base : List (List ℕ) → List (List ℕ)
+  with_base lines = after_fixed rules.fixed_base lines
+
   -- the first limit that is passed in these bytes, where `place` bytes stand before them, the last `len` of these on the line that goes on
   abbrev pub passed_from : ℕ → ℕ → List ℕ → Option Passed
   passed_from place len [] = None
@@ -93,8 +105,8 @@ module _ (rules : Rules) where
   stopped status (base ∷ rest) = unless_refused (rules.refusal base) (record { status = status; output = concat (answers base rest) })
 
   abbrev pub ending_by : List ℕ → Option Passed → Ending
-  ending_by input None = completed_lines (lines input)
-  ending_by input (Some passed) = stopped passed.status (ended_lines (take passed.place input))
+  ending_by input None = completed_lines (with_base (lines input))
+  ending_by input (Some passed) = stopped passed.status (with_base (ended_lines (take passed.place input)))
 
   -- The first event decides. Where a limit is passed, that is the first event but for a refused base whose LF stands before:
   -- then the lines are answered whose LF stands before that byte. Otherwise all lines are.

@@ -4,7 +4,7 @@ use Rattle.iri_text.specs.Count.{Rose}
 use Rattle.iri_text.specs.Lines.{ended_lines, lines}
 use Rattle.iri_text.specs.Source.{Consumes, IsAtEnd}
 use Rattle.iri_text.specs.Sink.{Appends, AppendsPrefix, KeepsRoom, SinkState, sink_state}
-use Rattle.iri_cli.specs.run.Ending.{Rules, ending, first_passed, IsBaseTaken, answered}
+use Rattle.iri_cli.specs.run.Ending.{Rules, ending, first_passed, IsBaseTaken, answered, with_base}
 use Rattle.iri_cli.specs.declared.run.end.End.{End}
 use Rattle.iri_cli.specs.declared.run.end.End.TheVariants.{Done, SomeBad, BadBase, SourceFailed, SinkFailed, Memory, LineTooLong, InputTooLong}
 
@@ -46,8 +46,8 @@ module _ (rules : Rules) where
     pub taken : List ℕ
     pub takes : Consumes old.left new.left taken
     pub passes : first_passed rules taken ≡ None
-    pub base_taken : IsBaseTaken rules (ended_lines taken)
-    pub writes : Appends old.sink.written new.sink.written (answered rules (ended_lines taken))
+    pub base_taken : IsBaseTaken rules (with_base rules (ended_lines taken))
+    pub writes : Appends old.sink.written new.sink.written (answered rules (with_base rules (ended_lines taken)))
     pub source : Rose old.source_faults new.source_faults
     pub sink : new.sink.faults ≡ old.sink.faults
 
@@ -60,10 +60,10 @@ module _ (rules : Rules) where
   pub record RunsOut (old new : Outside) : Type 0 where
     pub whole : List (List ℕ)
     pub line : List ℕ
-    pub wants : WantsMemory whole line
+    pub wants : WantsMemory (with_base rules whole) line
     pub first : (input : List ℕ) → old.left ≡ Some input → (more : List (List ℕ)) × (lines input ≡ whole ++ line ∷ more)
-    pub base_taken : IsBaseTaken rules whole
-    pub writes : Appends old.sink.written new.sink.written (answered rules whole)
+    pub base_taken : IsBaseTaken rules (with_base rules whole)
+    pub writes : Appends old.sink.written new.sink.written (answered rules (with_base rules whole))
     pub sink : new.sink.faults ≡ old.sink.faults
 
   -- what holds at each end
@@ -93,8 +93,8 @@ pub record MayRunOut (rules : Rules) (input : List ℕ) : Type 0 where
   pub line : List ℕ
   pub more : List (List ℕ)
   pub all : lines input ≡ whole ++ line ∷ more
-  pub base_taken : IsBaseTaken rules whole
-  pub wants : WantsMemory rules whole line
+  pub base_taken : IsBaseTaken rules (with_base rules whole)
+  pub wants : WantsMemory rules (with_base rules whole) line
 
 -- the status of an end
 abbrev pub status_of : End → ℕ

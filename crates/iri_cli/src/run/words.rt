@@ -22,7 +22,7 @@ pub enum Grammar {
     Iri,
 }
 
-/// A command over the lines of an input, of which the first is the base.
+/// A command over the lines of an input, of which the first is the base, but for `Pairs`.
 #[derive(Clone, Copy)]
 pub enum LineCommand<'a> {
     /// To answer each reference line by its canonical text.
@@ -38,6 +38,8 @@ pub enum LineCommand<'a> {
     Docs,
     /// To say what the crawler of a product token may fetch.
     Robots(&'a str),
+    /// To answer each page and link by the link's canonical text against the page.
+    Pairs,
 }
 
 /// What the words after the program's name ask for.
@@ -106,6 +108,7 @@ fn named_by_one<'a>(name: &str) -> Option<LineCommand<'a>>
         "register" => Some(LineCommand::Register),
         "links" => Some(LineCommand::Links),
         "docs" => Some(LineCommand::Docs),
+        "pairs" => Some(LineCommand::Pairs),
         _ => None,
     }
 }

@@ -33,24 +33,24 @@ loop-answers-preserved g c = λ start ready.
     (c.loop-answers.invariant start ready) _ _ c.in-Ok.good n c.in-Ok.ensures
 
 pub returns-in-Err-answer_line : goal.returns-in-Err-answer_line
-returns-in-Err-answer_line g c = λ start ready before faults first earlier.
+returns-in-Err-answer_line g c = λ start ready before faults first begins read earlier.
     let n = rw c.in-Ok-true.field-0-test at c.in-Ok-true.ensures.advances in
     fails_at _ _ _ _ _ _ _ _ _ _ _ _ _ _ ready.base_taken
-    (c.loop-answers.invariant start ready) before faults first earlier _ _ _ _ c.error_end.ensures n c.in-Err-answer_line.ensures
+    (c.loop-answers.invariant start ready) before faults first begins read earlier _ _ _ _ c.error_end.ensures n c.in-Err-answer_line.ensures
 
 pub returns-in-Ok-false : goal.returns-in-Ok-false
-returns-in-Ok-false g c = λ start ready before faults first earlier.
+returns-in-Ok-false g c = λ start ready before faults first begins read earlier.
     let n = rw c.in-Ok-false.field-0-test at c.in-Ok-false.ensures.advances in
     finishes _ _ _ _ _ _ _ _ _ _ _ _ _ _ ready.base_taken
-    (c.loop-answers.invariant start ready) before faults first earlier _ _ n (c.close_lines.ensures.closes (base_text c.args.resolver.now))
+    (c.loop-answers.invariant start ready) before faults first begins read earlier _ _ n (c.close_lines.ensures.closes (base_text c.args.resolver.now))
     (c.close_lines.ensures.room (base_text c.args.resolver.now))
 
 pub returns-in-Err-advance : goal.returns-in-Err-advance
-returns-in-Err-advance g c = λ start ready before faults first earlier.
+returns-in-Err-advance g c = λ start ready before faults first begins read earlier.
     stops_at _ _ _ _ _ _ _ _ _ _ _ _ _ _ ready.base_taken
-    (c.loop-answers.invariant start ready) before faults first earlier _ _ c.fault_end.ensures c.in-Err-advance.ensures.advances
+    (c.loop-answers.invariant start ready) before faults first begins read earlier _ _ c.fault_end.ensures c.in-Err-advance.ensures.advances
 
 pub returns-in-Err : goal.returns-in-Err
-returns-in-Err g c = λ start ready before faults first earlier.
+returns-in-Err g c = λ start ready before faults first begins read earlier.
     fails_first start before _ _ _ _ _ c.flush.ensures.kept c.in-Err.ensures.cause earlier c.flush.ensures.later
     (room-so (λ h. absurd (cc h)) c.in-Err.ensures.room)

@@ -1,0 +1,5 @@
+-- The command `pairs`.
+pub mod Answers
+pub mod Rules
+pub mod OfCanon
+pub mod Examples
