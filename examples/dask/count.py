@@ -14,8 +14,8 @@ import sys
 import tempfile
 import uuid
 import zlib
-from collections import Counter
-from functools import lru_cache
+from itertools import groupby
+from operator import itemgetter
 
 from dask import delayed
 from distributed import Client
@@ -24,39 +24,34 @@ from fsspec.utils import read_block
 SHARES = 16  # of the texts, each counted by itself
 
 
-def put(path, lines):
+def put(path, text):
     """Puts a file in place whole: a task that is run again puts the same one there again."""
     new = path.with_name(f".{uuid.uuid4().hex}")
-    new.write_bytes(b"".join(line + b"\n" for line in lines))
+    new.write_bytes(text)
     new.replace(path)
 
 
+def summed(counts):
+    """Of texts in order, each with a count, each once with the sum of its counts."""
+    return [(text, sum(count for _, count in run)) for text, run in groupby(counts, itemgetter(0))]
+
+
 def answer_part(file, start, size, grammar, path):
-    """Writes the answers to the lines of a part, and gives its counts of texts, share by share."""
-    import canon
+    """Writes the answers to the lines of a part, and gives its counts of texts in order, share by share."""
     import irikit
-    links_of = lru_cache(lambda page: irikit.Links(page, {"uri": irikit.URI, "iri": irikit.IRI}[grammar]))
-
-    def answer(page, tab, link):
-        try:
-            return b"ok " + links_of(page).canonical_bytes(link) if tab else b"bad line"
-        except irikit.Refused as error:
-            return (b"base " if error.status == irikit.Status.BAD_BASE else b"bad ") + str(error).encode()
-
     with open(file, "rb") as opened:
-        answers = [answer(*line.partition(b"\t")) for line in canon.lines_of(read_block(opened, start, size, b"\n"))]
+        answers, status = irikit.run(f"pairs {grammar}", read_block(opened, start, size, b"\n"))
+    if status > 1:
+        raise ValueError(f"{file}: status {status} in the part at {start}")
     put(path, answers)
-    counts = [{} for _ in range(SHARES)]
-    for text, count in Counter(answer[3:] for answer in answers if answer.startswith(b"ok ")).items():
-        counts[zlib.crc32(text) % SHARES][text] = count
+    counts = [[] for _ in range(SHARES)]
+    for text, count in summed((answer[3:], 1) for answer in sorted(answers.split(b"\n")) if answer.startswith(b"ok ")):
+        counts[zlib.crc32(text) % SHARES].append((text, count))
     return counts
 
 
 def merge_share(counts, path):
-    sums = Counter()
-    for of_part in counts:
-        sums.update(of_part)
-    put(path, (b"%s\t%d" % each for each in sorted(sums.items())))
+    put(path, b"".join(b"%s\t%d\n" % each for each in summed(heapq.merge(*counts))))
 
 
 def main(scheduler, grammar, size, out, *files):
@@ -69,7 +64,6 @@ def main(scheduler, grammar, size, out, *files):
         top = pathlib.Path(__file__).resolve().parents[2]
         with tempfile.TemporaryDirectory() as folder:
             client.upload_file(shutil.make_archive(f"{folder}/irikit", "zip", top / "package/python", "irikit"))
-        client.upload_file(str(top / "examples/python/canon.py"))
         client.compute([delayed(merge_share)([part[share] for part in parts], path) for share, path in enumerate(merged)], sync=True)
     with open(out / "counts", "wb") as counts:
         counts.writelines(heapq.merge(*[open(path, "rb") for path in merged]))

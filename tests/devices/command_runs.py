@@ -9,6 +9,8 @@ RUNS = [
     ("canon uri scheme", "HTTP://a:80\n\nws://b:80?c\n%4\n", False),
     ("register uri scheme", "HTTP://a:80\na \na //a/\nf ftp://a:21\nd http://a\n", True),
     ("robots uri examplebot scheme", "https://a:443\nr user-agent: *\nr disallow: /x\nu x\nu //a:443/y\n", True),
+    ("pairs uri", "http://a/b\tc\nhttp://a/b\t%4\nq\nHTTP://%41/x/../y\t../d\na\tb\n", False),
+    ("pairs iri scheme", "http://a:80\t\u00e9\nhttp://a:80\t\n", False),
     ("gen uri 100", "", False),
     ("expand uri", "http://a/b\ns v x\nl l a\nl l b\na p k w\nt {v}/{l*}{?p*}\ns v \u00e9\nu l\nt {+v}{#l}\nt {\nq\nt x\n", True),
     ("register uri", "http://a/b\n" + "".join(f"a {n % 40}/../x{n % 30}\n" for n in range(60)) + "d x3\nf x4\na %4\nq\n", True),
@@ -41,7 +43,7 @@ class Command:
 
     def owed(self, read):
         """The answers to the lines that an LF ended in so many bytes."""
-        lines = self.given[:read].split(b"\n")[1:-1]
+        lines = self.given[:read].split(b"\n")[0 if self.name.startswith("pairs") else 1:-1]
         count = sum(not line.startswith(SILENT.get(self.name.split()[0], b"\n")) for line in lines)
         return b"".join(self.whole.splitlines(keepends=True)[:count])
 

@@ -8,7 +8,7 @@ static const struct {
 	const char *name, *beginnings[7];
 } commands[] = {{"canon", {"ok ", "bad "}}, {"links", {"ok ", "bad "}}, {"docs", {"ok ", "bad ", "template "}},
 	{"expand", {"ok ", "bad ", "template "}}, {"register", {"new ", "old ", "gone ", "at ", "none", "bad "}},
-	{"robots", {"allow ", "disallow ", "other ", "bad "}}};
+	{"robots", {"allow ", "disallow ", "other ", "bad "}}, {"pairs", {"ok ", "bad ", "base "}}};
 
 /* The beginning of an answer of a command; NULL for none. */
 static const char *beginning_of(const char *command, struct text answer)
@@ -20,6 +20,12 @@ static const char *beginning_of(const char *command, struct text answer)
 	return NULL;
 }
 
+/* Whether an answer that begins so makes the status 1. */
+static int is_refusal(const char *beginning)
+{
+	return beginning && (!strcmp(beginning, "bad ") || !strcmp(beginning, "template ") || !strcmp(beginning, "base "));
+}
+
 /* What is fed back of an answer with such a beginning; of an entry of `register`, which has none, what is after the second
  * space. */
 static struct text fed_back(const char *command, const char *beginning, struct text answer)
@@ -27,7 +33,7 @@ static struct text fed_back(const char *command, const char *beginning, struct t
 	size_t skipped = beginning ? strlen(beginning) : 0;
 	for (int spaces = beginning ? 2 : 0; spaces < 2 && skipped < answer.len; skipped++)
 		spaces += answer.at[skipped] == ' ';
-	int is_text = !beginning || (strcmp(command, "register") && strcmp(beginning, "bad ") && strcmp(beginning, "template "));
+	int is_text = !beginning || (strcmp(command, "register") && !is_refusal(beginning));
 	return is_text ? (struct text){answer.at + skipped, answer.len - skipped} : (struct text){0};
 }
 
@@ -86,7 +92,7 @@ static void check_answers(struct soak *soak, const char *command, const char *wo
 		const char *beginning = i < lines ? beginning_of(command, answer) : NULL;
 		holds(i >= lines || beginning, "how an answer begins");
 		struct text text = fed_back(command, beginning, answer);
-		int is_bad = beginning && (!strcmp(beginning, "bad ") || !strcmp(beginning, "template "));
+		int is_bad = is_refusal(beginning);
 		bad |= is_bad;
 		tell(is_bad ? mixed(answer.len, answer.at[answer.len - 1]) : (size_t)beginning, answer);
 		if (!text.at)
@@ -114,17 +120,20 @@ void check_command(const char *const *words, struct text given)
 	soak.reading = (struct reading){words[2][0] == 'i', word && !strcmp(word, "scheme"), {0}};
 	put_text(&input, given);
 	struct output output = run(&soak, command, word, &input);
+	/* The lines that may have an answer. */
 	size_t lines = lines_of(given);
+	if (lines && strcmp(command, "pairs"))
+		lines--;
 	if (output.status == 3)
 		holds(output.count == 1 && output.lines[0].len > 5 && !memcmp(output.lines[0].at, "base ", 5), "a base that is refused");
-	else if (output.status >= 2 || !is_count(command, lines ? lines - 1 : 0, output.count)) {
+	else if (output.status >= 2 || !is_count(command, lines, output.count)) {
 		fprintf(stderr, "FAILED status %d, %zu answers to %zu lines\n", output.status, output.count, lines);
 		abort();
 	}
 	if (output.status == 3)
 		tell(output.lines[0].len, output.lines[0]);
 	else
-		check_answers(&soak, command, word, output, lines ? lines - 1 : 0);
+		check_answers(&soak, command, word, output, lines);
 	free(output.at);
 	free(output.lines);
 	free(input.at);

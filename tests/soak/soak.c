@@ -65,6 +65,31 @@ static void check_spellings(struct soak *soak)
 	check(soak, &asked, soak->reading.base, "canon", mode_of(soak));
 }
 
+/* A page of `pairs`, with its tab and a NUL. */
+static const char *page_of(struct bytes *page, struct text base)
+{
+	put_text(page, base);
+	put_byte(page, '\t');
+	put_byte(page, 0);
+	return (const char *)page->at;
+}
+
+/* A line on a page has the answer that `canon` gives with the page as base, whatever page the line before has. */
+static void check_pairs(struct soak *soak)
+{
+	struct asked asked = {0};
+	struct bytes page = {0}, other = {0};
+	const char *on_page = page_of(&page, soak->reading.base), *on_other = page_of(&other, other_base(soak));
+	for (size_t i = 0; i < soak->count; i++) {
+		ask(soak, &asked, on_page, soak->lines[i], soak->answers[i], "a link on a page has its answer against that base");
+		if (below(&soak->spelling, 4) == 0)
+			ask(soak, &asked, on_other, WORD("x:y"), WORD("ok x:y"), "a link with a scheme has one text on every page");
+	}
+	check(soak, &asked, soak->reading.base, "pairs", mode_of(soak));
+	free(page.at);
+	free(other.at);
+}
+
 /* A text by scheme rules stays itself without them. */
 static void check_without_rules(struct soak *soak)
 {
@@ -214,6 +239,7 @@ int main(int argc, char **argv)
 	begin(&soak);
 	check_other_base(&soak);
 	check_spellings(&soak);
+	check_pairs(&soak);
 	if (soak.reading.iri)
 		check_mapped(&soak);
 	if (soak.reading.by_scheme)
