@@ -11,6 +11,7 @@ use Rattle.iri_cli.specs.declared.help.Notice.{Notice}
 use Rattle.iri_cli.specs.declared.run.words.Command.{Command}
 use Rattle.iri_cli.specs.declared.run.words.Command.TheVariants.{Lines, Gen, Tell}
 use Rattle.iri_cli.proofs.BytesLemmas.{canonical_answers, grammar_is_spec}
+use Rattle.iri_cli.proofs.PairsLemmas.{answers_are_of_canon}
 use Rattle.iri_cli.proofs.ToolLaws.{answers_are_expansions, answers_are_links, answers_are_verdicts, live_lines_share_entries}
 use Rattle.iri_cli.proofs.WordLemmas.{obeyed, unknown}
 use Rattle.iri_run_calls.specs.Runs.{RunsWords, RanOrMemory, begun}
@@ -30,6 +31,7 @@ runs_words words old new status command is done =
       links = λ grammar _. answers_are_links (tests_of grammar) (grammar_is_spec grammar);
       docs = λ grammar _ base line. answers_are_expansions (tests_of grammar) base line;
       robots = λ grammar token _. answers_are_verdicts (tests_of grammar) token;
+      pairs = λ mode grammar _. answers_are_of_canon (tests_of grammar) mode (grammar_is_spec grammar);
     }
 
 -- words that are no command

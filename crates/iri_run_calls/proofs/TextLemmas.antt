@@ -9,7 +9,7 @@ use Rattle.iri_cli.specs.run.Words.{IsCommand, named, word_of}
 use Rattle.iri_cli.specs.declared.run.words.Command.{Command}
 use Rattle.iri_cli.specs.declared.run.words.Command.TheVariants.{Lines, Gen, Tell}
 use Rattle.iri_cli.specs.declared.run.words.LineCommand.{LineCommand}
-use Rattle.iri_cli.specs.declared.run.words.LineCommand.TheVariants.{Canon, Robots}
+use Rattle.iri_cli.specs.declared.run.words.LineCommand.TheVariants.{Canon, Robots, Pairs}
 use Rattle.iri_cli.specs.declared.run.words.Grammar.{Grammar}
 use Rattle.iri_percent.specs.declared.canon_mode.CanonMode.TheVariants.{Default, Scheme}
 use Rattle.iri_grammar.specs.Blanks.{space}
@@ -30,6 +30,8 @@ no_grammar first second more none (Tell notice) is = cc is
 few_after : (a : LineCommand) (third fourth : List ℕ) (more : List (List ℕ)) → third ∷ fourth ∷ more ≢ (named a).after
 few_after (Canon Default) third fourth more e = cc e
 few_after (Canon Scheme) third fourth more e = cc e
+few_after (Pairs Default) third fourth more e = cc e
+few_after (Pairs Scheme) third fourth more e = cc e
 few_after (Robots token) third fourth more e = cc e
 few_after a third fourth more e = cc e
 

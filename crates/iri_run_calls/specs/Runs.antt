@@ -10,6 +10,7 @@ use Rattle.iri_cli.specs.docs.Expansions.{AnswersAreExpansions}
 use Rattle.iri_cli.specs.generator.References.{gen_text}
 use Rattle.iri_cli.specs.help.Notices.{MakesText, Tells, notice_text}
 use Rattle.iri_cli.specs.links.FieldValues.{AnswersAreLinks}
+use Rattle.iri_cli.specs.pairs.OfCanon.{AnswersAreOfCanon}
 use Rattle.iri_cli.specs.register.Shared.{LiveLinesShareEntries}
 use Rattle.iri_cli.specs.robots.Verdicts.{AnswersAreVerdicts}
 use Rattle.iri_cli.specs.run.Run.{Outside, outside, RunsLines}
@@ -18,7 +19,7 @@ use Rattle.iri_cli.specs.declared.run.words.Command.{Command}
 use Rattle.iri_cli.specs.declared.run.words.Command.TheVariants.{Lines, Gen, Tell}
 use Rattle.iri_cli.specs.declared.run.words.Grammar.{Grammar}
 use Rattle.iri_cli.specs.declared.run.words.LineCommand.{LineCommand}
-use Rattle.iri_cli.specs.declared.run.words.LineCommand.TheVariants.{Canon, Register, Links, Docs}
+use Rattle.iri_cli.specs.declared.run.words.LineCommand.TheVariants.{Canon, Register, Links, Docs, Pairs}
 use Rattle.iri_cli.specs.declared.help.Notice.{Notice}
 
 -- The contract of the program's `run`.
@@ -36,6 +37,8 @@ pub record RunsWords (words : List (List ℕ)) (old new : Outside) (status : ℕ
   pub docs : (grammar : Grammar) → IsCommand words (Lines Docs grammar) → AnswersAreExpansions (tests_of grammar)
   pub robots : (grammar : Grammar) (token : List ℕ) → words ≡ codes "robots" ∷ word_of grammar ∷ token ∷ []
       → AnswersAreVerdicts (tests_of grammar) token
+  pub pairs : (mode : CanonMode) (grammar : Grammar) → IsCommand words (Lines (Pairs mode) grammar)
+      → AnswersAreOfCanon (tests_of grammar) mode
 
 -- The words are a command over lines, or `gen`.
 abbrev pub TakesMemory : List (List ℕ) → Type 0
