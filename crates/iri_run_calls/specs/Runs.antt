@@ -37,7 +37,7 @@ pub record RunsWords (words : List (List ℕ)) (old new : Outside) (status : ℕ
   pub docs : (grammar : Grammar) → IsCommand words (Lines Docs grammar) → AnswersAreExpansions (tests_of grammar)
   pub robots : (grammar : Grammar) (token : List ℕ) → words ≡ codes "robots" ∷ word_of grammar ∷ token ∷ []
       → AnswersAreVerdicts (tests_of grammar) token
-  pub pairs : (mode : CanonMode) (grammar : Grammar) → IsCommand words (Lines (Pairs mode) grammar)
+  pub pairs : (mode : CanonMode) (grammar : Grammar) → IsCommand words (Lines Pairs mode grammar)
       → AnswersAreOfCanon (tests_of grammar) mode
 
 -- The words are a command over lines, or `gen`.
