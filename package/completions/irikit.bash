@@ -14,12 +14,14 @@ _irikit() {
     mapfile -t COMPREPLY < <(compgen -f -- "$current")
     return
   fi
-  case ${#given[@]}:${given[0]:-} in
-    0:) words='canon pairs expand register links docs robots gen --help --version' ;;
+  case ${#given[@]}:${given[0]:-}:${given[2]:-} in
+    0:*) words='canon pairs expand register links docs robots gen --help --version' ;;
     1:--*) ;;
     1:*) words='uri iri' ;;
-    2:robots | 2:gen | 2:--*) ;;
-    2:* | 3:robots) words=scheme ;;
+    2:robots:* | 2:gen:* | 2:--*) ;;
+    2:canon:*) words='to scheme' ;;
+    3:canon:to) words=uri ;;
+    2:* | 3:robots:* | 4:canon:to) words=scheme ;;
   esac
   mapfile -t COMPREPLY < <(compgen -W "$words" -- "$current")
 } && complete -F _irikit irikit

@@ -46,9 +46,10 @@ static void check_canon(int grammar, struct text input, struct text output)
 
 void check_run(struct input input)
 {
-	static const char *const words[] = {"canon uri", "canon iri", "canon uri scheme", "expand uri", "expand iri", "register uri",
-		"links iri", "docs uri", "robots uri examplebot", "pairs uri", "pairs iri scheme", "gen uri 9", "--help", "canon  uri", "docs", "expand iri scheme", "register uri scheme",
-		"links uri scheme", "docs iri scheme", "robots uri examplebot scheme"};
+	static const char *const words[] = {"canon uri", "canon iri", "canon uri scheme", "canon iri to uri", "expand uri", "expand iri",
+		"register uri", "links iri", "docs uri", "robots uri examplebot", "pairs uri", "pairs iri scheme", "gen uri 9", "--help",
+		"canon  uri", "docs", "expand iri scheme", "register uri scheme", "links uri scheme", "docs iri scheme",
+		"robots uri examplebot scheme"};
 	size_t number = (input.first >> 2) % (sizeof words / sizeof *words);
 	struct bytes to = {0};
 	check_output(words[number], input.whole, &to);

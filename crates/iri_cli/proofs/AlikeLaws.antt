@@ -1,6 +1,6 @@
 -- Each command says the same after a base line and after its prepared base.
-use Rattle.iri_cli.proofs.Common.{◌≡◌, ◌∙◌, ℕ, ◌+◌, List, [], ◌∷◌, ◌++◌, None, Result, Ok, Err, refl, sym, ap, subst, map, length, Tests, IsSpec}
-use Rattle.iri_cli.proofs.Common.{recompose, IsSome, IsAbsolute, Parts, split_of, bytes_fault, reference_fault, CanonMode, canonical_in, answer_in}
+use Rattle.iri_cli.proofs.Common.{◌≡◌, ◌∙◌, ℕ, ◌+◌, ◌≤◌, List, [], ◌∷◌, ◌++◌, None, Result, Ok, Err, refl, sym, ap, subst, map, length, Tests, IsSpec}
+use Rattle.iri_cli.proofs.Common.{recompose, IsSome, IsAbsolute, Parts, split_of, bytes_fault, reference_fault, CanonMode, canonical_in, answer_in, answer_by}
 use Rattle.iri_cli.proofs.Common.{good_answer, refusal, expansion_answer, template_answer, docs_answer, read_answer}
 use Rattle.iri_cli.proofs.Common.{Values, command_of, commands_from, entries_after, normal_base, robots_rules, rules_of, answer_to, entry_lines}
 use Rattle.std.proofs.Math.Path.{fun_ext}
@@ -19,21 +19,25 @@ use Rattle.iri_link.specs.Written.{written}
 use Rattle.iri_normal.specs.NormalForm.{normal_form_in}
 use Rattle.iri_normal.specs.Target.{target}
 use Rattle.iri_normal.proofs.canonical_texts.CanonicalTexts.{canonical_in-text, own-target}
+use Rattle.iri_percent.specs.Mapping.{mapped}
 use Rattle.iri_register.specs.Commands.{entries_of_commands, Add, Remove}
 use Rattle.iri_register.specs.Entries.{Entry, line_count, place}
 use Rattle.iri_robots.specs.Records.{FileRecord}
 use Rattle.iri_cli.specs.declared.run.words.LineCommand.{LineCommand}
-use Rattle.iri_cli.specs.declared.run.words.LineCommand.TheVariants.{Canon, Expand, Register, Links, Docs, Robots, Pairs}
+use Rattle.iri_cli.specs.declared.run.words.LineCommand.TheVariants.{Canon, ToUri, Expand, Register, Links, Docs, Robots, Pairs}
 use Rattle.iri_cli.specs.expand.Answers.{answer_to as expand_to}
 use Rattle.iri_cli.specs.expand.Lines.{ExpandLine, changes, expands, bad as no_template, values_after, line_of as expand_line}
-use Rattle.iri_cli.specs.inside.Opening.{IsPreparedOf}
+use Rattle.iri_cli.specs.inside.Opening.{IsPreparedOf, begun}
+use Rattle.iri_cli.specs.inside.Puts.{IsWriterAt}
 use Rattle.iri_cli.specs.links.Answers.{links_answer, unless_told}
 use Rattle.iri_cli.specs.register.Answers.{answer_to as register_to, added_answer, removed_answer, found_answer}
 use Rattle.iri_cli.specs.register.Lines.{RegisterLine, adds, removes, finds, bad as no_change, line_of, unless_fault}
 use Rattle.iri_cli.specs.register.Memory.{takes_memory}
 use Rattle.iri_cli.specs.robots.Answers.{target_answer}
 use Rattle.iri_cli.specs.robots.Lines.{RobotsLine, feeds, asks, bad, records_after, line_of as robots_line}
+use Rattle.iri_cli.specs.run.Limits.{longest_line, answer_room}
 use Rattle.iri_cli.specs.run.Prepared.{IsAlike}
+use Rattle.iri_cli.specs.to_uri.Answers.{uri_answer}
 use Rattle.iri_cli.specs.run.Refused.{unless_bad}
 use Rattle.iri_cli.proofs.BytesLemmas.{base_absolute}
 use Rattle.iri_cli.proofs.PreparedLaws.{prepared_absolute, prepared_taken, same_answer, same_canonical}
@@ -71,6 +75,11 @@ module _ (s : Tests) (line text : List ℕ) (k : IsSpec s) (p : IsPreparedOf s l
 
     targets_same : (r : List ℕ) → canonical_in s mode text r ≡ canonical_in s mode line r
     targets_same r = ap (λ (t : List ℕ). canonical_in s mode t r) p.text_is ∙ same_canonical s mode line r k line_valid
+
+    -- ---- canonical texts, mapped
+    uris_same : (l : List ℕ) → uri_answer s mode text l ≡ uri_answer s mode line l
+    unfolding uri_answer
+    uris_same l = ap (λ t. answer_by (bytes_fault (reference_fault s) l) (mapped t)) (targets_same l)
 
     -- ---- expansions
     expansions_same : (x : Result (List ℕ) DocExpandError) → expansion_answer s mode text x ≡ expansion_answer s mode line x
@@ -147,6 +156,7 @@ module _ (s : Tests) (line text : List ℕ) (k : IsSpec s) (p : IsPreparedOf s l
 
     pub alike : (command : LineCommand) → IsAlike (rules_of command s mode) text line
     alike Canon = record { answer = λ between. answers_same; closing = λ between. refl; wants_memory = λ between l. refl }
+    alike ToUri = record { answer = λ between. uris_same; closing = λ between. refl; wants_memory = λ between l. refl }
     alike Expand = record {
       answer = λ between l. expands_same (values_after between) (expand_line l);
       closing = λ between. refl;
@@ -162,3 +172,9 @@ module _ (s : Tests) (line text : List ℕ) (k : IsSpec s) (p : IsPreparedOf s l
     alike Docs = record { answer = λ between. documents_same; closing = λ between. refl; wants_memory = λ between l. refl }
     alike (Robots token) = robots_alike token.now
     alike Pairs = record { answer = λ between l. refl; closing = λ between. refl; wants_memory = λ between l. refl }
+
+    -- a command that writes to a buffer stands at the prepared base
+    pub writer_at : (command : LineCommand) (output : ℕ) → length text ≤ longest_line → answer_room ≤ output
+        → IsWriterAt (rules_of command s mode) s text output (begun (rules_of command s mode) line)
+    writer_at command output short room =
+        record { rules = refl; alike = alike command; taken = still_taken; short = short; room = room }

@@ -1,10 +1,10 @@
 -- The answers of `canon`.
 use Rattle.iri_cli.proofs.Common.{◌≡◌, ◌≢◌, ℕ, ◌+◌, ◌≤◌, Bool, true, false, List, [], length, None, Result, Ok, Err, refl, sym, ap, subst, arith}
 use Rattle.iri_cli.proofs.Common.{◌∙◌, Tests, IsSpec, bytes_fault, reference_fault, PutsAll, KeepsRoom, SinkState, room-so, Failed}
-use Rattle.iri_cli.proofs.Common.{CanonMode, canonical_in, refusal, answer_in, Answering, AnswersLine}
+use Rattle.iri_cli.proofs.Common.{CanonMode, canonical_in, refusal, Answering, AnswersLine}
 use Rattle.iri_cli.proofs.Common.{PutsAnswer, is_ok, AnswerError, SinkFailed, Rules, OnOk}
 use Rattle.iri_normal.proofs.normal_forms.Lengths.{length-canonical_in}
-use Rattle.iri_cli.specs.inside.Puts.{said_good, IsCanonAt}
+use Rattle.iri_cli.specs.inside.Puts.{said_good, IsWriterAt}
 use Rattle.iri_cli.specs.inside.SinkTexts.{puts_nothing}
 use Rattle.iri_cli.specs.declared.run.answers.AnswerError.TheVariants.{Memory}
 use Rattle.iri_cli.proofs.BytesLemmas.{base_absolute, line_reference}
@@ -61,20 +61,21 @@ pub on_ok : {X : Type 0} (r : Result Bool AnswerError) → X → OnOk r X
 on_ok (Ok x) h = h
 on_ok (Err x) h = tt
 
-pub answers_line : (s : Tests) (m : CanonMode) (base line : List ℕ) (output new : ℕ) (at : Answering) (ko kn : SinkState)
-    (r : Result Bool AnswerError) → IsCanonAt s m base output at → output ≤ new
-    → PutsAnswer is_ok ko kn false (answer_in s m base line) r
-    → KeepsRoom ko.room_left kn.room_left (answer_in s m base line) (r ≢ Err SinkFailed)
-    → AnswersLine (IsCanonAt s m base new) at line ko kn r
-answers_line s m base line output new at ko kn r is grows p room =
-    let e : answer_in s m base line ≡ at.rules.answer at.base at.between line =
+-- a line was answered by the rules of a command
+pub answers_line : (said : Rules) (s : Tests) (base line : List ℕ) (output new : ℕ) (at : Answering) (ko kn : SinkState)
+    (r : Result Bool AnswerError) → IsWriterAt said s base output at → output ≤ new
+    → PutsAnswer said.is_good ko kn false (said.answer base at.between line) r
+    → KeepsRoom ko.room_left kn.room_left (said.answer base at.between line) (r ≢ Err SinkFailed)
+    → AnswersLine (IsWriterAt said s base new) at line ko kn r
+answers_line said s base line output new at ko kn r is grows p room =
+    let e : said.answer base at.between line ≡ at.rules.answer at.base at.between line =
     is.alike.answer at.between line ∙ ap (λ (rules : Rules). rules.answer at.base at.between line) (sym is.rules) in
     record {
       puts =
           let text = at.rules.answer at.base at.between line in
-          puts_answer is_ok at.rules.is_good ko kn r false (at.rules.wants_memory at.base at.between line) text
+          puts_answer said.is_good at.rules.is_good ko kn r false (at.rules.wants_memory at.base at.between line) text
           (ap (λ (rules : Rules). rules.is_good text) (sym is.rules)) (λ _ h. absurd (cc h))
-          (subst (λ t. PutsAnswer is_ok ko kn false t r) e p);
+          (subst (λ t. PutsAnswer said.is_good ko kn false t r) e p);
       next = on_ok r (record { rules = is.rules; alike = is.alike; taken = is.taken; short = is.short; room = omega (arith, grows, is.room) });
       room = subst (λ t. KeepsRoom ko.room_left kn.room_left t (r ≢ Err SinkFailed)) e room;
     }

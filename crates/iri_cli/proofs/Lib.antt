@@ -16,6 +16,7 @@ pub mod OpeningLemmas
 pub mod MemoryLemmas
 pub mod StatelessLemmas
 pub mod LinksLemmas
+pub mod ToUriLemmas
 pub mod ExpandLemmas
 pub mod DocsLemmas
 pub mod PutLemmas

@@ -1,5 +1,5 @@
 -- Words are the words of one command at most.
-use Rattle.iri_cli.proofs.Common.{◌≡◌, ◌≢◌, ◌∙◌, ◌++◌, ℕ, List, [], drop, length, Option, None, Some, ap, arith, refl, subst, sym, codes, get_or}
+use Rattle.iri_cli.proofs.Common.{◌≡◌, ◌≢◌, ◌∙◌, ◌++◌, ℕ, List, [], ◌∷◌, drop, length, Option, None, Some, ap, arith, refl, subst, sym, codes, get_or}
 use Rattle.iri_cli.proofs.Common.{Tests, CanonMode, gen_text, robots_rules, Rules, Outside, RunsLines, rules_of, tests_of}
 use Rattle.std.specs.Prelude.{MatchOption}
 use Rattle.std.proofs.lemmas.Fmt.{decimal_injective}
@@ -12,7 +12,7 @@ use Rattle.iri_cli.specs.declared.help.Notice.TheVariants.{Help, Version}
 use Rattle.iri_cli.specs.declared.run.words.Command.{Command}
 use Rattle.iri_cli.specs.declared.run.words.Command.TheVariants.{Lines, Gen, Tell}
 use Rattle.iri_cli.specs.declared.run.words.LineCommand.{LineCommand}
-use Rattle.iri_cli.specs.declared.run.words.LineCommand.TheVariants.{Canon, Expand, Register, Links, Docs, Robots, Pairs}
+use Rattle.iri_cli.specs.declared.run.words.LineCommand.TheVariants.{Canon, ToUri, Expand, Register, Links, Docs, Robots, Pairs}
 use Rattle.iri_cli.specs.declared.run.words.Grammar.{Grammar}
 use Rattle.iri_cli.specs.declared.run.words.Grammar.TheVariants.{Uri, Iri}
 
@@ -34,10 +34,18 @@ one_mode Default Default e = refl
 one_mode Scheme Scheme e = refl
 one_mode m n e = absurd (omega (arith, e))
 
+-- the words of a mode aren't those for answers that are URIs
+no_mode : (m n : CanonMode) → mode_words m ≢ codes "to" ∷ codes "uri" ∷ mode_words n
+no_mode Default n e = let count = ap (λ (ws : List (List ℕ)). length ws) e in omega (arith, count)
+no_mode Scheme n e = let count = ap (λ (ws : List (List ℕ)). length ws) e in omega (arith, count)
+
 -- a name and the words after that of the grammar tell the rules
 one_line_command : (s : Tests) (m n : CanonMode) (a b : LineCommand) → (named a).word ≡ (named b).word
     → (named a).after ++ mode_words m ≡ (named b).after ++ mode_words n → rules_of a s m ≡ rules_of b s n
 one_line_command s m n Canon Canon e f = ap (rules_of Canon s) (one_mode m n (ap length f))
+one_line_command s m n ToUri ToUri e f = ap (rules_of ToUri s) (one_mode m n (ap (λ (ws : List (List ℕ)). length (drop 2 ws)) f))
+one_line_command s m n Canon ToUri e f = absurd (no_mode m n f)
+one_line_command s m n ToUri Canon e f = absurd (no_mode n m (sym f))
 one_line_command s m n Expand Expand e f = ap (rules_of Expand s) (one_mode m n (ap length f))
 one_line_command s m n Register Register e f = ap (rules_of Register s) (one_mode m n (ap length f))
 one_line_command s m n Links Links e f = ap (rules_of Links s) (one_mode m n (ap length f))

@@ -1,5 +1,6 @@
 pub mod run
 pub mod canon
+pub mod to_uri
 pub mod expand
 pub mod register
 pub mod robots

@@ -14,6 +14,7 @@ ghost use Rattle.iri_cli.specs.declared.run.answers.AnswerError.TheVariants.{Sin
 ghost use Rattle.iri_text.specs.LineEnds.{line_feed};
 
 pub(crate) mod calls;
+pub(crate) mod text;
 
 use crate::run::answers::{AnswerError, Answers};
 use crate::run::buffers::room_for;
@@ -104,14 +105,14 @@ impl<S: Spec> Answers<S> for Canon {
 
     ghost use Rattle.std.specs.Prelude.{refl};
     ghost use Rattle.std.specs.Vec.{vec_capacity};
-    ghost use Rattle.iri_cli.specs.inside.Puts.{IsCanonAt};
+    ghost use Rattle.iri_cli.specs.inside.Puts.{IsWriterAt};
     ghost use Rattle.iri_cli.specs.canon.Rules.{canon_rules_in};
 
     ghost rules = { λ mode. canon_rules_in S.tests mode };
 
     ghost begins = { λ mode. record { line_limit = refl; input_limit = refl; refusal = refl } };
 
-    ghost stands_at = { λ c base at. IsCanonAt S.tests c.mode base (vec_capacity c.output) at };
+    ghost stands_at = { λ c base at. IsWriterAt (canon_rules_in S.tests c.mode) S.tests base (vec_capacity c.output) at };
 
     fn open(
         mode: CanonMode,

@@ -53,6 +53,7 @@ mod pairs;
 mod register;
 mod robots;
 pub mod run;
+mod to_uri;
 
 pub use canon::calls::{canon_lines, canon_lines_in};
 pub use run::buffers::CanonBuffers;

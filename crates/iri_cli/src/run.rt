@@ -7,6 +7,7 @@ ghost use Rattle.iri_cli.specs.pairs.OfCanon.{AnswersAreOfCanon};
 ghost use Rattle.iri_cli.specs.register.Shared.{LiveLinesShareEntries};
 ghost use Rattle.iri_cli.specs.robots.Verdicts.{AnswersAreVerdicts};
 ghost use Rattle.iri_cli.specs.canon.Answers.{AnswersAreCanonicalIn};
+ghost use Rattle.iri_cli.specs.to_uri.Answers.{AnswersAreCanonicalUris};
 ghost use Rattle.iri_cli.specs.run.Run.{RunsLines, outside_state};
 ghost use Rattle.iri_cli.specs.generator.References.{gen_text};
 ghost use Rattle.iri_cli.specs.help.Notices.{MakesText, Tells, notice_text};
@@ -42,6 +43,7 @@ use crate::run::answers::Setup;
 use crate::run::buffers::CanonBuffers;
 use crate::run::opening::run_lines;
 use crate::run::words::{Command, Grammar, LineCommand, command_of};
+use crate::to_uri::ToUri;
 use iri_grammar::spec::{IriSpec, Spec, UriSpec};
 use iri_normal::mode::CanonMode;
 use iri_text::{Sink, Source};
@@ -70,6 +72,7 @@ fn lines_in<S: Spec, I: Source, O: Sink>(
     };
     match command {
         LineCommand::Canon => canon_lines_in::<S, I, O>(setup.mode, buffers, source, sink),
+        LineCommand::ToUri => run_lines::<S, ToUri, I, O>(setup.mode, buffers, source, sink),
         LineCommand::Expand => run_lines::<S, Expand, I, O>(setup, buffers, source, sink),
         LineCommand::Register => run_lines::<S, Registers<S>, I, O>(setup, buffers, source, sink),
         LineCommand::Links => run_lines::<S, Links, I, O>(setup, buffers, source, sink),
@@ -176,6 +179,12 @@ pub fn run<I: Source, O: Sink>(alloc: Global, words: &[String], source: &mut I, 
     ensures canonical { (mode : CanonMode) (grammar : Grammar)
         → IsCommand (map string_bytes words.now) (Command.Lines LineCommand.Canon mode grammar)
         → AnswersAreCanonicalIn (tests_of grammar) mode }
+
+    // `canon` with `to uri`: each good answer has the canonical text, mapped to a URI, and this is
+    // the canonical text of the mapped base and reference.
+    ensures canonical_uris { (mode : CanonMode) (grammar : Grammar)
+        → IsCommand (map string_bytes words.now) (Command.Lines LineCommand.ToUri mode grammar)
+        → AnswersAreCanonicalUris (tests_of grammar) mode }
 
     // `register`, in its mode: two live lines share an entry exactly where the mode's steps join the
     // targets of their references.

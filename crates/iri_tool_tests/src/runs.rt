@@ -72,6 +72,8 @@ fn help(rt: HostRuntime) -> Result<(), Fail> {
     assert!(rt; matches!(source.take(&mut [0; 2]), Ok(1)));
     for &command in &[
         "canon GRAMMAR [scheme]",
+        "canon GRAMMAR to uri [scheme]",
+        "pairs GRAMMAR [scheme]",
         "expand GRAMMAR [scheme]",
         "register GRAMMAR [scheme]",
         "links GRAMMAR [scheme]",

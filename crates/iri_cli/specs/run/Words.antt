@@ -12,13 +12,14 @@ use Rattle.iri_cli.specs.links.Rules.{links_rules}
 use Rattle.iri_cli.specs.pairs.Rules.{pairs_rules}
 use Rattle.iri_cli.specs.register.Rules.{register_rules}
 use Rattle.iri_cli.specs.robots.Rules.{robots_rules}
+use Rattle.iri_cli.specs.to_uri.Rules.{to_uri_rules}
 use Rattle.iri_robots.specs.FileLines.{is_token}
 use Rattle.iri_cli.specs.declared.run.words.Grammar.{Grammar}
 use Rattle.iri_cli.specs.declared.run.words.Grammar.TheVariants.{Uri, Iri}
 use Rattle.iri_cli.specs.declared.run.words.Command.{Command}
 use Rattle.iri_cli.specs.declared.run.words.Command.TheVariants.{Lines, Gen, Tell}
 use Rattle.iri_cli.specs.declared.run.words.LineCommand.{LineCommand}
-use Rattle.iri_cli.specs.declared.run.words.LineCommand.TheVariants.{Canon, Expand, Register, Links, Docs, Robots, Pairs}
+use Rattle.iri_cli.specs.declared.run.words.LineCommand.TheVariants.{Canon, ToUri, Expand, Register, Links, Docs, Robots, Pairs}
 use Rattle.iri_cli.specs.declared.help.Notice.{Notice}
 use Rattle.iri_cli.specs.declared.help.Notice.TheVariants.{Help, Version}
 
@@ -45,6 +46,7 @@ pub record Named : Type 0 where
 
 abbrev pub named : LineCommand → Named
 named Canon = record { word = codes "canon"; after = []; rules = canon_rules_in }
+named ToUri = record { word = codes "canon"; after = codes "to" ∷ codes "uri" ∷ []; rules = to_uri_rules }
 named Expand = record { word = codes "expand"; after = []; rules = expand_rules }
 named Register = record { word = codes "register"; after = []; rules = register_rules }
 named Links = record { word = codes "links"; after = []; rules = links_rules }

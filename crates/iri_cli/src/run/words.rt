@@ -27,6 +27,8 @@ pub enum Grammar {
 pub enum LineCommand<'a> {
     /// To answer each reference line by its canonical text.
     Canon,
+    /// The same, with each text mapped to a URI.
+    ToUri,
     /// To answer each template by the canonical text of its expansion, with the values that lines
     /// before give variables.
     Expand,
@@ -70,6 +72,13 @@ fn is_scheme(word: &str) -> bool
     ensures { (result ≡ true) ↔ (word.now ≡ codes "scheme") }
 {
     word == "scheme"
+}
+
+// Whether these are the words for answers that are URIs.
+fn is_to_uri(first: &str, second: &str) -> bool
+    ensures { (result ≡ true) ↔ ((first.now ≡ codes "to") × (second.now ≡ codes "uri")) }
+{
+    first == "to" && second == "uri"
 }
 
 // Whether this is the number in decimal.
@@ -155,6 +164,29 @@ pub fn command_of_four<'a>(
         "robots" if is_product_token(word) && is_scheme(last) => {
             Some(Command::Lines(LineCommand::Robots(word), CanonMode::Scheme, grammar))
         }
+        "canon" if is_to_uri(word, last) => {
+            Some(Command::Lines(LineCommand::ToUri, CanonMode::Default, grammar))
+        }
+        _ => None,
+    }
+}
+
+/// The command of a name, a grammar and three words more; none exactly where these words are no command.
+pub fn command_of_five<'a>(
+    name: &str,
+    grammar: Grammar,
+    first: &str,
+    second: &str,
+    last: &str,
+) -> Option<Command<'a>>
+    ensures { MatchOption result
+        ((command : Command) → ¬ (IsCommand (name.now ∷ word_of grammar ∷ first.now ∷ second.now ∷ last.now ∷ []) command))
+        (IsCommand (name.now ∷ word_of grammar ∷ first.now ∷ second.now ∷ last.now ∷ [])) }
+{
+    match name {
+        "canon" if is_to_uri(first, second) && is_scheme(last) => {
+            Some(Command::Lines(LineCommand::ToUri, CanonMode::Scheme, grammar))
+        }
         _ => None,
     }
 }
@@ -169,6 +201,13 @@ fn command_by<'a>(name: &str, grammar: Grammar, after: &'a [String]) -> Option<C
         [] => command_of_two(name, grammar),
         [word] => command_of_three(name, grammar, word.as_str()),
         [word, last] => command_of_four(name, grammar, word.as_str(), last.as_str()),
+        [first, second, last] => command_of_five(
+            name,
+            grammar,
+            first.as_str(),
+            second.as_str(),
+            last.as_str(),
+        ),
         _ => None,
     }
 }

@@ -1,6 +1,7 @@
+use Rattle.iri_cli.proofs.Common.{canon_rules_in}
 use Rattle.iri_cli.proofs.CanonLemmas.{answers_line}
 use Rattle.iri_cli.proofs.canon.CanonAnswers.answer.Goals as goal
 
 pub returns : goal.returns
 returns g c = λ at is.
-    answers_line _ _ _ _ _ _ _ _ _ _ is c.put_answer.ensures.capacity c.put_answer.ensures.puts c.put_answer.ensures.room
+    answers_line (canon_rules_in g.S.Spec.tests c.args.self.now.mode) _ _ _ _ _ _ _ _ _ is c.put_answer.ensures.capacity c.put_answer.ensures.puts c.put_answer.ensures.room

@@ -1,0 +1,4 @@
+-- The command `canon` with `to uri`.
+pub mod Answers
+pub mod Rules
+pub mod Examples
