@@ -1,5 +1,6 @@
 -- Dot removal.
 pub mod Output
+pub mod Parents
 pub mod Stability
 pub mod RfcSteps
 pub mod Buffers

@@ -6,5 +6,6 @@ pub mod Written
 pub mod NextDots
 pub mod Unchanged
 pub mod Kept
+pub mod Parents
 pub mod PathForm
 pub mod SchemeRules

@@ -36,6 +36,7 @@ mod beginning;
 pub mod canonical;
 mod canonical_string;
 mod comparison;
+mod directory;
 mod dots;
 mod form;
 pub mod is_normalized;

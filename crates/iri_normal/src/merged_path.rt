@@ -1,13 +1,17 @@
 // A path in two pieces, as it is merged (RFC 3986 section 5.2.3).
 ghost use Rattle.std.specs.Prelude.{◌≡◌, ◌||◌, ◌++◌, false, true};
-ghost use Rattle.iri_grammar.specs.Characters.{percent_sign};
+ghost use Rattle.iri_grammar.specs.Characters.{percent_sign, slash};
 ghost use Rattle.iri_grammar.specs.Cut.{lacks};
 ghost use Rattle.iri_grammar.specs.Parts.{is_empty};
+ghost use Rattle.iri_grammar.specs.Pieces.{pieces};
 ghost use Rattle.iri_normal.specs.Dots.{has_dot_segment};
 ghost use Rattle.iri_normal.specs.Target.{ends_at_slash};
+ghost use Rattle.iri_normal.specs.inside.Kept.{taken};
+ghost use Rattle.iri_normal.specs.inside.Written.{popped_times};
 
 /// What the base gives of a path, and the reference's path after it. The first piece ends where a segment ends, or nothing follows it.
-/// `plain` says that it has no dot segment, and `bare` that it has no percent-encoded octet; `false` says nothing.
+/// `plain` says that it has no dot segment, and `bare` that it has no percent-encoded octet; `false` says nothing. `parent` is what the
+/// second piece's dot segments leave of it; nothing says nothing.
 ///
 /// ```
 /// use iri::steps::MergedPath;
@@ -21,9 +25,11 @@ pub struct MergedPath<'a> {
     pub reference: &'a str,
     pub plain: bool,
     pub bare: bool,
+    pub parent: &'a str,
     pub ghost cut: { (is_empty reference.now || ends_at_slash base.now) ≡ true },
     pub ghost noted: { plain ≡ true → has_dot_segment base.now ≡ false },
     pub ghost bared: { bare ≡ true → lacks percent_sign base.now ≡ true },
+    pub ghost above: { is_empty parent.now ≡ false → parent.now ≡ popped_times (taken (pieces slash reference.now) 0) base.now },
 }
 
 impl<'a> MergedPath<'a> {
@@ -36,6 +42,7 @@ impl<'a> MergedPath<'a> {
             reference: path,
             plain: true,
             bare: true,
+            parent: "",
         }
     }
 }

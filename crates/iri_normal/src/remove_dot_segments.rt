@@ -19,15 +19,15 @@ ghost use Rattle.iri_grammar.specs.Pieces.{pieces};
 ghost use Rattle.iri_percent.specs.Units.{whole_triplets};
 ghost use Rattle.iri_normal.specs.DotRemoval.{dots};
 ghost use Rattle.iri_normal.specs.Dots.{has_dot_segment, is_dot_segment};
-ghost use Rattle.iri_normal.specs.inside.Kept.{kept};
+ghost use Rattle.iri_normal.specs.inside.Kept.{kept, taken};
 ghost use Rattle.iri_normal.specs.inside.PathForm.{in_form};
 ghost use Rattle.iri_normal.specs.Slices.{merged};
 ghost use Rattle.iri_normal.specs.Target.{ends_at_slash};
-ghost use Rattle.iri_normal.specs.inside.Written.{written};
+ghost use Rattle.iri_normal.specs.inside.Written.{popped_times, written};
 ghost use Rattle.iri_text.specs.Shown.{Shows};
 
 use self::output_buffer::{SHORT, put_kept, put_path};
-use self::segments::{cut_eighth, cut_first, popped_times, taken, without_first_dots};
+use self::segments::{cut_eighth, cut_first, without_first_dots};
 use crate::dots::has_dot_segment;
 use crate::merged_path::MergedPath;
 use iri_grammar::dots::may_have_dots;
@@ -37,6 +37,8 @@ use iri_text::{Show, Stop, TextSink};
 
 mod output_buffer;
 mod segments;
+
+pub(crate) use self::segments::{popped_times, taken};
 
 /// A part, its percent-encoded octets in normal form where that is asked for.
 pub fn show_part<S: Spec, W: TextSink>(sink: &mut W, part: &str, normal: bool) -> Result<(), Stop>
@@ -147,17 +149,34 @@ fn show_kept<S: Spec, W: TextSink>(
     show_kept::<S, W>(sink, rest, count, normal)
 }
 
-// A path in three pieces: a directory, what follows it, and more, which follows where a segment of that ends. `bare` says that the
-// directory has no percent-encoded octet.
+// What stays of a directory before what follows it, where that may be known.
+fn parent_of<'a>(directory: &'a str, known: &'a str, text: &str, count: usize) -> &'a str
+    requires ends { ends_at_slash directory.now ≡ true }
+    requires known { is_empty known.now ≡ false → known.now ≡ popped_times (taken (pieces slash text.now) count) directory.now }
+    requires room { count + length text.now < 2 ^ 64 }
+    ensures { result.now ≡ popped_times (taken (pieces slash text.now) count) directory.now }
+{
+    if known.is_empty() {
+        popped_times(directory, taken(text, count))
+    } else {
+        known
+    }
+}
+
+// A path in three pieces: a directory, what follows it, and more, which follows where a segment of that ends. `known` is what the
+// dot segments of these leave of the directory, or nothing. `bare` says that the directory has no percent-encoded octet.
 fn show_after<S: Spec, W: TextSink>(
     sink: &mut W,
     directory: &str,
+    known: &str,
     text: &str,
     more: &str,
     bare: bool,
     normal: bool,
 ) -> Result<(), Stop>
     requires directory { (ends_at_slash directory.now && not (is_empty directory.now)) ≡ true }
+    requires known { is_empty known.now ≡ false
+        → known.now ≡ popped_times (taken (pieces slash text.now) (taken (pieces slash more.now) 0)) directory.now }
     requires bare { bare ≡ true → lacks percent_sign directory.now ≡ true }
     requires cut { (is_empty more.now || ends_at_slash text.now) ≡ true }
     requires paths { (is_path S.tests directory.now ≡ true) × (is_path S.tests text.now ≡ true) × (is_path S.tests more.now ≡ true) }
@@ -165,7 +184,7 @@ fn show_after<S: Spec, W: TextSink>(
         (in_form S.tests normal (written (written directory.now text.now) more.now)) sink.new result }
 {
     let count = taken(more, 0);
-    let parent = popped_times(directory, taken(text, count));
+    let parent = parent_of(directory, known, text, count);
     show_part::<S, W>(sink, parent, normal & !bare)?;
     show_kept::<S, W>(sink, text, count, normal)?;
     show_kept::<S, W>(sink, more, 0, normal)
@@ -185,7 +204,7 @@ fn show_from_first<S: Spec, W: TextSink>(
         (in_form S.tests normal (written (written [] text.now) more.now)) sink.new result }
 {
     match cut_first(text) {
-        Some((first, rest)) => show_after::<S, W>(sink, first, rest, more, false, normal),
+        Some((first, rest)) => show_after::<S, W>(sink, first, "", rest, more, false, normal),
         None => show_part::<S, W>(sink, text, normal),
     }
 }
@@ -226,7 +245,15 @@ fn show_long<S: Spec, W: TextSink>(
     ensures { Shows W.puts W.halts W.stops sink.old (in_form S.tests normal (dots (merged path.now))) sink.new result }
 {
     if has_plain_directory(path) {
-        return show_after::<S, W>(sink, path.base, path.reference, "", path.bare, normal);
+        return show_after::<S, W>(
+            sink,
+            path.base,
+            path.parent,
+            path.reference,
+            "",
+            path.bare,
+            normal,
+        );
     }
     show_from_start::<S, W>(sink, path, normal)
 }

@@ -3,7 +3,6 @@ ghost use Rattle.std.specs.Prelude.{◌≡◌, ◌++◌, ◌&&◌, ℕ, List, If
 ghost use Rattle.iri_grammar.specs.Characters.{percent_sign};
 ghost use Rattle.iri_grammar.specs.Components.{if_there};
 ghost use Rattle.iri_grammar.specs.Cut.{lacks};
-ghost use Rattle.iri_normal.specs.Dots.{has_dot_segment};
 ghost use Rattle.iri_grammar.specs.Parts.{Fits, Parts, is_empty};
 ghost use Rattle.iri_grammar.specs.Split.{split_of};
 ghost use Rattle.iri_grammar.specs.Splitters.{parts};
@@ -15,19 +14,18 @@ ghost use Rattle.iri_normal.specs.NormalForm.{canonical, canonical_in};
 ghost use Rattle.iri_normal.specs.inside.SchemeRules.{StaysByScheme, ends_in_port};
 ghost use Rattle.iri_normal.specs.inside.Unchanged.{EndsCanonical, EndsParts, PutsPath, StandBefore, is_plain_prefix};
 ghost use Rattle.iri_normal.specs.Slices.{slices};
-ghost use Rattle.iri_normal.specs.Target.{ends_at_slash, merge_prefix, target, takes_base_path};
+ghost use Rattle.iri_normal.specs.Target.{merge_prefix, target, takes_base_path};
 ghost use Rattle.std.proofs.Props.{props};
 ghost use Rattle.iri_normal.specs.declared.mode.Mode.TheVariants.{Plain};
 
-use crate::dots::has_dot_segment;
+use crate::directory::Directory;
 use crate::mode::{CanonMode, Mode};
 use crate::normalized::{Normalized, NormalizedText};
 use crate::owned_target::Target;
 use crate::prefix::{cut_prefix, normal_prefix};
 use crate::scheme_rules::{keeps_port, stays_by_scheme};
-use crate::target::{TargetSlices, merge_prefix, starts_with_slash, takes_base_path, target};
-use crate::unchanged::{Before, keeps_path, keeps_prefix, keeps_query};
-use iri_grammar::cutting::lacks;
+use crate::target::{TargetSlices, starts_with_slash, takes_base_path, target};
+use crate::unchanged::{Before, keeps_directory, keeps_path, keeps_prefix, keeps_query};
 use iri_grammar::spec::Spec;
 use iri_grammar::splitter::Splitter;
 use iri_types::kind::{Absolute, Reference};
@@ -51,10 +49,8 @@ use std::alloc::{AllocError, Global};
 #[derive_where(Debug)]
 pub struct FixedBaseResolver<'a, S: Spec> {
     base: SplitView<'a, S, Absolute>,
-    directory: &'a str,
-    // The prefix of relative paths has no dot segment and no percent-encoded octet, and nothing in it changes.
-    dotless: bool,
-    bare: bool,
+    directory: Directory<'a>,
+    // Nothing in the directory changes.
     plain: bool,
     prefix: Option<&'a str>,
     // The path stays as it is in normal form, and so does the query.
@@ -62,14 +58,12 @@ pub struct FixedBaseResolver<'a, S: Spec> {
     query_stays: bool,
     // No scheme's default port ends the authority.
     keeps_port: bool,
-    pub ghost prepared: { (directory.now ≡ merge_prefix (split_of (split_text base))) × (ends_at_slash directory.now ≡ true)
+    pub ghost prepared: { (directory.text.now ≡ merge_prefix (split_of (split_text base)))
         × IsPrefix S.tests (split_of (split_text base)) (now_of prefix)
-        × (plain ≡ is_plain_prefix (split_of (split_text base)) directory.now)
+        × (plain ≡ true → is_plain_prefix (split_of (split_text base)) directory.text.now ≡ true)
         × (path_stays ≡ true → is_plain_prefix (split_of (split_text base)) (split_of (split_text base)).path ≡ true)
         × (query_stays ≡ true → if_there (lacks percent_sign) (split_of (split_text base)).query ≡ true)
-        × (keeps_port ≡ true → ends_in_port (split_of (split_text base)).authority ≡ false)
-        × (dotless ≡ true → has_dot_segment directory.now ≡ false)
-        × (bare ≡ true → lacks percent_sign directory.now ≡ true) } by { Prim.hlevel props },
+        × (keeps_port ≡ true → ends_in_port (split_of (split_text base)).authority ≡ false) } by { Prim.hlevel props },
 }
 
 // What comes before a reference with a scheme, of which nothing changes but its percent-encoded octets: nothing.
@@ -126,16 +120,12 @@ impl<'a, S: Spec> FixedBaseResolver<'a, S> {
     pub fn of_split(base: SplitView<'a, S, Absolute>) -> Self
         ensures { base_text result ≡ split_text base.entry }
     {
-        let directory = merge_prefix(base.parts());
-        let dotless = !has_dot_segment(directory);
-        let bare = lacks(directory, b'%');
-        let plain = base.parts().authority().is_some() && dotless && bare;
+        let directory = Directory::of(base.parts());
+        let plain = keeps_directory(&base, &directory);
         let prefix = normal_prefix(&base);
         FixedBaseResolver {
             base,
             directory,
-            dotless,
-            bare,
             plain,
             prefix,
             path_stays: keeps_path(&base),
@@ -183,7 +173,10 @@ impl<'a, S: Spec> FixedBaseResolver<'a, S> {
     pub fn query(&self) -> Option<RiQueryStr<'a, S>>
         ensures { text_of result ≡ (split_of (base_text self.now)).query }
     {
-        self.base.view().query()
+        match self.base.parts().query() {
+            Some(query) => Some(RiQueryStr::from_valid(query)),
+            None => None,
+        }
     }
 
     // The target of a reference, as slices of the base and the reference.
@@ -193,13 +186,7 @@ impl<'a, S: Spec> FixedBaseResolver<'a, S> {
         ensures scheme { IsSome (slices result).scheme }
         ensures parts { slices result ≡ target (split_of (base_text self.now)) (split_of (split_text reference.now)) }
     {
-        target(
-            self.base.parts(),
-            self.directory,
-            self.dotless,
-            self.bare,
-            reference.parts(),
-        )
+        target(self.base.parts(), &self.directory, reference.parts())
     }
 
     // The prefix of a reference's target, where it is the base's and in normal form.
@@ -230,7 +217,7 @@ impl<'a, S: Spec> FixedBaseResolver<'a, S> {
             });
         }
         if self.plain {
-            let directory = self.directory;
+            let directory = self.directory.text;
             Some(Before { prefix, directory })
         } else {
             None

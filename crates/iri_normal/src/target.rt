@@ -1,16 +1,15 @@
 // The target of a reference against a base.
 ghost use Rattle.std.specs.Prelude.{◌≡◌, ◌++◌, ◌||◌, cond, is_some, None, false, true};
 ghost use Rattle.memchr.specs.Find.{IsLastByte, is_byte};
-ghost use Rattle.iri_grammar.specs.Cut.{lacks};
 ghost use Rattle.iri_grammar.specs.Parts.{starts_with_slash};
 ghost use Rattle.iri_grammar.specs.Splitters.{parts};
 ghost use Rattle.iri_grammar.specs.OptionalSlices.{now_of};
-ghost use Rattle.iri_normal.specs.Dots.{has_dot_segment};
 ghost use Rattle.iri_normal.specs.Target.{takes_base_path, target, target_under, to_last_slash, merge_prefix};
 ghost use Rattle.iri_normal.specs.Target.{ends_at_slash, last_segment};
 ghost use Rattle.iri_normal.specs.Slices.{merged, slices};
-ghost use Rattle.iri_grammar.specs.Characters.{percent_sign, slash};
+ghost use Rattle.iri_grammar.specs.Characters.{slash};
 
+use crate::directory::Directory;
 use crate::merged_path::MergedPath;
 use iri_grammar::splitter::Splitter;
 use memchr::memrchr;
@@ -75,36 +74,31 @@ pub(crate) fn starts_with_slash(path: &str) -> bool
 }
 
 // The path of a reference that has one, with neither scheme nor authority (section 5.2.3).
-fn merge<'a>(base: &'a str, path: &'a str, plain: bool, bare: bool) -> MergedPath<'a>
-    requires ends { ends_at_slash base.now ≡ true }
-    requires plain { plain ≡ true → has_dot_segment base.now ≡ false }
-    requires bare { bare ≡ true → lacks percent_sign base.now ≡ true }
-    ensures { merged result ≡ cond (starts_with_slash path.now) path.now (base.now ++ path.now) }
+#[inline(always)]
+fn merge<'a>(directory: &Directory<'a>, path: &'a str) -> MergedPath<'a>
+    ensures { merged result ≡ cond (starts_with_slash path.now) path.now (directory.now.text.now ++ path.now) }
 {
     if starts_with_slash(path) {
         return MergedPath::of(path);
     }
     MergedPath {
-        base,
+        base: directory.text,
         reference: path,
-        plain,
-        bare,
+        plain: directory.plain,
+        bare: directory.bare,
+        parent: directory.known_before(path),
     }
 }
 
 // The target of a reference with neither scheme nor authority.
 #[tactic(auto, unfolding(crate::specs::Target::target))]
+#[inline(always)]
 fn after_base<'a>(
     base: &Splitter<'a>,
-    directory: &'a str,
-    plain: bool,
-    bare: bool,
+    directory: &Directory<'a>,
     reference: &Splitter<'a>,
 ) -> TargetSlices<'a>
-    requires prefix { directory.now ≡ merge_prefix (parts base.now) }
-    requires ends { ends_at_slash directory.now ≡ true }
-    requires plain { plain ≡ true → has_dot_segment directory.now ≡ false }
-    requires bare { bare ≡ true → lacks percent_sign directory.now ≡ true }
+    requires prefix { directory.now.text.now ≡ merge_prefix (parts base.now) }
     ensures parts { slices result ≡ target_under (parts base.now) (parts reference.now) None None }
 {
     let path = reference.path();
@@ -121,7 +115,7 @@ fn after_base<'a>(
         TargetSlices {
             scheme: base.scheme(),
             authority: base.authority(),
-            path: merge(directory, path, plain, bare),
+            path: merge(directory, path),
             query: reference.query(),
             fragment,
         }
@@ -141,27 +135,21 @@ fn under_scheme<'a>(scheme: Option<&'a str>, reference: &Splitter<'a>) -> Target
     }
 }
 
-/// The target of a reference against a base (RFC 3986 sections 5.2.2 and 5.2.3), with its dot segments kept. `directory` is the base's prefix, by
-/// `merge_prefix`, `plain` says that it has no dot segment, and `bare` that it has no percent-encoded octet.
+/// The target of a reference against a base (RFC 3986 sections 5.2.2 and 5.2.3), with its dot segments kept. `directory` is the base's.
 #[tactic(auto, unfolding(crate::specs::Target::target))]
 #[inline(always)]
 pub fn target<'a>(
     base: &Splitter<'a>,
-    directory: &'a str,
-    plain: bool,
-    bare: bool,
+    directory: &Directory<'a>,
     reference: &Splitter<'a>,
 ) -> TargetSlices<'a>
-    requires prefix { directory.now ≡ merge_prefix (parts base.now) }
-    requires ends { ends_at_slash directory.now ≡ true }
-    requires plain { plain ≡ true → has_dot_segment directory.now ≡ false }
-    requires bare { bare ≡ true → lacks percent_sign directory.now ≡ true }
+    requires prefix { directory.now.text.now ≡ merge_prefix (parts base.now) }
     ensures parts { slices result ≡ target (parts base.now) (parts reference.now) }
 {
     match (reference.scheme(), reference.authority()) {
         (Some(scheme), _) => under_scheme(Some(scheme), reference),
         (None, Some(_)) => under_scheme(base.scheme(), reference),
-        (None, None) => after_base(base, directory, plain, bare, reference),
+        (None, None) => after_base(base, directory, reference),
     }
 }
 

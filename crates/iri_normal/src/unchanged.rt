@@ -14,6 +14,7 @@ ghost use Rattle.iri_normal.specs.NormalForm.{lowered};
 ghost use Rattle.iri_types.specs.SplitText.{split_text};
 ghost use Rattle.iri_text.specs.Shown.{Shows};
 
+use crate::directory::Directory;
 use crate::prefix::cut_prefix;
 use iri_grammar::spec::Spec;
 use iri_grammar::splitter::Splitter;
@@ -53,6 +54,16 @@ pub(crate) fn keeps_path<S: Spec>(base: &SplitView<'_, S, Absolute>) -> bool
     let parts = base.parts();
     let seen = parts.seen();
     parts.authority().is_some() && !(seen.dots | seen.path_triplets)
+}
+
+// Whether a directory stays as it is beside the authority of a base. Others may too.
+pub(crate) fn keeps_directory<S: Spec>(
+    base: &SplitView<'_, S, Absolute>,
+    directory: &Directory<'_>,
+) -> bool
+    ensures { result ≡ true → is_plain_prefix (split_of (split_text base.now)) directory.now.text.now ≡ true }
+{
+    base.parts().authority().is_some() && directory.plain && directory.bare
 }
 
 // Whether the query of a base has no percent-encoded octet, or there is none.

@@ -1,4 +1,5 @@
-use Rattle.iri_normal.proofs.Common.{ap, in_form, nothing_over, path_char}
+use Rattle.iri_normal.proofs.Common.{◌≡◌, ◌∙◌, [], refl, sym, ap, in_form, nothing_over, path_char, pieces, popped_times, taken}
+use Rattle.iri_normal.proofs.segments.DotKinds.{nothing-is_no_dot}
 use Rattle.iri_normal.proofs.removal.LongPaths.{directory-of, dots-directory, path-parts}
 use Rattle.iri_normal.proofs.ShownTexts.{shows_same}
 use Rattle.iri_normal.proofs.remove_dot_segments.show_long.Goals as goal
@@ -8,6 +9,12 @@ show_after-requires-clause-directory g c =
     let p = c.args.path.now in
     let h = c.has_plain_directory.ensures c.if-has_plain_directory.true in
     directory-of p.base.now p.reference.now p.cut h.0 h.1
+
+pub show_after-requires-clause-known : goal.show_after-requires-clause-known
+show_after-requires-clause-known g c =
+    let p = c.args.path.now in
+    let none : taken (pieces 47 []) 0 ≡ 0 = rw nothing-is_no_dot refl in
+    λ h. p.above h ∙ ap (λ n. popped_times (taken (pieces 47 p.reference.now) n) p.base.now) (sym none)
 
 pub show_after-requires-clause-paths : goal.show_after-requires-clause-paths
 show_after-requires-clause-paths g c =

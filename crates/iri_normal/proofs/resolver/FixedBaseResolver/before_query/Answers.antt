@@ -11,8 +11,8 @@ returns-then-self g c =
     (λ none. base-rest s t c.cut_prefix.result.0.now c.cut_prefix.result.1.now g.met.S.Spec.lawful none c.cut_prefix.ensures.whole
     c.cut_prefix.ensures.prefix) in
     record {
-      prefix_stays = subst (λ o. IsPrefix s (split_of t) (now_of o)) c.in_ok-prefix.was p.2;
-      path_stays = p.4 c.if-not-self.false;
-      query_stays = λ _. p.5 c.if-self.true;
+      prefix_stays = subst (λ o. IsPrefix s (split_of t) (now_of o)) c.in_ok-prefix.was p.1;
+      path_stays = p.3 c.if-not-self.false;
+      query_stays = λ _. p.4 c.if-self.true;
       text = rest ∙ ap (λ b. (split_of t).path ++ cond b [] (delimited 63 (split_of t).query)) (sym c.if-has_query.false);
     }

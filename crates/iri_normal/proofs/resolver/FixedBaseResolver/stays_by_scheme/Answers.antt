@@ -14,5 +14,5 @@ pub returns-then-self : goal.returns-then-self
 returns-then-self g c h =
     let b = split_of (base_text c.args.self.now) in
     path-stays b (parts c.args.reference.now) (sym c.scheme.ensures ∙ ap now_of c.in-None-None.is-0)
-    (sym c.authority-authority.ensures ∙ ap now_of c.in-None-None.is-1) (c.args.self.now.prepared.6 c.if-self.true)
+    (sym c.authority-authority.ensures ∙ ap now_of c.in-None-None.is-1) (c.args.self.now.prepared.5 c.if-self.true)
     (ap (λ p. is_empty p && is_empty b.path) (sym c.path-then-self.ensures) ∙ (sym c.lacks_path.ensures ∙ not-true c.lacks_path.result h))
