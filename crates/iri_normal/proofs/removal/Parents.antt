@@ -1,7 +1,6 @@
 -- What stays of a directory without more and more of its last segments.
-use Rattle.iri_normal.proofs.Common.{◌≡◌, ℕ, zero, suc, ◌+◌, ◌<◌, ◌≤◌, true, List, [], ◌∷◌, ◌∙◌, refl, ap, subst, arith, length, ends_at_slash, popped}
+use Rattle.iri_normal.proofs.Common.{◌≡◌, ℕ, zero, suc, ◌+◌, ◌<◌, List, [], ◌∷◌, ◌∙◌, refl, ap, subst, arith, length, popped}
 use Rattle.iri_normal.proofs.Common.{popped_times}
-use Rattle.iri_normal.proofs.removal.Buffers.{popped-ends}
 use Rattle.std.proofs.lemmas.Option.{same_Some}
 use Rattle.std.specs.Option.{ForSome}
 use Rattle.std.specs.Prelude.{slice_get, slice_set}
