@@ -60,14 +60,12 @@ pub use Rattle.iri_template.specs.declared.error.ErrorKind.TheVariants.{Unsuppor
 pub use Rattle.iri_template.specs.declared.operator.Operator.{Operator}
 pub use Rattle.iri_template.specs.declared.operator.Operator.TheVariants.{Simple, Reserved, Fragment, Label, PathSegment, PathParameter}
 pub use Rattle.iri_template.specs.declared.operator.Operator.TheVariants.{FormQuery, FormContinuation}
-pub use Rattle.iri_template.specs.declared.units.Units.{Units}
 pub use Rattle.iri_template.specs.declared.visitor.Phase.TheVariants.{Done, InPairs, InList}
 pub use Rattle.iri_template.specs.declared.visitor.VisitPurpose.TheVariants.{Typecheck, Expand}
 pub use Rattle.iri_template.specs.inside.ByPurpose.{by_purpose, untold}
+pub use Rattle.iri_template.specs.inside.Triplet.{begins_triplet}
+pub use Rattle.iri_template.specs.inside.Held.{fewer, is_used_up, written_units, written_chars, stays, octet_units, held_text}
+pub use Rattle.iri_template.specs.inside.Held.{held_units, begun_units, are_begun, lone_units, IsHeld}
 pub use Rattle.iri_template.specs.inside.Parts.{part_pieces}
-pub use Rattle.iri_template.specs.inside.Prefix.{prefix_step, char_text}
-pub use Rattle.iri_template.specs.inside.UnitSteps.{is_part, after_unit, ready_units, left_over, fewer, step_units, step_pending}
-pub use Rattle.iri_template.specs.inside.UnitSteps.{written_units, is_used_up, unit_step_text, unit_step, is_closed, next_state}
-pub use Rattle.iri_template.specs.inside.UnitSteps.{begins_triplet}
-pub use Rattle.iri_template.specs.inside.UnitViews.{unit_at, unit_as, TellsNone, IsUnit}
+pub use Rattle.iri_template.specs.inside.Reads.{Reads, kept_rest}
 pub use Rattle.iri_template.specs.inside.Written.{WriteState, event_step, event_text}

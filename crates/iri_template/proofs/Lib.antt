@@ -6,11 +6,10 @@ pub mod VarSpecLemmas
 pub mod Grammar
 pub mod VisitsEach
 pub mod PrefixChars
-pub mod Drains
 pub mod Telling
 pub mod VarSpecWalk
-pub mod ThroughEach
-pub mod UnitLaws
+pub mod HeldUnits
+pub mod Reading
 pub mod WriterEnds
 pub mod PortionWalk
 pub mod VarSpecPortions

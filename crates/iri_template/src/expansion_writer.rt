@@ -21,12 +21,12 @@ use crate::operator::Operator;
 use crate::part::Part;
 use crate::parts::Parts;
 use crate::type_check::TypeCheck;
-use crate::units::put_as;
 use crate::value_writer::{ExpressionState, ValueWriter};
 use crate::varspec::VarSpec;
 use crate::varspecs::VarSpecs;
 use iri_grammar::spec::Spec;
-use iri_text::{Stop, TextSink};
+use iri_percent::PercentEncoded;
+use iri_text::{Show, Stop, TextSink};
 
 // Looks at the value that the context tells next: whether the varspec has no use for it.
 fn looks_mistyped<C: DynamicContext>(context: &mut C, varspec: VarSpec<'_>) -> bool
@@ -173,7 +173,10 @@ fn write_part<C: DynamicContext, S: Spec, W: TextSink>(
         Part::Expression(operator, varspecs) => {
             write_varspecs::<C, S, W>(sink, context, operator, varspecs)
         }
-        Part::Literals(literals) => write_result(put_as::<S, W>(sink, literals, false), begin),
+        Part::Literals(literals) => write_result(
+            PercentEncoded::<&str, S>::characters(literals).show(sink),
+            begin,
+        ),
         Part::Triplet(triplet) => write_result(sink.put(triplet), begin),
     }
 }

@@ -2,10 +2,10 @@
 ghost use Rattle.std.specs.Prelude.{◌≡◌, ◌<◌, ◌==◌, true, length, IfOk, MatchOption};
 ghost use Rattle.iri_grammar.specs.Over.{over};
 ghost use Rattle.iri_template.specs.Names.{is_varname, is_name_char};
+ghost use Rattle.iri_template.specs.inside.Triplet.{begins_triplet};
 ghost use Rattle.iri_template.specs.Fault.{Answers, name_fault};
 
 use crate::error::{Error, ErrorKind};
-use crate::pending::begins_triplet;
 use std::alloc::AllocError;
 
 /// The name of a variable (RFC 6570 section 2.3): letters, digits, `_`, percent-encoded octets and dots, of which no
@@ -79,6 +79,15 @@ fn is_name_byte(b: u8) -> bool
     ensures { result ≡ is_name_char b }
 {
     b.is_ascii_alphanumeric() || b == b'_' || b == b'.'
+}
+
+fn begins_triplet(t: &[u8]) -> bool
+    ensures { result ≡ begins_triplet t.now }
+{
+    match t {
+        [b'%', a, b, ..] => a.is_ascii_hexdigit() && b.is_ascii_hexdigit(),
+        _ => false,
+    }
 }
 
 // What follows the character of names or the percent-encoded octet at the start; none where neither stands there.

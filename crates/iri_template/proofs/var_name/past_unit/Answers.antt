@@ -1,10 +1,20 @@
-use Rattle.iri_template.proofs.Common.{◌≡◌, ◌≢◌, ℕ, true, false, cond, ◌&&◌, List, [], ◌∷◌, length, drop, refl, sym, ◌∙◌, ap, arith}
+use Rattle.iri_template.proofs.Common.{◌≡◌, ◌≢◌, ◌≤◌, ℕ, Bool, true, false, cond, ◌&&◌, List, [], ◌∷◌, length, drop, refl, sym, ◌∙◌, ap, arith}
 use Rattle.iri_template.proofs.Common.{length-drop, ◌==◌, is_ascii_hexdigit, ne_eqb, nat_tests, nil_from_length, by_test, over, over_from}
 use Rattle.iri_template.proofs.Common.{is_name_char, begins_triplet}
 use Rattle.std.proofs.lemmas.Bool.{and_parts, and_left}
 use Rattle.std.proofs.lemmas.List.{take_rest}
-use Rattle.iri_template.proofs.UnitLaws.{long_enough, and_more}
 use Rattle.iri_template.proofs.var_name.past_unit.Goals as goal
+
+long_enough : (t : List ℕ) → begins_triplet t ≡ true → 3 ≤ length t
+long_enough [] h = cc
+long_enough (x ∷ []) h = cc
+long_enough (x ∷ a ∷ []) h = cc
+long_enough (x ∷ a ∷ b ∷ t) h = omega arith
+
+and_more : (p q : Bool) (z : Bool) → (p && q) ≡ false → (p && (q && z)) ≡ false
+and_more true true z h = cc
+and_more true false z h = refl
+and_more false q z h = refl
 
 past_octet : (t : List ℕ) → begins_triplet t ≡ true → over is_name_char (drop 3 t) ≡ over is_name_char t
 unfolding over_from
