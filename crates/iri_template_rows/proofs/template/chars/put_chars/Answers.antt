@@ -3,7 +3,7 @@ use Rattle.std.specs.Str.{IsUtf8, chars}
 use Rattle.std.specs.Str.Iter.{chars_rest}
 use Rattle.iri_text.proofs.CharSteps.{first_char}
 use Rattle.std.proofs.StrCases.{chars_of_empty}
-use Rattle.iri_template.proofs.ThroughEach.{HasPutUpTo, up_to_none, up_to_more, up_to_exit, up_to_end}
+use Rattle.iri_template_rows.proofs.ThroughEach.{HasPutUpTo, up_to_none, up_to_more, up_to_exit, up_to_end}
 use Rattle.iri_text.specs.Shown.{Shows}
 use Rattle.iri_template_rows.proofs.PlainChars.{no_step, plain_text, plain_all}
 use Rattle.iri_template_rows.proofs.template.chars.put_chars.Goals as goal

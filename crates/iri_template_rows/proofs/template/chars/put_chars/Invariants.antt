@@ -1,6 +1,6 @@
 use Rattle.std.specs.Str.{IsUtf8, chars}
 use Rattle.std.specs.Str.Iter.{chars_rest}
-use Rattle.iri_template.proofs.ThroughEach.{HasPutUpTo}
+use Rattle.iri_template_rows.proofs.ThroughEach.{HasPutUpTo}
 use Rattle.iri_template_rows.proofs.PlainChars.{no_step, plain_text}
 use Rattle.iri_template_rows.proofs.template.chars.put_chars.Given as goal
 
