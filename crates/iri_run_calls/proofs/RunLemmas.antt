@@ -12,6 +12,7 @@ use Rattle.iri_cli.specs.declared.run.words.Command.{Command}
 use Rattle.iri_cli.specs.declared.run.words.Command.TheVariants.{Lines, Gen, Tell}
 use Rattle.iri_cli.proofs.BytesLemmas.{canonical_answers, grammar_is_spec}
 use Rattle.iri_cli.proofs.PairsLemmas.{answers_are_of_canon}
+use Rattle.iri_cli.proofs.ToUriLemmas.{answers_are_canonical_uris}
 use Rattle.iri_cli.proofs.ToolLaws.{answers_are_expansions, answers_are_links, answers_are_verdicts, live_lines_share_entries}
 use Rattle.iri_cli.proofs.WordLemmas.{obeyed, unknown}
 use Rattle.iri_run_calls.specs.Runs.{RunsWords, RanOrMemory, begun}
@@ -24,13 +25,14 @@ runs_words words old new status command is done =
     record {
       no_command = unknown words old new status command is done;
       tells = λ notice. for (Tell notice);
-      lines = λ command grammar. for (Lines command grammar);
+      lines = λ command mode grammar. for (Lines command mode grammar);
       gens = λ grammar count. for (Gen grammar count);
       canonical = λ mode grammar _ base line taken none. canonical_answers (tests_of grammar) mode (grammar_is_spec grammar) base line taken none;
-      register = λ grammar _. live_lines_share_entries (tests_of grammar) (grammar_is_spec grammar);
-      links = λ grammar _. answers_are_links (tests_of grammar) (grammar_is_spec grammar);
-      docs = λ grammar _ base line. answers_are_expansions (tests_of grammar) base line;
-      robots = λ grammar token _. answers_are_verdicts (tests_of grammar) token;
+      canonical_uris = λ mode grammar _. answers_are_canonical_uris (tests_of grammar) mode (grammar_is_spec grammar);
+      register = λ mode grammar _. live_lines_share_entries (tests_of grammar) mode (grammar_is_spec grammar);
+      links = λ mode grammar _. answers_are_links (tests_of grammar) mode (grammar_is_spec grammar);
+      docs = λ mode grammar _ base line. answers_are_expansions (tests_of grammar) mode base line;
+      robots = λ mode grammar token _. answers_are_verdicts (tests_of grammar) mode token;
       pairs = λ mode grammar _. answers_are_of_canon (tests_of grammar) mode (grammar_is_spec grammar);
     }
 

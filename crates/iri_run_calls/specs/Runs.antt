@@ -13,37 +13,41 @@ use Rattle.iri_cli.specs.links.FieldValues.{AnswersAreLinks}
 use Rattle.iri_cli.specs.pairs.OfCanon.{AnswersAreOfCanon}
 use Rattle.iri_cli.specs.register.Shared.{LiveLinesShareEntries}
 use Rattle.iri_cli.specs.robots.Verdicts.{AnswersAreVerdicts}
+use Rattle.iri_cli.specs.to_uri.Answers.{AnswersAreCanonicalUris}
 use Rattle.iri_cli.specs.run.Run.{Outside, outside, RunsLines}
-use Rattle.iri_cli.specs.run.Words.{IsCommand, rules_of, tests_of, word_of}
+use Rattle.iri_cli.specs.run.Words.{IsCommand, mode_words, rules_of, tests_of, word_of}
 use Rattle.iri_cli.specs.declared.run.words.Command.{Command}
 use Rattle.iri_cli.specs.declared.run.words.Command.TheVariants.{Lines, Gen, Tell}
 use Rattle.iri_cli.specs.declared.run.words.Grammar.{Grammar}
 use Rattle.iri_cli.specs.declared.run.words.LineCommand.{LineCommand}
-use Rattle.iri_cli.specs.declared.run.words.LineCommand.TheVariants.{Canon, Register, Links, Docs, Pairs}
+use Rattle.iri_cli.specs.declared.run.words.LineCommand.TheVariants.{Canon, ToUri, Register, Links, Docs, Pairs}
 use Rattle.iri_cli.specs.declared.help.Notice.{Notice}
 
 -- The contract of the program's `run`.
 pub record RunsWords (words : List (List ℕ)) (old new : Outside) (status : ℕ) : Type 0 where
   pub no_command : ((command : Command) → ¬ (IsCommand words command)) → (status ≡ 2) × (new ≡ old)
   pub tells : (notice : Notice) → IsCommand words (Tell notice) → Tells (notice_text notice) old new status
-  pub lines : (command : LineCommand) (grammar : Grammar) → IsCommand words (Lines command grammar)
-      → RunsLines (rules_of command (tests_of grammar)) old new status
+  pub lines : (command : LineCommand) (mode : CanonMode) (grammar : Grammar) → IsCommand words (Lines command mode grammar)
+      → RunsLines (rules_of command (tests_of grammar) mode) old new status
   pub gens : (grammar : Grammar) (count : ℕ) → IsCommand words (Gen grammar count)
       → MakesText (gen_text (tests_of grammar) count) old new status
-  pub canonical : (mode : CanonMode) (grammar : Grammar) → IsCommand words (Lines (Canon mode) grammar)
+  pub canonical : (mode : CanonMode) (grammar : Grammar) → IsCommand words (Lines Canon mode grammar)
       → AnswersAreCanonicalIn (tests_of grammar) mode
-  pub register : (grammar : Grammar) → IsCommand words (Lines Register grammar) → LiveLinesShareEntries (tests_of grammar)
-  pub links : (grammar : Grammar) → IsCommand words (Lines Links grammar) → AnswersAreLinks (tests_of grammar)
-  pub docs : (grammar : Grammar) → IsCommand words (Lines Docs grammar) → AnswersAreExpansions (tests_of grammar)
-  pub robots : (grammar : Grammar) (token : List ℕ) → words ≡ codes "robots" ∷ word_of grammar ∷ token ∷ []
-      → AnswersAreVerdicts (tests_of grammar) token
+  pub canonical_uris : (mode : CanonMode) (grammar : Grammar) → IsCommand words (Lines ToUri mode grammar)
+      → AnswersAreCanonicalUris (tests_of grammar) mode
+  pub register : (mode : CanonMode) (grammar : Grammar) → IsCommand words (Lines Register mode grammar)
+      → LiveLinesShareEntries (tests_of grammar) mode
+  pub links : (mode : CanonMode) (grammar : Grammar) → IsCommand words (Lines Links mode grammar) → AnswersAreLinks (tests_of grammar) mode
+  pub docs : (mode : CanonMode) (grammar : Grammar) → IsCommand words (Lines Docs mode grammar) → AnswersAreExpansions (tests_of grammar) mode
+  pub robots : (mode : CanonMode) (grammar : Grammar) (token : List ℕ) → words ≡ codes "robots" ∷ word_of grammar ∷ token ∷ mode_words mode
+      → AnswersAreVerdicts (tests_of grammar) mode token
   pub pairs : (mode : CanonMode) (grammar : Grammar) → IsCommand words (Lines Pairs mode grammar)
       → AnswersAreOfCanon (tests_of grammar) mode
 
 -- The words are a command over lines, or `gen`.
 abbrev pub TakesMemory : List (List ℕ) → Type 0
 TakesMemory words =
-    ((command : LineCommand) × (grammar : Grammar) × IsCommand words (Lines command grammar))
+    ((command : LineCommand) × (mode : CanonMode) × (grammar : Grammar) × IsCommand words (Lines command mode grammar))
     ⊎ ((grammar : Grammar) × (count : ℕ) × IsCommand words (Gen grammar count))
 
 -- nothing was read or written, and there is so much room

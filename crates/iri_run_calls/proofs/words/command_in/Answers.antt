@@ -2,11 +2,11 @@ use Rattle.std.proofs.Common.{◌∙◌, [], ◌∷◌, List, ℕ, None, Some, O
 use Rattle.std.specs.Prelude.{MatchOption}
 use Rattle.iri_cli.specs.run.Words.{IsCommand}
 use Rattle.iri_cli.specs.declared.run.words.Command.{Command}
-use Rattle.iri_grammar.specs.Cut.{before, after}
+use Rattle.iri_grammar.specs.Pieces.{pieces}
 use Rattle.iri_grammar.specs.OptionalSlices.{now_of}
 use Rattle.iri_grammar.specs.inside.PiecesLaws.{more_pieces}
 use Rattle.iri_grammar.specs.Blanks.{space}
-use Rattle.iri_run_calls.proofs.TextLemmas.{four_words, no_grammar, words_cut}
+use Rattle.iri_run_calls.proofs.TextLemmas.{no_grammar, words_cut}
 use Rattle.iri_run_calls.proofs.words.command_in.Goals as goal
 
 abbrev Reads : Option Command → List (List ℕ) → Type 0
@@ -52,11 +52,9 @@ returns-in_default-Some c =
     (sym (ap now_of c.in-Some.is) ∙ c.cut.ensures.after) in
     let more = words_cut c.in-Some.after.now c.cut-2.result.0.now (Some c.in-Some-after.after.now) c.cut-2.ensures.before
     (sym (ap now_of c.in-Some-after.is) ∙ c.cut-2.ensures.after) in
-    let rest = c.in_default-Some.field-0-1.now in
-    let third = words_cut c.in-Some-after.after.now c.cut-3.result.0.now (Some rest) c.cut-3.ensures.before
+    let rest = c.in_default-Some.after.now in
+    let last = words_cut c.in-Some-after.after.now c.cut-3.result.0.now (Some rest) c.cut-3.ensures.before
     (sym (ap now_of c.in_default-Some.is-1) ∙ c.cut-3.ensures.after) in
-    let fourth = words_cut rest (before space rest) (after space rest) refl refl in
-    subst (Reads None) (sym (words ∙ ap (λ ws. c.cut.result.0.now ∷ ws) more
-    ∙ ap (λ ws. c.cut.result.0.now ∷ c.cut-2.result.0.now ∷ ws) third
-    ∙ ap (λ ws. c.cut.result.0.now ∷ c.cut-2.result.0.now ∷ c.cut-3.result.0.now ∷ ws) fourth))
-    (four_words c.cut.result.0.now c.cut-2.result.0.now c.cut-3.result.0.now (before space rest) (more_pieces space (after space rest)))
+    subst (Reads c.command_after_three.result) (sym (words ∙ ap (λ ws. c.cut.result.0.now ∷ ws) more
+    ∙ ap (λ ws. c.cut.result.0.now ∷ c.cut-2.result.0.now ∷ ws) last
+    ∙ ap (λ w. c.cut.result.0.now ∷ w ∷ c.cut-3.result.0.now ∷ pieces space rest) c.in-Some-grammar_of.ensures)) c.command_after_three.ensures
