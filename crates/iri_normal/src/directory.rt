@@ -24,7 +24,7 @@ const LONG: usize = 512;
 // A directory without none, one, two and more of its last segments.
 #[derive(Clone, Copy, Debug)]
 pub struct Parents<'a> {
-    pub texts: [&'a str; 16],
+    pub texts: [&'a str; 8],
 }
 
 // A base's path up to and with its last slash. `plain` says that it has no dot segment, and `bare` that it has no percent-encoded octet.
@@ -46,9 +46,9 @@ fn every_parent(directory: &str) -> Parents<'_>
     requires ends { ends_at_slash directory.now ≡ true }
     ensures { AreParents result.texts directory.now }
 {
-    let mut texts = [directory; 16];
+    let mut texts = [directory; 8];
     let mut rest = directory;
-    'parents: for i in 0..16 {
+    'parents: for i in 0..8 {
         texts[i] = rest;
         rest = popped_times(rest, 1);
     }

@@ -10,6 +10,6 @@ invariant-parents l = record {
   utf8 : shadow (Utf8 l.rest);
   ends : ends_at_slash l.rest ≡ true;
   rest : l.rest ≡ popped_times l.i l.fn.directory;
-  len : length l.texts ≡ 16;
+  len : length l.texts ≡ 8;
   each : (k : ℕ) → k < l.i → ForSome (slice_get l.texts k) (λ t. t.now ≡ popped_times k l.fn.directory);
 }
