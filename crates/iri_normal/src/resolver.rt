@@ -145,7 +145,7 @@ impl<'a, S: Spec> FixedBaseResolver<'a, S> {
     pub fn scheme_str(&self) -> &'a str
         ensures { Some result.now ≡ (split_of (base_text self.now)).scheme }
     {
-        self.base.view().scheme_str()
+        self.base.parts().scheme().unwrap()
     }
 
     /// The authority of the base, without the `//` before it; `None` exactly where there is none.
