@@ -148,9 +148,7 @@ pub(crate) fn read_text<'a, S: Spec>(
     'pieces: loop {
         match next_piece(inside, rest) {
             Ok(Some((piece, after))) => {
-                if let Err(halt) = keep_piece(alloc, mode, resolver, &mut links, piece) {
-                    return Err(halt);
-                }
+                keep_piece(alloc, mode, resolver, &mut links, piece)?;
                 inside = is_inside(piece);
                 rest = after;
             }

@@ -8,6 +8,7 @@ ghost use Rattle.iri_link.specs.inside.LaxPieces.{without_end};
 ghost use Rattle.iri_link.specs.inside.Runs.{run_test, IsRun};
 
 use crate::quoted::is_pair_char;
+use iri_grammar::cutting;
 
 // What a run is of.
 #[derive(Clone, Copy)]
@@ -61,12 +62,7 @@ impl Run {
 fn run_len(run: Run, bytes: &[u8]) -> usize
     ensures { result ≡ run_of (run_test run) bytes.now }
 {
-    for (i, b) in bytes.iter().enumerate() {
-        if !run.has(*b) {
-            return i;
-        }
-    }
-    bytes.len()
+    cutting::run_len(bytes, |b| run.has(b))
 }
 
 // Whether all bytes are of the run.

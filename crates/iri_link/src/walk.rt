@@ -140,9 +140,7 @@ pub(crate) fn check_text<'a, S: Spec>(text: &'a str) -> Result<(), Halt<'a>>
     'pieces: loop {
         match next_piece(inside, rest) {
             Ok(Some((piece, after))) => {
-                if let Err(halt) = check_piece::<S>(piece) {
-                    return Err(halt);
-                }
+                check_piece::<S>(piece)?;
                 inside = is_inside(piece);
                 rest = after;
             }

@@ -8,11 +8,12 @@ pieces-init g c = record {
   read = kept_none g.S.Spec.tests c.args.mode (base_text c.args.resolver.now) c.args.text.now _ (ap (map link_of) c.new-links.ensures.items);
 }
 
-pub returns-in-Err-keep_piece : goal.returns-in-Err-keep_piece
-returns-in-Err-keep_piece g c =
+pub returns-in_err-keep_piece-in-Ok-Some : goal.returns-in_err-keep_piece-in-Ok-Some
+returns-in_err-keep_piece-in-Ok-Some g c =
     let t = c.pieces.rest.now in
-    kept_halt g.S.Spec.tests c.args.mode (base_text c.args.resolver.now) c.args.text.now c.pieces.inside t (map link_of c.pieces.links.items) c.pieces.invariant.read
-    c.in-Ok-Some.piece c.in-Ok-Some.after.now (rw c.in-Ok-Some.field-0-is at c.in-Ok-Some.ensures) c.in-Err-keep_piece.halt c.in-Err-keep_piece.ensures
+    let halts = kept_halt g.S.Spec.tests c.args.mode (base_text c.args.resolver.now) c.args.text.now c.pieces.inside t (map link_of c.pieces.links.items) c.pieces.invariant.read
+    c.in-Ok-Some.piece c.in-Ok-Some.after.now (rw c.in-Ok-Some.field-0-is at c.in-Ok-Some.ensures) c.in_err-keep_piece-in-Ok-Some.field-0.0
+    c.in_err-keep_piece-in-Ok-Some.ensures in search rules
 
 pub pieces-preserved : goal.pieces-preserved
 pieces-preserved g c =
@@ -20,7 +21,7 @@ pieces-preserved g c =
     record {
       utf8 = search rules;
       read = kept_more g.S.Spec.tests c.args.mode (base_text c.args.resolver.now) c.args.text.now c.pieces.inside t (map link_of c.pieces.links.items) c.pieces.invariant.read
-          c.in-Ok-Some.piece c.in-Ok-Some.after.now (rw c.in-Ok-Some.field-0-is at c.in-Ok-Some.ensures) _ _ c.in_default.ensures c.is_inside-inside.ensures;
+          c.in-Ok-Some.piece c.in-Ok-Some.after.now (rw c.in-Ok-Some.field-0-is at c.in-Ok-Some.ensures) _ _ c.in_ok-keep_piece-in-Ok-Some.ensures c.is_inside-inside.ensures;
     }
 
 pub returns-in-Ok-None : goal.returns-in-Ok-None
