@@ -20,8 +20,9 @@ _irikit() {
     1:*) words='uri iri' ;;
     2:robots:* | 2:gen:* | 2:--*) ;;
     2:canon:*) words='to scheme' ;;
+    2:links:*) words='lax scheme' ;;
     3:canon:to) words=uri ;;
-    2:* | 3:robots:* | 4:canon:to) words=scheme ;;
+    2:* | 3:robots:* | 3:links:lax | 4:canon:to) words=scheme ;;
   esac
   mapfile -t COMPREPLY < <(compgen -W "$words" -- "$current")
 } && complete -F _irikit irikit

@@ -23,4 +23,5 @@ complete -c irikit -n '__irikit_has 2 canon pairs expand register links docs rob
 complete -c irikit -n '__irikit_has 3 canon' -a 'to scheme'
 complete -c irikit -n '__irikit_has 4 canon; and string match -q "* to *" -- (commandline -pc)' -a uri
 complete -c irikit -n '__irikit_has 5 canon; and string match -q "* to uri *" -- (commandline -pc)' -a scheme
-complete -c irikit -n '__irikit_has 3 pairs expand register links docs; or __irikit_has 4 robots' -a scheme
+complete -c irikit -n '__irikit_has 3 links' -a lax
+complete -c irikit -n '__irikit_has 3 pairs expand register links docs; or __irikit_has 4 robots links' -a scheme

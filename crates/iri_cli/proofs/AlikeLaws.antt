@@ -11,8 +11,13 @@ use Rattle.iri_docs.specs.declared.doc_error.DocError.{DocError}
 use Rattle.iri_docs.specs.declared.expand_error.DocExpandError.{DocExpandError}
 use Rattle.iri_grammar.proofs.faults.FaultLaws.{none-is}
 use Rattle.iri_grammar.proofs.splits.SplitUnique.{split_is}
+use Rattle.std.specs.Prelude.{cond}
+use Rattle.std.specs.Str.{is_utf8}
+use Rattle.std.specs.Str.Lossy.{utf8_valid_len}
+use Rattle.iri_link.specs.declared.error.LinkKind.TheVariants.{NotUtf8}
 use Rattle.iri_link.specs.Fault.{field_fault}
 use Rattle.iri_link.specs.Field.{LinkValue}
+use Rattle.iri_link.specs.LaxReadings.{lax_links_in}
 use Rattle.iri_link.specs.Readings.{links_in}
 use Rattle.iri_link.specs.Resolved.{resolved_in}
 use Rattle.iri_link.specs.Written.{written}
@@ -24,12 +29,12 @@ use Rattle.iri_register.specs.Commands.{entries_of_commands, Add, Remove}
 use Rattle.iri_register.specs.Entries.{Entry, line_count, place}
 use Rattle.iri_robots.specs.Records.{FileRecord}
 use Rattle.iri_cli.specs.declared.run.words.LineCommand.{LineCommand}
-use Rattle.iri_cli.specs.declared.run.words.LineCommand.TheVariants.{Canon, ToUri, Expand, Register, Links, Docs, Robots, Pairs}
+use Rattle.iri_cli.specs.declared.run.words.LineCommand.TheVariants.{Canon, ToUri, Expand, Register, Links, LaxLinks, Docs, Robots, Pairs}
 use Rattle.iri_cli.specs.expand.Answers.{answer_to as expand_to}
 use Rattle.iri_cli.specs.expand.Lines.{ExpandLine, changes, expands, bad as no_template, values_after, line_of as expand_line}
 use Rattle.iri_cli.specs.inside.Opening.{IsPreparedOf, begun}
 use Rattle.iri_cli.specs.inside.Puts.{IsWriterAt}
-use Rattle.iri_cli.specs.links.Answers.{links_answer, unless_told}
+use Rattle.iri_cli.specs.links.Answers.{field_refusal, lax_answer, links_answer, unless_told}
 use Rattle.iri_cli.specs.register.Answers.{answer_to as register_to, added_answer, removed_answer, found_answer}
 use Rattle.iri_cli.specs.register.Lines.{RegisterLine, adds, removes, finds, bad as no_change, line_of, unless_fault}
 use Rattle.iri_cli.specs.register.Memory.{takes_memory}
@@ -111,6 +116,11 @@ module _ (s : Tests) (line text : List ℕ) (k : IsSpec s) (p : IsPreparedOf s l
     unfolding links_answer
     links_same l = ap (λ f. unless_told (field_fault s l) (good_answer (written (map f (links_in l))))) resolved_same
 
+    lax_same : (l : List ℕ) → lax_answer s mode text l ≡ lax_answer s mode line l
+    unfolding lax_answer
+    lax_same l =
+        ap (λ f. cond (is_utf8 l) (good_answer (written (map f (lax_links_in s l)))) (field_refusal (record { kind = NotUtf8; place = utf8_valid_len l }))) resolved_same
+
     -- ---- entries
     command_same : (n : ℕ) (said : RegisterLine) → command_of s mode text n said ≡ command_of s mode line n said
     command_same n (adds r) = ap (λ t. unless_fault (bytes_fault (reference_fault s) r) (Add t n)) (targets_same r)
@@ -169,6 +179,7 @@ module _ (s : Tests) (line text : List ℕ) (k : IsSpec s) (p : IsPreparedOf s l
       wants_memory = λ between l. ap (λ es. takes_memory s es (line_of l)) (entries_same between);
     }
     alike Links = record { answer = λ between. links_same; closing = λ between. refl; wants_memory = λ between l. refl }
+    alike LaxLinks = record { answer = λ between. lax_same; closing = λ between. refl; wants_memory = λ between l. refl }
     alike Docs = record { answer = λ between. documents_same; closing = λ between. refl; wants_memory = λ between l. refl }
     alike (Robots token) = robots_alike token.now
     alike Pairs = record { answer = λ between l. refl; closing = λ between. refl; wants_memory = λ between l. refl }

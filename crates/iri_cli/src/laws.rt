@@ -10,7 +10,7 @@ ghost use Rattle.iri_cli.specs.run.Prepared.{prepared, IsAlike};
 ghost use Rattle.iri_cli.specs.run.Words.{rules_of};
 ghost use Rattle.iri_cli.specs.declared.run.words.LineCommand.{LineCommand};
 ghost use Rattle.iri_cli.specs.generator.References.{gen_base, gen_reference};
-ghost use Rattle.iri_cli.specs.links.FieldValues.{AnswersAreLinks};
+ghost use Rattle.iri_cli.specs.links.FieldValues.{AnswersAreLinks, LaxAnswersAreLinks};
 ghost use Rattle.iri_cli.specs.register.Shared.{LiveLinesShareEntries};
 ghost use Rattle.iri_text.specs.Memory.{memory_written, state_of};
 ghost use Rattle.iri_text.specs.declared.streams.memory_sink.MemorySink.{MemorySink};
@@ -64,6 +64,12 @@ pub fn live_lines_share_an_entry<S: Spec>()
 /// is answered by itself, against every base.
 pub fn field_values_are_answered<S: Spec>()
     ensures { (mode : CanonMode) → AnswersAreLinks S.tests mode }
+{}
+
+/// `links` with `lax` answers each text by the link-values that are read laxly, with their
+/// canonical targets, and a field value whose targets are URI-references as `links` does.
+pub fn texts_are_answered_laxly<S: Spec>()
+    ensures { (mode : CanonMode) → LaxAnswersAreLinks S.tests mode }
 {}
 
 /// Each reference that `gen` makes is a URI-reference, and its base is an absolute URI: so each has

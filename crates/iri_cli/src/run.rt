@@ -2,7 +2,7 @@
 ghost use Rattle.std.specs.Prelude.{◌≡◌, ℕ, List, [], ◌∷◌, codes, map, string_bytes};
 ghost use Rattle.iri_cli.specs.run.Words.{HasToken, IsCommand, mode_words, rules_of, tests_of, word_of};
 ghost use Rattle.iri_cli.specs.docs.Expansions.{AnswersAreExpansions};
-ghost use Rattle.iri_cli.specs.links.FieldValues.{AnswersAreLinks};
+ghost use Rattle.iri_cli.specs.links.FieldValues.{AnswersAreLinks, LaxAnswersAreLinks};
 ghost use Rattle.iri_cli.specs.pairs.OfCanon.{AnswersAreOfCanon};
 ghost use Rattle.iri_cli.specs.register.Shared.{LiveLinesShareEntries};
 ghost use Rattle.iri_cli.specs.robots.Verdicts.{AnswersAreVerdicts};
@@ -35,7 +35,7 @@ use crate::docs::Docs;
 use crate::expand::Expand;
 use crate::generator::generate;
 use crate::help::tell;
-use crate::links::Links;
+use crate::links::{LaxLinks, Links};
 use crate::pairs::pairs_lines;
 use crate::register::Registers;
 use crate::robots::robots_lines;
@@ -76,6 +76,7 @@ fn lines_in<S: Spec, I: Source, O: Sink>(
         LineCommand::Expand => run_lines::<S, Expand, I, O>(setup, buffers, source, sink),
         LineCommand::Register => run_lines::<S, Registers<S>, I, O>(setup, buffers, source, sink),
         LineCommand::Links => run_lines::<S, Links, I, O>(setup, buffers, source, sink),
+        LineCommand::LaxLinks => run_lines::<S, LaxLinks, I, O>(setup, buffers, source, sink),
         LineCommand::Docs => run_lines::<S, Docs, I, O>(setup, buffers, source, sink),
         LineCommand::Robots(token) => {
             robots_lines::<S, I, O>(setup, token, buffers, source, sink)
@@ -197,6 +198,12 @@ pub fn run<I: Source, O: Sink>(alloc: Global, words: &[String], source: &mut I, 
     ensures links { (mode : CanonMode) (grammar : Grammar)
         → IsCommand (map string_bytes words.now) (Command.Lines LineCommand.Links mode grammar)
         → AnswersAreLinks (tests_of grammar) mode }
+
+    // `links` with `lax`, in its mode: a text is answered by the link-values that are read laxly,
+    // and a field value as by `links`.
+    ensures lax { (mode : CanonMode) (grammar : Grammar)
+        → IsCommand (map string_bytes words.now) (Command.Lines LineCommand.LaxLinks mode grammar)
+        → LaxAnswersAreLinks (tests_of grammar) mode }
 
     // `docs`, in its mode: a template document is answered by the canonical text of its expansion
     // with its own values.

@@ -8,7 +8,7 @@ use Rattle.iri_cli.specs.canon.Rules.{canon_rules_in}
 use Rattle.iri_cli.specs.docs.Rules.{docs_rules}
 use Rattle.iri_cli.specs.expand.Rules.{expand_rules}
 use Rattle.iri_cli.specs.generator.References.{most_references}
-use Rattle.iri_cli.specs.links.Rules.{links_rules}
+use Rattle.iri_cli.specs.links.Rules.{lax_rules, links_rules}
 use Rattle.iri_cli.specs.pairs.Rules.{pairs_rules}
 use Rattle.iri_cli.specs.register.Rules.{register_rules}
 use Rattle.iri_cli.specs.robots.Rules.{robots_rules}
@@ -19,7 +19,7 @@ use Rattle.iri_cli.specs.declared.run.words.Grammar.TheVariants.{Uri, Iri}
 use Rattle.iri_cli.specs.declared.run.words.Command.{Command}
 use Rattle.iri_cli.specs.declared.run.words.Command.TheVariants.{Lines, Gen, Tell}
 use Rattle.iri_cli.specs.declared.run.words.LineCommand.{LineCommand}
-use Rattle.iri_cli.specs.declared.run.words.LineCommand.TheVariants.{Canon, ToUri, Expand, Register, Links, Docs, Robots, Pairs}
+use Rattle.iri_cli.specs.declared.run.words.LineCommand.TheVariants.{Canon, ToUri, Expand, Register, Links, LaxLinks, Docs, Robots, Pairs}
 use Rattle.iri_cli.specs.declared.help.Notice.{Notice}
 use Rattle.iri_cli.specs.declared.help.Notice.TheVariants.{Help, Version}
 
@@ -50,6 +50,7 @@ named ToUri = record { word = codes "canon"; after = codes "to" ∷ codes "uri" 
 named Expand = record { word = codes "expand"; after = []; rules = expand_rules }
 named Register = record { word = codes "register"; after = []; rules = register_rules }
 named Links = record { word = codes "links"; after = []; rules = links_rules }
+named LaxLinks = record { word = codes "links"; after = codes "lax" ∷ []; rules = lax_rules }
 named Docs = record { word = codes "docs"; after = []; rules = docs_rules }
 named (Robots token) = record { word = codes "robots"; after = token.now ∷ []; rules = λ s mode. robots_rules s mode token.now }
 named Pairs = record { word = codes "pairs"; after = []; rules = pairs_rules }

@@ -36,6 +36,8 @@ pub enum LineCommand<'a> {
     Register,
     /// To answer the value of a `Link` field by its links, with their canonical targets.
     Links,
+    /// The same, with field values read laxly.
+    LaxLinks,
     /// To answer a template document in JSON by the canonical text of its expansion.
     Docs,
     /// To say what the crawler of a product token may fetch.
@@ -79,6 +81,13 @@ fn is_to_uri(first: &str, second: &str) -> bool
     ensures { (result ≡ true) ↔ ((first.now ≡ codes "to") × (second.now ≡ codes "uri")) }
 {
     first == "to" && second == "uri"
+}
+
+// Whether this is the word for a lax reading.
+fn is_lax(word: &str) -> bool
+    ensures { (result ≡ true) ↔ (word.now ≡ codes "lax") }
+{
+    word == "lax"
 }
 
 // Whether this is the number in decimal.
@@ -136,6 +145,11 @@ pub fn command_of_three<'a>(name: &str, grammar: Grammar, word: &'a str) -> Opti
         (IsCommand (name.now ∷ word_of grammar ∷ word.now ∷ [])) }
 {
     match name {
+        "links" if is_lax(word) => Some(Command::Lines(
+            LineCommand::LaxLinks,
+            CanonMode::Default,
+            grammar,
+        )),
         "robots" if is_product_token(word) => {
             Some(Command::Lines(LineCommand::Robots(word), CanonMode::Default, grammar))
         }
@@ -161,6 +175,11 @@ pub fn command_of_four<'a>(
         (IsCommand (name.now ∷ word_of grammar ∷ word.now ∷ last.now ∷ [])) }
 {
     match name {
+        "links" if is_lax(word) && is_scheme(last) => Some(Command::Lines(
+            LineCommand::LaxLinks,
+            CanonMode::Scheme,
+            grammar,
+        )),
         "robots" if is_product_token(word) && is_scheme(last) => {
             Some(Command::Lines(LineCommand::Robots(word), CanonMode::Scheme, grammar))
         }

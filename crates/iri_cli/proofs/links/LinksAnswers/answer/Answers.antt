@@ -1,5 +1,5 @@
 use Rattle.iri_cli.proofs.Common.{false, refl, true, sink_state, base_text}
-use Rattle.iri_link.specs.Readings.{links_in}
+use Rattle.iri_link.specs.LaxReadings.{lax_links_in}
 use Rattle.iri_cli.specs.links.Answers.{field_refusal, links_answer, links_line}
 use Rattle.iri_cli.specs.links.Rules.{takes_memory}
 use Rattle.iri_cli.proofs.CanonLemmas.{said_line, said_room}
@@ -14,7 +14,7 @@ returns-in-Ok g c = λ at is.
     let mode = c.args.self.now.mode in
     let base = base_text c.args.resolver.now in
     let line = c.args.line.now in
-    let text = links_line s mode base (links_in c.in-Ok.field.now) in
+    let text = links_line s mode base (lax_links_in s c.in-Ok.field.now) in
     answers_text links_answer false takes_memory s mode base at is line (state c.args.sink.now) (state c.put_links.new.sink) c.say_good.result text
     (field_answered s mode base line c.in-Ok.field.now c.in-Ok.ensures)
     (said_line true c.put_links.result text text c.say_good.result c.say_good.ensures refl refl c.put_links.ensures)
