@@ -25,7 +25,7 @@ irikit: canonical texts of URI and IRI references (RFC 3986, RFC 3987)
   irikit pairs GRAMMAR [scheme]          answers each line, a page, a tab and a link, by the link's canonical text against its page
   irikit expand GRAMMAR [scheme]         answers each URI template by the canonical text of its expansion (RFC 6570)
   irikit register GRAMMAR [scheme]       keeps each link once, with the numbers of its lines, and writes them at the end
-  irikit links GRAMMAR [scheme]          answers the value of each Link header field by its links in one form (RFC 8288)
+  irikit links GRAMMAR [lax] [scheme]    answers the value of each Link header field by its links in one form (RFC 8288)
   irikit docs GRAMMAR [scheme]           answers each line of JSON, a template and its variables, by the canonical text as expand does
   irikit robots GRAMMAR TOKEN [scheme]   tells for each link whether a robots file allows the crawler TOKEN to fetch it (RFC 9309)
   irikit gen GRAMMAR N                   makes N references (from 1 to 100000) and tells of their canonical texts; reads nothing

@@ -76,7 +76,7 @@ fn help(rt: HostRuntime) -> Result<(), Fail> {
         "pairs GRAMMAR [scheme]",
         "expand GRAMMAR [scheme]",
         "register GRAMMAR [scheme]",
-        "links GRAMMAR [scheme]",
+        "links GRAMMAR [lax] [scheme]",
         "docs GRAMMAR [scheme]",
         "robots GRAMMAR TOKEN [scheme]",
         "gen GRAMMAR N",
