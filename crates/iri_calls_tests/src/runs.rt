@@ -17,6 +17,14 @@ fn runs(rt: HostRuntime) {
         &mut out_len,
     );
     assert!(rt; status == 0 && out_len == 13 && out.starts_with(b"ok http://a/\n\nbad"));
+    let status = irikit_run(
+        rt.alloc(),
+        b"robots uri bot scheme",
+        b"http://a:80\nu x\n",
+        &mut out,
+        &mut out_len,
+    );
+    assert!(rt; status == 0 && out_len == 17 && out.starts_with(b"allow http://a/x\n"));
     let status = irikit_run(rt.alloc(), b"canon uri", b"", &mut out, &mut out_len);
     assert!(rt; status == 3);
 }
@@ -43,7 +51,9 @@ fn words(rt: HostRuntime) {
         b"canon uri ",
         b"canon uri scheme ",
         b"canon uri schemes",
-        b"expand uri scheme",
+        b"expand uri scheme x",
+        b"robots uri scheme bot",
+        b"robots uri bot scheme x",
         b"robots uri",
         b"robots uri Example/1",
         b"gen uri 0",

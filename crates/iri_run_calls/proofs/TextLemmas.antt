@@ -1,5 +1,5 @@
 -- The words of a text, and what words are no command.
-use Rattle.std.proofs.Common.{◌≡◌, ◌≢◌, ◌∙◌, ◌++◌, ℕ, List, [], ◌∷◌, Option, ap, drop, sym}
+use Rattle.std.proofs.Common.{◌≡◌, ◌≢◌, ◌∙◌, ℕ, List, [], ◌∷◌, ◌++◌, Option, ap, drop, sym}
 use Rattle.std.specs.Prelude.{get_or}
 use Rattle.iri_grammar.specs.Cut.{before, after}
 use Rattle.iri_grammar.specs.Pieces.{pieces}
@@ -9,7 +9,7 @@ use Rattle.iri_cli.specs.run.Words.{IsCommand, mode_words, named, word_of}
 use Rattle.iri_cli.specs.declared.run.words.Command.{Command}
 use Rattle.iri_cli.specs.declared.run.words.Command.TheVariants.{Lines, Gen, Tell}
 use Rattle.iri_cli.specs.declared.run.words.LineCommand.{LineCommand}
-use Rattle.iri_cli.specs.declared.run.words.LineCommand.TheVariants.{Robots}
+use Rattle.iri_cli.specs.declared.run.words.LineCommand.TheVariants.{Canon, ToUri, LaxLinks, Robots}
 use Rattle.iri_cli.specs.declared.run.words.Grammar.{Grammar}
 use Rattle.iri_percent.specs.declared.canon_mode.CanonMode.{CanonMode}
 use Rattle.iri_percent.specs.declared.canon_mode.CanonMode.TheVariants.{Default, Scheme}
@@ -30,10 +30,15 @@ no_grammar first second more none (Tell notice) is = cc is
 
 few_after : (a : LineCommand) (m : CanonMode) (third fourth fifth sixth : List ℕ) (more : List (List ℕ))
     → third ∷ fourth ∷ fifth ∷ sixth ∷ more ≢ (named a).after ++ mode_words m
+few_after Canon Default third fourth fifth sixth more e = cc e
+few_after Canon Scheme third fourth fifth sixth more e = cc e
+few_after ToUri Default third fourth fifth sixth more e = cc e
+few_after ToUri Scheme third fourth fifth sixth more e = cc e
+few_after LaxLinks Default third fourth fifth sixth more e = cc e
+few_after LaxLinks Scheme third fourth fifth sixth more e = cc e
 few_after (Robots token) Default third fourth fifth sixth more e = cc e
 few_after (Robots token) Scheme third fourth fifth sixth more e = cc e
-few_after a Default third fourth fifth sixth more e = cc e
-few_after a Scheme third fourth fifth sixth more e = cc e
+few_after a m third fourth fifth sixth more e = cc e
 
 -- no command has six words
 pub six_words : (first second third fourth fifth sixth : List ℕ) (more : List (List ℕ)) (command : Command)

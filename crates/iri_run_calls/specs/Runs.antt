@@ -9,7 +9,7 @@ use Rattle.iri_cli.specs.canon.Answers.{AnswersAreCanonicalIn}
 use Rattle.iri_cli.specs.docs.Expansions.{AnswersAreExpansions}
 use Rattle.iri_cli.specs.generator.References.{gen_text}
 use Rattle.iri_cli.specs.help.Notices.{MakesText, Tells, notice_text}
-use Rattle.iri_cli.specs.links.FieldValues.{AnswersAreLinks}
+use Rattle.iri_cli.specs.links.FieldValues.{AnswersAreLinks, LaxAnswersAreLinks}
 use Rattle.iri_cli.specs.pairs.OfCanon.{AnswersAreOfCanon}
 use Rattle.iri_cli.specs.register.Shared.{LiveLinesShareEntries}
 use Rattle.iri_cli.specs.robots.Verdicts.{AnswersAreVerdicts}
@@ -20,7 +20,7 @@ use Rattle.iri_cli.specs.declared.run.words.Command.{Command}
 use Rattle.iri_cli.specs.declared.run.words.Command.TheVariants.{Lines, Gen, Tell}
 use Rattle.iri_cli.specs.declared.run.words.Grammar.{Grammar}
 use Rattle.iri_cli.specs.declared.run.words.LineCommand.{LineCommand}
-use Rattle.iri_cli.specs.declared.run.words.LineCommand.TheVariants.{Canon, ToUri, Register, Links, Docs, Pairs}
+use Rattle.iri_cli.specs.declared.run.words.LineCommand.TheVariants.{Canon, ToUri, Register, Links, LaxLinks, Docs, Pairs}
 use Rattle.iri_cli.specs.declared.help.Notice.{Notice}
 
 -- The contract of the program's `run`.
@@ -38,6 +38,8 @@ pub record RunsWords (words : List (List ℕ)) (old new : Outside) (status : ℕ
   pub register : (mode : CanonMode) (grammar : Grammar) → IsCommand words (Lines Register mode grammar)
       → LiveLinesShareEntries (tests_of grammar) mode
   pub links : (mode : CanonMode) (grammar : Grammar) → IsCommand words (Lines Links mode grammar) → AnswersAreLinks (tests_of grammar) mode
+  pub lax : (mode : CanonMode) (grammar : Grammar) → IsCommand words (Lines LaxLinks mode grammar)
+      → LaxAnswersAreLinks (tests_of grammar) mode
   pub docs : (mode : CanonMode) (grammar : Grammar) → IsCommand words (Lines Docs mode grammar) → AnswersAreExpansions (tests_of grammar) mode
   pub robots : (mode : CanonMode) (grammar : Grammar) (token : List ℕ) → words ≡ codes "robots" ∷ word_of grammar ∷ token ∷ mode_words mode
       → AnswersAreVerdicts (tests_of grammar) mode token

@@ -18,24 +18,37 @@ fn command_of_one<'a>(word: &str) -> Option<Command<'a>>
     Some(Command::Tell(notice_of(word)?))
 }
 
-// The command of a name and a grammar, with a third word, and words of a text after it.
-fn command_after_three<'a>(
-    first: &str,
+// The command of a name, a grammar and two words more, and of the words of a text after them.
+fn command_of_last<'a>(
+    name: &str,
     grammar: Grammar,
-    third: &'a str,
-    after: &str,
+    third: &str,
+    fourth: &str,
+    rest: &str,
 ) -> Option<Command<'a>>
     ensures { MatchOption result
-        ((command : Command) → ¬ (IsCommand (first.now ∷ word_of grammar ∷ third.now ∷ pieces space after.now) command))
-        (IsCommand (first.now ∷ word_of grammar ∷ third.now ∷ pieces space after.now)) }
+        ((command : Command) → ¬ (IsCommand (name.now ∷ word_of grammar ∷ third.now ∷ fourth.now ∷ pieces space rest.now) command))
+        (IsCommand (name.now ∷ word_of grammar ∷ third.now ∷ fourth.now ∷ pieces space rest.now)) }
 {
-    let (fourth, after) = cut(after, b' ');
+    match cut(rest, b' ') {
+        (last, None) => command_of_five(name, grammar, third, fourth, last),
+        (_, Some(_)) => None,
+    }
+}
+
+// The command of a name and a grammar, and of the words of a text after them.
+fn command_after<'a>(name: &str, grammar: Grammar, rest: &'a str) -> Option<Command<'a>>
+    ensures { MatchOption result
+        ((command : Command) → ¬ (IsCommand (name.now ∷ word_of grammar ∷ pieces space rest.now) command))
+        (IsCommand (name.now ∷ word_of grammar ∷ pieces space rest.now)) }
+{
+    let (word, after) = cut(rest, b' ');
     let Some(after) = after else {
-        return command_of_four(first, grammar, third, fourth);
+        return command_of_three(name, grammar, word);
     };
     match cut(after, b' ') {
-        (fifth, None) => command_of_five(first, grammar, third, fourth, fifth),
-        (_, Some(_)) => None,
+        (last, None) => command_of_four(name, grammar, word, last),
+        (next, Some(after)) => command_of_last(name, grammar, word, next, after),
     }
 }
 
@@ -55,8 +68,5 @@ pub(crate) fn command_in(text: &str) -> Option<Command<'_>>
     let Some(after) = after else {
         return command_of_two(first, grammar);
     };
-    match cut(after, b' ') {
-        (third, None) => command_of_three(first, grammar, third),
-        (third, Some(after)) => command_after_three(first, grammar, third, after),
-    }
+    command_after(first, grammar, after)
 }

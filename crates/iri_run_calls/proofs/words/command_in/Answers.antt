@@ -1,9 +1,9 @@
-use Rattle.std.proofs.Common.{◌∙◌, [], ◌∷◌, List, ℕ, None, Some, Option, ap, refl, subst, sym}
+use Rattle.std.proofs.Common.{◌∙◌, [], ◌∷◌, List, ℕ, None, Some, Option, ap, subst, sym}
 use Rattle.std.specs.Prelude.{MatchOption}
 use Rattle.iri_cli.specs.run.Words.{IsCommand}
 use Rattle.iri_cli.specs.declared.run.words.Command.{Command}
-use Rattle.iri_grammar.specs.Pieces.{pieces}
 use Rattle.iri_grammar.specs.OptionalSlices.{now_of}
+use Rattle.iri_grammar.specs.Pieces.{pieces}
 use Rattle.iri_grammar.specs.inside.PiecesLaws.{more_pieces}
 use Rattle.iri_grammar.specs.Blanks.{space}
 use Rattle.iri_run_calls.proofs.TextLemmas.{no_grammar, words_cut}
@@ -34,27 +34,12 @@ returns-in_default-after c =
     subst (Reads c.command_of_two.result) (sym (words ∙ ap (λ ws. c.cut.result.0.now ∷ ws) more
     ∙ ap (λ w. c.cut.result.0.now ∷ w ∷ []) c.in-Some-grammar_of.ensures)) c.command_of_two.ensures
 
-pub returns-in_default-None : goal.returns-in_default-None
-returns-in_default-None c =
+pub returns : goal.returns
+returns c =
     let words = words_cut c.args.text.now c.cut.result.0.now (Some c.in-Some.after.now) c.cut.ensures.before
     (sym (ap now_of c.in-Some.is) ∙ c.cut.ensures.after) in
-    let more = words_cut c.in-Some.after.now c.cut-2.result.0.now (Some c.in-Some-after.after.now) c.cut-2.ensures.before
+    let rest = c.in-Some-after.after.now in
+    let more = words_cut c.in-Some.after.now c.cut-2.result.0.now (Some rest) c.cut-2.ensures.before
     (sym (ap now_of c.in-Some-after.is) ∙ c.cut-2.ensures.after) in
-    let last = words_cut c.in-Some-after.after.now c.cut-3.result.0.now None c.cut-3.ensures.before
-    (sym (ap now_of c.in_default-None.is-1) ∙ c.cut-3.ensures.after) in
-    subst (Reads c.command_of_three.result) (sym (words ∙ ap (λ ws. c.cut.result.0.now ∷ ws) more
-    ∙ ap (λ ws. c.cut.result.0.now ∷ c.cut-2.result.0.now ∷ ws) last
-    ∙ ap (λ w. c.cut.result.0.now ∷ w ∷ c.cut-3.result.0.now ∷ []) c.in-Some-grammar_of.ensures)) c.command_of_three.ensures
-
-pub returns-in_default-Some : goal.returns-in_default-Some
-returns-in_default-Some c =
-    let words = words_cut c.args.text.now c.cut.result.0.now (Some c.in-Some.after.now) c.cut.ensures.before
-    (sym (ap now_of c.in-Some.is) ∙ c.cut.ensures.after) in
-    let more = words_cut c.in-Some.after.now c.cut-2.result.0.now (Some c.in-Some-after.after.now) c.cut-2.ensures.before
-    (sym (ap now_of c.in-Some-after.is) ∙ c.cut-2.ensures.after) in
-    let rest = c.in_default-Some.after.now in
-    let last = words_cut c.in-Some-after.after.now c.cut-3.result.0.now (Some rest) c.cut-3.ensures.before
-    (sym (ap now_of c.in_default-Some.is-1) ∙ c.cut-3.ensures.after) in
-    subst (Reads c.command_after_three.result) (sym (words ∙ ap (λ ws. c.cut.result.0.now ∷ ws) more
-    ∙ ap (λ ws. c.cut.result.0.now ∷ c.cut-2.result.0.now ∷ ws) last
-    ∙ ap (λ w. c.cut.result.0.now ∷ w ∷ c.cut-3.result.0.now ∷ pieces space rest) c.in-Some-grammar_of.ensures)) c.command_after_three.ensures
+    subst (Reads c.command_after.result) (sym (words ∙ ap (λ ws. c.cut.result.0.now ∷ ws) more
+    ∙ ap (λ w. c.cut.result.0.now ∷ w ∷ pieces space rest) c.in-Some-grammar_of.ensures)) c.command_after.ensures
