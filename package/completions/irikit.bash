@@ -15,7 +15,7 @@ _irikit() {
     return
   fi
   case ${#given[@]}:${given[0]:-}:${given[2]:-} in
-    0:*) words='canon pairs expand register links docs robots gen --help --version' ;;
+    0:*) words='canon parts pairs expand register links docs robots gen --help --version' ;;
     1:--*) ;;
     1:*) words='uri iri' ;;
     2:robots:* | 2:gen:* | 2:--*) ;;

@@ -10,6 +10,7 @@ end
 
 complete -c irikit -f
 complete -c irikit -n '__irikit_has 1' -a canon -d 'canonical texts of references against a base'
+complete -c irikit -n '__irikit_has 1' -a parts -d 'canonical texts and their components, as JSON'
 complete -c irikit -n '__irikit_has 1' -a pairs -d 'canonical texts of links, each against its own page'
 complete -c irikit -n '__irikit_has 1' -a expand -d 'canonical texts of URI templates'
 complete -c irikit -n '__irikit_has 1' -a register -d 'each link once, with the numbers of its lines'
@@ -19,9 +20,10 @@ complete -c irikit -n '__irikit_has 1' -a robots -d 'which links a crawler may f
 complete -c irikit -n '__irikit_has 1' -a gen -d 'a known amount of work'
 complete -c irikit -n '__irikit_has 1' -a --help -d 'the commands'
 complete -c irikit -n '__irikit_has 1' -a --version -d 'the version'
-complete -c irikit -n '__irikit_has 2 canon pairs expand register links docs robots gen' -a 'uri iri'
+complete -c irikit -n '__irikit_has 2 canon parts pairs expand register links docs robots gen' -a 'uri iri'
 complete -c irikit -n '__irikit_has 3 canon' -a 'to scheme'
+complete -c irikit -n '__irikit_has 3 parts' -a scheme
 complete -c irikit -n '__irikit_has 4 canon; and string match -q "* to *" -- (commandline -pc)' -a uri
 complete -c irikit -n '__irikit_has 5 canon; and string match -q "* to uri *" -- (commandline -pc)' -a scheme
 complete -c irikit -n '__irikit_has 3 links' -a lax
-complete -c irikit -n '__irikit_has 3 pairs expand register links docs; or __irikit_has 4 robots links' -a scheme
+complete -c irikit -n '__irikit_has 3 parts pairs expand register links docs; or __irikit_has 4 robots links' -a scheme

@@ -7,6 +7,7 @@ RUNS = [
     ("canon uri", "http://a/b\nc\nHTTP://%41/../d\n%4\n", False),
     ("canon iri", "http://a/\u00e9\n%c3%a9\n", False),
     ("canon iri to uri", "http://a/\nros\u00e9\n%4\n", False),
+    ("parts iri", "http://a/\nros\u00e9?#\n//u@h:8\n%4\n", False),
     ("canon uri scheme", "HTTP://a:80\n\nws://b:80?c\n%4\n", False),
     ("register uri scheme", "HTTP://a:80\na \na //a/\nf ftp://a:21\nd http://a\n", True),
     ("robots uri examplebot scheme", "https://a:443\nr user-agent: *\nr disallow: /x\nu x\nu //a:443/y\n", True),

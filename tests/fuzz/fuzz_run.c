@@ -46,7 +46,7 @@ static void check_canon(int grammar, struct text input, struct text output)
 
 void check_run(struct input input)
 {
-	static const char *const words[] = {"canon uri", "canon iri", "canon uri scheme", "canon iri to uri", "expand uri", "expand iri",
+	static const char *const words[] = {"canon uri", "canon iri", "canon uri scheme", "canon iri to uri", "parts iri", "expand uri", "expand iri",
 		"register uri", "links iri", "docs uri", "robots uri examplebot", "pairs uri", "pairs iri scheme", "gen uri 9", "--help",
 		"canon  uri", "docs", "expand iri scheme", "register uri scheme", "links uri scheme", "docs iri scheme",
 		"robots uri examplebot scheme"};

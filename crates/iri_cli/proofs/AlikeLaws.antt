@@ -29,12 +29,13 @@ use Rattle.iri_register.specs.Commands.{entries_of_commands, Add, Remove}
 use Rattle.iri_register.specs.Entries.{Entry, line_count, place}
 use Rattle.iri_robots.specs.Records.{FileRecord}
 use Rattle.iri_cli.specs.declared.run.words.LineCommand.{LineCommand}
-use Rattle.iri_cli.specs.declared.run.words.LineCommand.TheVariants.{Canon, ToUri, Expand, Register, Links, LaxLinks, Docs, Robots, Pairs}
+use Rattle.iri_cli.specs.declared.run.words.LineCommand.TheVariants.{Canon, ToUri, Parts as TakesApart, Expand, Register, Links, LaxLinks, Docs, Robots, Pairs}
 use Rattle.iri_cli.specs.expand.Answers.{answer_to as expand_to}
 use Rattle.iri_cli.specs.expand.Lines.{ExpandLine, changes, expands, bad as no_template, values_after, line_of as expand_line}
 use Rattle.iri_cli.specs.inside.Opening.{IsPreparedOf, begun}
 use Rattle.iri_cli.specs.inside.Puts.{IsWriterAt}
 use Rattle.iri_cli.specs.links.Answers.{field_refusal, lax_answer, links_answer, unless_told}
+use Rattle.iri_cli.specs.parts.Answers.{parts_answer, parts_line}
 use Rattle.iri_cli.specs.register.Answers.{answer_to as register_to, added_answer, removed_answer, found_answer}
 use Rattle.iri_cli.specs.register.Lines.{RegisterLine, adds, removes, finds, bad as no_change, line_of, unless_fault}
 use Rattle.iri_cli.specs.register.Memory.{takes_memory}
@@ -85,6 +86,11 @@ module _ (s : Tests) (line text : List ℕ) (k : IsSpec s) (p : IsPreparedOf s l
     uris_same : (l : List ℕ) → uri_answer s mode text l ≡ uri_answer s mode line l
     unfolding uri_answer
     uris_same l = ap (λ t. answer_by (bytes_fault (reference_fault s) l) (mapped t)) (targets_same l)
+
+    -- ---- their components
+    parts_same : (l : List ℕ) → parts_answer s mode text l ≡ parts_answer s mode line l
+    unfolding parts_answer
+    parts_same l = ap (λ t. parts_line (bytes_fault (reference_fault s) l) t (split_of t)) (targets_same l)
 
     -- ---- expansions
     expansions_same : (x : Result (List ℕ) DocExpandError) → expansion_answer s mode text x ≡ expansion_answer s mode line x
@@ -167,6 +173,7 @@ module _ (s : Tests) (line text : List ℕ) (k : IsSpec s) (p : IsPreparedOf s l
     pub alike : (command : LineCommand) → IsAlike (rules_of command s mode) text line
     alike Canon = record { answer = λ between. answers_same; closing = λ between. refl; wants_memory = λ between l. refl }
     alike ToUri = record { answer = λ between. uris_same; closing = λ between. refl; wants_memory = λ between l. refl }
+    alike TakesApart = record { answer = λ between. parts_same; closing = λ between. refl; wants_memory = λ between l. refl }
     alike Expand = record {
       answer = λ between l. expands_same (values_after between) (expand_line l);
       closing = λ between. refl;

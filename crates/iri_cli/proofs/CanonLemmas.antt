@@ -3,6 +3,12 @@ use Rattle.iri_cli.proofs.Common.{◌≡◌, ◌≢◌, ℕ, ◌+◌, ◌≤◌,
 use Rattle.iri_cli.proofs.Common.{◌∙◌, Tests, IsSpec, bytes_fault, reference_fault, PutsAll, KeepsRoom, SinkState, room-so, Failed}
 use Rattle.iri_cli.proofs.Common.{CanonMode, canonical_in, refusal, Answering, AnswersLine}
 use Rattle.iri_cli.proofs.Common.{PutsAnswer, is_ok, AnswerError, SinkFailed, Rules, OnOk}
+use Rattle.std.proofs.Math.Logic.{∥∥₁_elim}
+use Rattle.std.proofs.Props.{props}
+use Rattle.iri_cli.proofs.Common.{absolute_fault, absolute-law}
+use Rattle.iri_grammar.proofs.faults.FaultLaws.{reference-law}
+use Rattle.iri_grammar.specs.Parts.{IsIri}
+use Rattle.iri_normal.proofs.canonical_texts.CanonicalTexts.{canonical_in-iri}
 use Rattle.iri_normal.proofs.normal_forms.Lengths.{length-canonical_in}
 use Rattle.iri_cli.specs.inside.Puts.{said_good, IsWriterAt}
 use Rattle.iri_cli.specs.inside.SinkTexts.{puts_nothing}
@@ -26,12 +32,17 @@ line_room good (Ok x) text p = room-so (λ _ h. cc h) p.room
 line_room good (Err f) text p = room-so (λ h. absurd (cc h)) p.room
 
 -- the same of an answer of which a result says it
+pub said_by : {ko kn : SinkState} (is_good : List ℕ → Bool) (good : Bool) (r : Result (Unit {0}) Failed) (text line : List ℕ)
+    (result : Result Bool AnswerError) → result ≡ said_good good r → good ≡ is_good text → text ≡ line → PutsAll ko kn r text
+    → PutsAnswer is_good ko kn false line result
+said_by {ko} {kn} is_good good r text line result said e is p =
+    subst (λ x. PutsAnswer is_good ko kn false line x) (sym said)
+    (subst (λ t. PutsAnswer is_good ko kn false t (said_good good r)) is (puts_line is_good false good r text p e))
+
 pub said_line : {ko kn : SinkState} (good : Bool) (r : Result (Unit {0}) Failed) (text line : List ℕ)
     (result : Result Bool AnswerError) → result ≡ said_good good r → good ≡ is_ok text → text ≡ line → PutsAll ko kn r text
     → PutsAnswer is_ok ko kn false line result
-said_line {ko} {kn} good r text line result said e is p =
-    subst (λ x. PutsAnswer is_ok ko kn false line x) (sym said)
-    (subst (λ t. PutsAnswer is_ok ko kn false t (said_good good r)) is (puts_line is_ok false good r text p e))
+said_line = said_by is_ok
 
 pub said_room : {ko kn : SinkState} (good : Bool) (r : Result (Unit {0}) Failed) (text line : List ℕ)
     (result : Result Bool AnswerError) → result ≡ said_good good r → text ≡ line → PutsAll ko kn r text
@@ -39,6 +50,14 @@ pub said_room : {ko kn : SinkState} (good : Bool) (r : Result (Unit {0}) Failed)
 said_room {ko} {kn} good r text line result said is p =
     subst (λ x. KeepsRoom ko.room_left kn.room_left line (x ≢ Err SinkFailed)) (sym said)
     (subst (λ t. KeepsRoom ko.room_left kn.room_left t (said_good good r ≢ Err SinkFailed)) is (line_room good r text p))
+
+-- the canonical text of a base and a reference that are kept as valid texts
+pub canonical_valid : (s : Tests) → IsSpec s → (m : CanonMode) (b r : List ℕ) → ∥ absolute_fault s b ≡ None ∥₁ → ∥ reference_fault s r ≡ None ∥₁
+    → IsIri s (canonical_in s m b r) × (length (canonical_in s m b r) ≤ length b + length r + 3)
+canonical_valid s l m b r hb hr =
+    let base = (absolute-law s l b).0 (∥∥₁_elim hb (hlevel props) (λ e. e)) in
+    let reference = (reference-law s l r).0 (∥∥₁_elim hr (hlevel props) (λ e. e)) in
+    (canonical_in-iri s m b r l base reference, length-canonical_in s m b r l base reference)
 
 -- the buffer has room for an answer
 pub has_room : (s : Tests) (m : CanonMode) (base line text output : List ℕ) → IsSpec s → refusal s base ≡ None → bytes_fault (reference_fault s) line ≡ None

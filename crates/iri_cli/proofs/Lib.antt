@@ -17,6 +17,8 @@ pub mod MemoryLemmas
 pub mod StatelessLemmas
 pub mod LinksLemmas
 pub mod ToUriLemmas
+pub mod Unescaped
+pub mod PartsLemmas
 pub mod ExpandLemmas
 pub mod DocsLemmas
 pub mod PutLemmas

@@ -5,12 +5,11 @@ use Rattle.iri_grammar.specs.Classes.{uri_tests}
 use Rattle.iri_grammar.specs.inside.Laws.{uri_is_spec}
 use Rattle.iri_normal.proofs.canonical_texts.CanonicalTexts.{canonical_in-iri, canonical_in-split, canonical_in-own}
 use Rattle.iri_normal.proofs.mapping.MappedForms.{mapped-canonical}
-use Rattle.iri_normal.specs.NormalForm.{canonical_parts_in}
-use Rattle.iri_grammar.specs.Parts.{IsIri, IsAbsolute}
+use Rattle.iri_grammar.specs.Parts.{IsIri}
 use Rattle.iri_grammar.specs.Split.{split_of}
 use Rattle.iri_percent.proofs.mapping.Productions.{mapped-absolute, mapped-reference}
 use Rattle.iri_percent.specs.Mapping.{mapped}
-use Rattle.iri_cli.specs.to_uri.Answers.{AnswersAreCanonicalUris, IsCanonicalUri, uri_answer}
+use Rattle.iri_cli.specs.to_uri.Answers.{AnswersAreCanonicalUris, uri_answer}
 use Rattle.iri_cli.proofs.BytesLemmas.{base_absolute, line_reference}
 
 -- the answer to a line that is a reference, and to one that has a fault

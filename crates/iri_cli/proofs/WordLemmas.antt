@@ -12,7 +12,7 @@ use Rattle.iri_cli.specs.declared.help.Notice.TheVariants.{Help, Version}
 use Rattle.iri_cli.specs.declared.run.words.Command.{Command}
 use Rattle.iri_cli.specs.declared.run.words.Command.TheVariants.{Lines, Gen, Tell}
 use Rattle.iri_cli.specs.declared.run.words.LineCommand.{LineCommand}
-use Rattle.iri_cli.specs.declared.run.words.LineCommand.TheVariants.{Canon, ToUri, Expand, Register, Links, LaxLinks, Docs, Robots, Pairs}
+use Rattle.iri_cli.specs.declared.run.words.LineCommand.TheVariants.{Canon, ToUri, Parts, Expand, Register, Links, LaxLinks, Docs, Robots, Pairs}
 use Rattle.iri_cli.specs.declared.run.words.Grammar.{Grammar}
 use Rattle.iri_cli.specs.declared.run.words.Grammar.TheVariants.{Uri, Iri}
 
@@ -46,6 +46,7 @@ one_line_command s m n Canon Canon e f = ap (rules_of Canon s) (one_mode m n (ap
 one_line_command s m n ToUri ToUri e f = ap (rules_of ToUri s) (one_mode m n (ap (λ (ws : List (List ℕ)). length (drop 2 ws)) f))
 one_line_command s m n Canon ToUri e f = absurd (no_mode m n f)
 one_line_command s m n ToUri Canon e f = absurd (no_mode n m (sym f))
+one_line_command s m n Parts Parts e f = ap (rules_of Parts s) (one_mode m n (ap length f))
 one_line_command s m n Expand Expand e f = ap (rules_of Expand s) (one_mode m n (ap length f))
 one_line_command s m n Register Register e f = ap (rules_of Register s) (one_mode m n (ap length f))
 one_line_command s m n Links Links e f = ap (rules_of Links s) (one_mode m n (ap length f))

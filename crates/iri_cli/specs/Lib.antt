@@ -1,6 +1,7 @@
 pub mod run
 pub mod canon
 pub mod to_uri
+pub mod parts
 pub mod expand
 pub mod register
 pub mod robots

@@ -23,6 +23,7 @@ irikit: canonical texts of URI and IRI references (RFC 3986, RFC 3987)
   irikit canon GRAMMAR [scheme]          answers each reference line by its canonical text against a base
   irikit canon GRAMMAR to uri [scheme]   the same as canon, each text mapped to a URI (RFC 3987 3.1)
   irikit pairs GRAMMAR [scheme]          answers each line, a page, a tab and a link, by the link's canonical text against its page
+  irikit parts GRAMMAR [scheme]          answers each reference line by its canonical text and the text's components, as JSON
   irikit expand GRAMMAR [scheme]         answers each URI template by the canonical text of its expansion (RFC 6570)
   irikit register GRAMMAR [scheme]       keeps each link once, with the numbers of its lines, and writes them at the end
   irikit links GRAMMAR [lax] [scheme]    answers the value of each Link header field by its links in one form (RFC 8288)
@@ -38,7 +39,8 @@ Lines of expand: 's NAME VALUE' sets a string, 'l NAME ITEM' adds to a list, 'a 
   of robots: 'r LINE' feeds a line of the file, 'u REF' asks for a link
 Answers of canon, pairs, expand and docs: 'ok ' and the canonical text; of links: 'ok ' and the links with canonical targets;
   of register: 'new K' or 'old K', 'gone N', 'at K' or 'none', with the place K of an entry or its count N of lines;
-  of robots: 'allow ', 'disallow ' or 'other ' and the canonical text; otherwise 'bad ' and why, and where expand or docs
+  of robots: 'allow ', 'disallow ' or 'other ' and the canonical text; of parts: an object that has text,
+  or bad and why; otherwise 'bad ' and why, and where expand or docs
   refuses a template, 'template ' and its fault; where the base is refused, the one line 'base ' and its first fault,
   and so for each page of pairs
 Statuses: 0 every answer is good, 1 some answer is bad, 2 the words are no command, 3 the base is refused,

@@ -1,7 +1,8 @@
 //! What holds of a run over memory, of a base that is prepared once, of the entries of `register`,
 //! of the answers of `links`, and of the references of `gen`.
-ghost use Rattle.std.specs.Prelude.{◌≡◌, ◌≤◌, ◌+◌, ◌⊎◌, ℕ, List, [], ◌++◌, length, None, Some};
-ghost use Rattle.iri_grammar.specs.Parts.{IsAbsolute};
+ghost use Rattle.std.specs.Prelude.{◌≡◌, ◌≤◌, ◌+◌, ◌⊎◌, ℕ, true, List, [], ◌++◌, length, None, Some};
+ghost use Rattle.std.specs.List.{list_all};
+ghost use Rattle.iri_grammar.specs.Parts.{IsAbsolute, IsReference};
 ghost use Rattle.iri_grammar.specs.WholeFault.{reference_fault};
 ghost use Rattle.iri_normal.specs.NormalForm.{canonical_in};
 ghost use Rattle.iri_cli.specs.canon.Answers.{refusal};
@@ -11,6 +12,7 @@ ghost use Rattle.iri_cli.specs.run.Words.{rules_of};
 ghost use Rattle.iri_cli.specs.declared.run.words.LineCommand.{LineCommand};
 ghost use Rattle.iri_cli.specs.generator.References.{gen_base, gen_reference};
 ghost use Rattle.iri_cli.specs.links.FieldValues.{AnswersAreLinks, LaxAnswersAreLinks};
+ghost use Rattle.iri_cli.specs.parts.Object.{is_unescaped};
 ghost use Rattle.iri_cli.specs.register.Shared.{LiveLinesShareEntries};
 ghost use Rattle.iri_text.specs.Memory.{memory_written, state_of};
 ghost use Rattle.iri_text.specs.declared.streams.memory_sink.MemorySink.{MemorySink};
@@ -50,6 +52,11 @@ pub fn prepared_base_has_the_same_answers<S: Spec>()
         → answer_in S.tests mode (prepared S.tests base) line ≡ answer_in S.tests mode base line }
     ensures commands { (command : LineCommand) (mode : CanonMode) (base : List ℕ) → refusal S.tests base ≡ None
         → IsAlike (rules_of command S.tests mode) (prepared S.tests base) base }
+{}
+
+/// No byte of a reference is one that a string of JSON escapes: `"`, `\\`, or one below 32 (RFC 8259 section 7).
+pub fn references_need_no_escape<S: Spec>()
+    ensures { (t : List ℕ) → IsReference S.tests t → list_all is_unescaped t ≡ true }
 {}
 
 /// Two live lines of `register`, which add links that no line after them takes out, share an entry

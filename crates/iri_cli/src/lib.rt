@@ -11,6 +11,8 @@
 //!   each reference line by its canonical text against the base line (RFC 3986 section 5 and section
 //!   6.2.2; RFC 3987). [`canon_lines_in`](canon_lines_in) does the same by the rules of a mode. Of
 //!   every command over lines the last word `scheme` names that by scheme rules (section 6.2.3).
+//! - `canon` with `to uri` answers by the same texts, mapped to URIs (RFC 3987 section 3.1), and `parts` by the texts and their
+//!   components, as JSON.
 //! - `expand` keeps the values that lines give variables, and answers each URI template by the
 //!   canonical text of its expansion (RFC 6570) against the base line.
 //! - `register` keeps each canonical link once, with the numbers of its lines, and writes them at
@@ -29,8 +31,8 @@
 //! and by the rules of the command (`rules_of` in specs/run/Words.antt). These stand in the command's
 //! folder of specs/, in Rules.antt, beside what its lines say and how they are answered. A clause of
 //! `run` each says what the answers of the tools are by the standard's relations: which lines of
-//! `register` share an entry, which links a field value has, what a document expands to, and what the
-//! patterns of a robots file allow. `canon_lines` and `canon_lines_in` are given no allocator, and never answer that
+//! `register` share an entry, which links a field value has, what a document expands to, what the
+//! patterns of a robots file allow, and what a text's components are. `canon_lines` and `canon_lines_in` are given no allocator, and never answer that
 //! allocation failed; where it fails at a line of another command, that line takes memory by the
 //! command's rules, and the lines before it were answered. A sink that is known to have room for the
 //! output doesn't fail: over a `PlainSource` and a `MemorySink` that has no failing calls and has
@@ -50,6 +52,7 @@ pub mod help;
 pub mod laws;
 mod links;
 mod pairs;
+mod parts;
 mod register;
 mod robots;
 pub mod run;

@@ -4,6 +4,7 @@ ghost use Rattle.iri_cli.specs.run.Words.{HasToken, IsCommand, mode_words, rules
 ghost use Rattle.iri_cli.specs.docs.Expansions.{AnswersAreExpansions};
 ghost use Rattle.iri_cli.specs.links.FieldValues.{AnswersAreLinks, LaxAnswersAreLinks};
 ghost use Rattle.iri_cli.specs.pairs.OfCanon.{AnswersAreOfCanon};
+ghost use Rattle.iri_cli.specs.parts.Answers.{AnswersAreTakenApart};
 ghost use Rattle.iri_cli.specs.register.Shared.{LiveLinesShareEntries};
 ghost use Rattle.iri_cli.specs.robots.Verdicts.{AnswersAreVerdicts};
 ghost use Rattle.iri_cli.specs.canon.Answers.{AnswersAreCanonicalIn};
@@ -37,6 +38,7 @@ use crate::generator::generate;
 use crate::help::tell;
 use crate::links::{LaxLinks, Links};
 use crate::pairs::pairs_lines;
+use crate::parts::Parts;
 use crate::register::Registers;
 use crate::robots::robots_lines;
 use crate::run::answers::Setup;
@@ -73,6 +75,7 @@ fn lines_in<S: Spec, I: Source, O: Sink>(
     match command {
         LineCommand::Canon => canon_lines_in::<S, I, O>(setup.mode, buffers, source, sink),
         LineCommand::ToUri => run_lines::<S, ToUri, I, O>(setup.mode, buffers, source, sink),
+        LineCommand::Parts => run_lines::<S, Parts, I, O>(setup.mode, buffers, source, sink),
         LineCommand::Expand => run_lines::<S, Expand, I, O>(setup, buffers, source, sink),
         LineCommand::Register => run_lines::<S, Registers<S>, I, O>(setup, buffers, source, sink),
         LineCommand::Links => run_lines::<S, Links, I, O>(setup, buffers, source, sink),
@@ -186,6 +189,12 @@ pub fn run<I: Source, O: Sink>(alloc: Global, words: &[String], source: &mut I, 
     ensures canonical_uris { (mode : CanonMode) (grammar : Grammar)
         → IsCommand (map string_bytes words.now) (Command.Lines LineCommand.ToUri mode grammar)
         → AnswersAreCanonicalUris (tests_of grammar) mode }
+
+    // `parts`, in its mode: each good answer is the object of the canonical text and the components of
+    // its one split, as JSON.
+    ensures parts { (mode : CanonMode) (grammar : Grammar)
+        → IsCommand (map string_bytes words.now) (Command.Lines LineCommand.Parts mode grammar)
+        → AnswersAreTakenApart (tests_of grammar) mode }
 
     // `register`, in its mode: two live lines share an entry exactly where the mode's steps join the
     // targets of their references.

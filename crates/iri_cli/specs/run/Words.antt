@@ -10,6 +10,7 @@ use Rattle.iri_cli.specs.expand.Rules.{expand_rules}
 use Rattle.iri_cli.specs.generator.References.{most_references}
 use Rattle.iri_cli.specs.links.Rules.{lax_rules, links_rules}
 use Rattle.iri_cli.specs.pairs.Rules.{pairs_rules}
+use Rattle.iri_cli.specs.parts.Rules.{parts_rules}
 use Rattle.iri_cli.specs.register.Rules.{register_rules}
 use Rattle.iri_cli.specs.robots.Rules.{robots_rules}
 use Rattle.iri_cli.specs.to_uri.Rules.{to_uri_rules}
@@ -19,7 +20,7 @@ use Rattle.iri_cli.specs.declared.run.words.Grammar.TheVariants.{Uri, Iri}
 use Rattle.iri_cli.specs.declared.run.words.Command.{Command}
 use Rattle.iri_cli.specs.declared.run.words.Command.TheVariants.{Lines, Gen, Tell}
 use Rattle.iri_cli.specs.declared.run.words.LineCommand.{LineCommand}
-use Rattle.iri_cli.specs.declared.run.words.LineCommand.TheVariants.{Canon, ToUri, Expand, Register, Links, LaxLinks, Docs, Robots, Pairs}
+use Rattle.iri_cli.specs.declared.run.words.LineCommand.TheVariants.{Canon, ToUri, Parts, Expand, Register, Links, LaxLinks, Docs, Robots, Pairs}
 use Rattle.iri_cli.specs.declared.help.Notice.{Notice}
 use Rattle.iri_cli.specs.declared.help.Notice.TheVariants.{Help, Version}
 
@@ -47,6 +48,7 @@ pub record Named : Type 0 where
 abbrev pub named : LineCommand → Named
 named Canon = record { word = codes "canon"; after = []; rules = canon_rules_in }
 named ToUri = record { word = codes "canon"; after = codes "to" ∷ codes "uri" ∷ []; rules = to_uri_rules }
+named Parts = record { word = codes "parts"; after = []; rules = parts_rules }
 named Expand = record { word = codes "expand"; after = []; rules = expand_rules }
 named Register = record { word = codes "register"; after = []; rules = register_rules }
 named Links = record { word = codes "links"; after = []; rules = links_rules }

@@ -29,6 +29,8 @@ pub enum LineCommand<'a> {
     Canon,
     /// The same, with each text mapped to a URI.
     ToUri,
+    /// To answer each reference line by its canonical text and the components of that text, as JSON.
+    Parts,
     /// To answer each template by the canonical text of its expansion, with the values that lines
     /// before give variables.
     Expand,
@@ -122,6 +124,7 @@ fn named_by_one<'a>(name: &str) -> Option<LineCommand<'a>>
 {
     match name {
         "canon" => Some(LineCommand::Canon),
+        "parts" => Some(LineCommand::Parts),
         "expand" => Some(LineCommand::Expand),
         "register" => Some(LineCommand::Register),
         "links" => Some(LineCommand::Links),

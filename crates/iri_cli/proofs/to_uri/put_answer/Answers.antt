@@ -1,5 +1,5 @@
-use Rattle.iri_cli.proofs.Common.{◌≡◌, ◌≤◌, ◌+◌, ◌++◌, ◌∷◌, [], ◌∙◌, Some, true, false, ap, arith, length, refl, rules, sym}
-use Rattle.iri_cli.proofs.Common.{codes, base_text, split_text}
+use Rattle.iri_cli.proofs.Common.{◌++◌, ◌∷◌, [], ◌∙◌, Some, true, false, ap, arith, length, refl, rules, sym}
+use Rattle.iri_cli.proofs.Common.{codes, base_text}
 use Rattle.iri_cli.proofs.CanonLemmas.{said_line, said_room}
 use Rattle.iri_cli.proofs.PutLemmas.{puts_so}
 use Rattle.iri_cli.proofs.ToUriLemmas.{answer_of_reference, answer_of_fault}
