@@ -63,7 +63,8 @@ one_line_command s m n (Robots t) (Robots u) e f =
 one_line_command s m n a b e f =
     let first = ap (letter 0) e in
     let second = ap (letter 1) e in
-    absurd (omega (arith, first, second))
+    let third = ap (letter 2) e in
+    absurd (omega (arith, first, second, third))
 
 no_line_command : (a : LineCommand) → (named a).word ≢ codes "gen"
 no_line_command Expand e = let first = ap (letter 0) e in omega (arith, first)

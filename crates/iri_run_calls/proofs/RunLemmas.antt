@@ -13,6 +13,7 @@ use Rattle.iri_cli.specs.declared.run.words.Command.TheVariants.{Lines, Gen, Tel
 use Rattle.iri_cli.proofs.BytesLemmas.{canonical_answers, grammar_is_spec}
 use Rattle.iri_cli.proofs.LinksLemmas.{lax_answers_are_links}
 use Rattle.iri_cli.proofs.PairsLemmas.{answers_are_of_canon}
+use Rattle.iri_cli.proofs.PartsLemmas.{answers_are_taken_apart}
 use Rattle.iri_cli.proofs.ToUriLemmas.{answers_are_canonical_uris}
 use Rattle.iri_cli.proofs.ToolLaws.{answers_are_expansions, answers_are_links, answers_are_verdicts, live_lines_share_entries}
 use Rattle.iri_cli.proofs.WordLemmas.{obeyed, unknown}
@@ -30,6 +31,7 @@ runs_words words old new status command is done =
       gens = λ grammar count. for (Gen grammar count);
       canonical = λ mode grammar _ base line taken none. canonical_answers (tests_of grammar) mode (grammar_is_spec grammar) base line taken none;
       canonical_uris = λ mode grammar _. answers_are_canonical_uris (tests_of grammar) mode (grammar_is_spec grammar);
+      parts = λ mode grammar _. answers_are_taken_apart (tests_of grammar) mode (grammar_is_spec grammar);
       register = λ mode grammar _. live_lines_share_entries (tests_of grammar) mode (grammar_is_spec grammar);
       links = λ mode grammar _. answers_are_links (tests_of grammar) mode (grammar_is_spec grammar);
       lax = λ mode grammar _. lax_answers_are_links (tests_of grammar) mode;

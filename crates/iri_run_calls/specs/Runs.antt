@@ -11,6 +11,7 @@ use Rattle.iri_cli.specs.generator.References.{gen_text}
 use Rattle.iri_cli.specs.help.Notices.{MakesText, Tells, notice_text}
 use Rattle.iri_cli.specs.links.FieldValues.{AnswersAreLinks, LaxAnswersAreLinks}
 use Rattle.iri_cli.specs.pairs.OfCanon.{AnswersAreOfCanon}
+use Rattle.iri_cli.specs.parts.Answers.{AnswersAreTakenApart}
 use Rattle.iri_cli.specs.register.Shared.{LiveLinesShareEntries}
 use Rattle.iri_cli.specs.robots.Verdicts.{AnswersAreVerdicts}
 use Rattle.iri_cli.specs.to_uri.Answers.{AnswersAreCanonicalUris}
@@ -20,7 +21,7 @@ use Rattle.iri_cli.specs.declared.run.words.Command.{Command}
 use Rattle.iri_cli.specs.declared.run.words.Command.TheVariants.{Lines, Gen, Tell}
 use Rattle.iri_cli.specs.declared.run.words.Grammar.{Grammar}
 use Rattle.iri_cli.specs.declared.run.words.LineCommand.{LineCommand}
-use Rattle.iri_cli.specs.declared.run.words.LineCommand.TheVariants.{Canon, ToUri, Register, Links, LaxLinks, Docs, Pairs}
+use Rattle.iri_cli.specs.declared.run.words.LineCommand.TheVariants.{Canon, ToUri, Parts, Register, Links, LaxLinks, Docs, Pairs}
 use Rattle.iri_cli.specs.declared.help.Notice.{Notice}
 
 -- The contract of the program's `run`.
@@ -35,6 +36,8 @@ pub record RunsWords (words : List (List ℕ)) (old new : Outside) (status : ℕ
       → AnswersAreCanonicalIn (tests_of grammar) mode
   pub canonical_uris : (mode : CanonMode) (grammar : Grammar) → IsCommand words (Lines ToUri mode grammar)
       → AnswersAreCanonicalUris (tests_of grammar) mode
+  pub parts : (mode : CanonMode) (grammar : Grammar) → IsCommand words (Lines Parts mode grammar)
+      → AnswersAreTakenApart (tests_of grammar) mode
   pub register : (mode : CanonMode) (grammar : Grammar) → IsCommand words (Lines Register mode grammar)
       → LiveLinesShareEntries (tests_of grammar) mode
   pub links : (mode : CanonMode) (grammar : Grammar) → IsCommand words (Lines Links mode grammar) → AnswersAreLinks (tests_of grammar) mode
