@@ -8,7 +8,7 @@ pub use Rattle.std.proofs.lemmas.List.{nil_from_length, drop_all}
 pub use Rattle.std.proofs.lemmas.Str.{chars-nil, is_utf8-from_IsUtf8, len_utf8_bounds, IsCharBoundary-at_seam, IsCharBoundary-after_ascii}
 pub use Rattle.std.specs.Char.{encode_utf8, is_ascii_hexdigit, len_utf8, is_ascii_digit}
 pub use Rattle.std.specs.List.{flat_map, list_all}
-pub use Rattle.std.specs.Prelude.{OnOk, ◌==◌, is_some, nat_le}
+pub use Rattle.std.specs.Prelude.{OnOk, ◌==◌, nat_le}
 pub use Rattle.std.specs.Str.{IsUtf8, chars, is_utf8, encode_utf8_all, IsCharBoundary}
 pub use Rattle.std.specs.Str.Iter.{chars_rest}
 pub use Rattle.std.specs.Str.Lossy.{utf8_valid_len}
@@ -26,7 +26,7 @@ pub use Rattle.iri_grammar.specs.Over.{over}
 unfoldable pub use Rattle.iri_grammar.specs.Over.{over_from}
 pub use Rattle.iri_grammar.specs.Pieces.{pieces}
 pub use Rattle.iri_grammar.specs.Runs.{run_of}
-pub use Rattle.iri_percent.specs.Encoding.{encoded_char, keeps}
+pub use Rattle.iri_percent.specs.Encoding.{encoded_char}
 unfoldable pub use Rattle.iri_percent.specs.Encoding.{encoded}
 pub use Rattle.iri_percent.specs.Units.{TextUnit, Plain, first_unit, units}
 pub use Rattle.iri_text.proofs.CharSteps.{first_char}
@@ -49,7 +49,8 @@ unfoldable pub use Rattle.iri_template.specs.Reading.{pieces_from}
 pub use Rattle.iri_template.specs.ShownValues.{ShownValue, undefined, string, list, pairs}
 pub use Rattle.iri_template.specs.Tells.{Telling, later, always, WhereTold, MovesBy}
 pub use Rattle.iri_template.specs.Template.{Modifier, whole, explode, prefix, VarSpec, Piece, literal, triplet, expression, operator_text}
-pub use Rattle.iri_template.specs.Template.{has_some, varspec_text, piece_text, literal_char, is_varspec, modifier_text, template_text, names_of}
+pub use Rattle.iri_template.specs.Template.{has_some, varspec_text, piece_text, literal_char, is_varspec, modifier_text, template_text}
+pub use Rattle.iri_template.specs.Template.{names_of}
 pub use Rattle.iri_template.specs.Texts.{text}
 pub use Rattle.iri_template.specs.TypeFaults.{is_mistyped, placed_type_fault, type_fault}
 pub use Rattle.iri_template.specs.Writings.{StopsAt, IsRefused, EndsAs, CallsUpTo}

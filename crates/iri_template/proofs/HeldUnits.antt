@@ -1,17 +1,19 @@
 -- The units of what is held back of a value, and of what follows it.
-use Rattle.iri_template.proofs.Common.{◌≡◌, ℕ, zero, suc, ◌+◌, ◌*◌, ◌-◌, ◌<◌, ◌≤◌, Bool, true, false, cond, not, ◌&&◌, ◌||◌, List, [], ◌∷◌, ◌++◌}
+use Rattle.iri_template.proofs.Common.{◌≡◌, ℕ, zero, suc, ◌+◌, ◌*◌, ◌-◌, ◌<◌, ◌≤◌, Bool, true, false, cond, not, ◌&&◌, ◌||◌, List, [], ◌∷◌}
+use Rattle.iri_template.proofs.Common.{◌++◌}
 use Rattle.iri_template.proofs.Common.{Option, Some, None, length, take, refl, sym, ◌∙◌, ap, subst, arith, append_assoc, append-nil}
-use Rattle.iri_template.proofs.Common.{◌==◌, length-append, flat_map, list_all, is_ascii_hexdigit, encode_utf8, both, not-true, nat_tests, chars-nil, Tests}
-use Rattle.iri_template.proofs.Common.{any_char, TextUnit, Plain, first_unit, units, limited, kept_unit, encoded_char, lacks, fewer, written_units, before, by_test, IsUtf8, chars}
-use Rattle.iri_template.proofs.Common.{written_chars, stays, octet_units, held_text, held_units, begun_units, are_begun, lone_units}
+use Rattle.iri_template.proofs.Common.{◌==◌, length-append, flat_map, list_all, is_ascii_hexdigit, encode_utf8, both, nat_tests, chars-nil}
+use Rattle.iri_template.proofs.Common.{Tests}
+use Rattle.iri_template.proofs.Common.{any_char, TextUnit, Plain, units, limited, kept_unit, encoded_char, lacks, fewer, written_units}
+use Rattle.iri_template.proofs.Common.{before, by_test, IsUtf8, chars}
+use Rattle.iri_template.proofs.Common.{written_chars, stays, octet_units, begun_units, are_begun, lone_units}
 use Rattle.std.proofs.Common.{eqb-true, eq-eqb, ltb, ltb-true, ltb-false, ◌/◌}
 use Rattle.std.proofs.lemmas.Bool.{lt-ltb, le-ltb, agree_below, agree_below_at}
 use Rattle.std.proofs.lemmas.List.Folds.{list_all-append}
 use Rattle.std.proofs.lemmas.Grind.{flat_map-append}
 use Rattle.std.proofs.lemmas.List.{take_all}
-use Rattle.std.proofs.lemmas.Str.{length-encode, encode_ascii, encodes-chars}
+use Rattle.std.proofs.lemmas.Str.{encode_ascii, encodes-chars}
 use Rattle.std.specs.Char.{digit_value}
-use Rattle.std.specs.Int.{is_in_range}
 use Rattle.std.specs.Prelude.{nat_lt, nat_eq}
 use lib.Utf8.{encode, encodes, next}
 use Rattle.iri_grammar.specs.Classes.{IsSpec}
@@ -21,8 +23,10 @@ use Rattle.iri_grammar.specs.inside.Runs.{begins_with_more}
 use Rattle.iri_percent.specs.CharUnits.{plains}
 use Rattle.iri_percent.specs.Units.{Char, Lone, Stray, is_triplet, octet, octets, first_char, units_from, well_formed}
 use Rattle.iri_grammar.proofs.units.FirstUnits.{hex_is_ascii}
-use Rattle.iri_percent.proofs.units.AtStart.{Spells, none, more, first_char_is, char_first, continuation_none, encode_bytes, is_continuation}
-use Rattle.iri_percent.proofs.units.AtStart.{octets_other, hex_apart, octets_triplet, none_before, BeginsChar, units_plain, units_plains, units_lone, units_char, length-spelled}
+use Rattle.iri_percent.proofs.units.AtStart.{Spells, none, more, first_char_is, char_first, continuation_none, encode_bytes}
+use Rattle.iri_percent.proofs.units.AtStart.{is_continuation}
+use Rattle.iri_percent.proofs.units.AtStart.{octets_other, hex_apart, octets_triplet, none_before, BeginsChar, units_plain, units_plains}
+use Rattle.iri_percent.proofs.units.AtStart.{units_lone, units_char, length-spelled}
 use Rattle.iri_template.specs.inside.Held.{begun_text, goes_on, has_digit, width, continues, all_continue, units_of_char, shown_octets}
 use Rattle.iri_template.specs.declared.held.Begun.{Begun}
 use Rattle.iri_template.specs.declared.held.Begun.TheVariants.{Nothing, Percent, Digit}
@@ -34,7 +38,8 @@ take_prefix (suc n) [] vs = let e : suc n ≡ suc n - 0 = omega arith in ap (λ 
 take_prefix (suc n) (u ∷ us) vs = let e : n - length us ≡ suc n - suc (length us) = omega arith in
     ap (λ l. u ∷ l) (take_prefix n us vs ∙ ap (λ k. take n us ++ take k vs) e)
 
-limited_both : {U : Type 0} (left : Option ℕ) (us vs : List U) → limited left (us ++ vs) ≡ limited left us ++ limited (fewer left (length us)) vs
+limited_both : {U : Type 0} (left : Option ℕ) (us vs : List U)
+    → limited left (us ++ vs) ≡ limited left us ++ limited (fewer left (length us)) vs
 limited_both None us vs = refl
 limited_both (Some n) us vs = take_prefix n us vs
 
@@ -329,7 +334,8 @@ no_char : first_char [] ≡ None
 unfolding first_char
 no_char = ap (well_formed []) chars-nil
 
-pub octets_closed : (t r : List ℕ) (missing : ℕ) → are_begun t missing ≡ true → IsClosed missing r → units (t ++ r) ≡ octet_units t ++ units r
+pub octets_closed : (t r : List ℕ) (missing : ℕ) → are_begun t missing ≡ true → IsClosed missing r
+    → units (t ++ r) ≡ octet_units t ++ units r
 octets_closed [] r m h closed = ap (λ o. units_of_char [] o ++ units r) (sym no_char)
 octets_closed (x ∷ t) r m h closed = at (begins x t m h)
   where
@@ -444,7 +450,8 @@ char_shown s (Some (suc n)) t c =
     let all : take (suc n) (Char c t ∷ []) ≡ Char c t ∷ [] = take_all (suc n) (Char c t ∷ []) (omega arith) in
     ap (flat_map (kept_unit s)) all ∙ append-nil t ∙ sym (rw (le-ltb (suc n) 1 (omega arith)) refl)
 
-lones_shown : (s : Tests) (left : Option ℕ) (t os : List ℕ) → Spells t os → written_units s left (lone_units t) ≡ shown_of left t (lone_units t)
+lones_shown : (s : Tests) (left : Option ℕ) (t os : List ℕ) → Spells t os
+    → written_units s left (lone_units t) ≡ shown_of left t (lone_units t)
 lones_shown s None t os k =
     let n = length (lone_units t) in
     ap (flat_map (kept_unit s)) (sym (take_all n (lone_units t) (omega arith))) ∙ lones_text s n t os k
@@ -485,13 +492,6 @@ encodes_lack (x ∷ cs) h =
 pub chars_lack : (t : List ℕ) → IsUtf8 t → lacks 37 t ≡ true → lacks 37 (chars t) ≡ true
 chars_lack t u h = encodes_lack (chars t) (subst (λ (x : List ℕ). lacks 37 x ≡ true) (sym (encodes-chars t u)) h)
 
-pub before-lacks : (c : ℕ) (t : List ℕ) → lacks c (before c t) ≡ true
-before-lacks c [] = refl
-before-lacks c (x ∷ xs) = elim (x == c) as (λ b. (x == c) ≡ b → lacks c (cond b [] (x ∷ before c xs)) ≡ true) [
-  | true ↦ λ _. refl
-  | false ↦ λ e. rw e (before-lacks c xs)
-] refl
-
 -- ---- what is read, as what is held back goes on
 -- a character that is held back
 pub joined_text : (t b d : List ℕ) (c : ℕ) (r : List ℕ) → d ≡ b ++ c ∷ [] → (t ++ b) ++ c ∷ r ≡ (t ++ d) ++ r
@@ -511,13 +511,15 @@ unfolding any_char is_ascii_any is_ascii_reg_name is_ascii_unreserved is_sub_del
 any_percent s k = rw (k.ucs_ascii 37 (omega arith), k.priv_ascii 37 (omega arith)) refl
 
 stray_written : (s : Tests) → IsSpec s → kept_unit s Stray ≡ encoded_char (any_char s) 37
-stray_written s k = sym (ap (λ b. cond b (encode_utf8 37) (triplets (encode_utf8 37))) (any_percent s k) ∙ ap triplets (encode_ascii 37 (omega arith)))
+stray_written s k = sym (ap (λ b. cond b (encode_utf8 37) (triplets (encode_utf8 37))) (any_percent s k)
+    ∙ ap triplets (encode_ascii 37 (omega arith)))
 
 nothing_more : {X Y : Type 0} (f : X → List ℕ) (g : Y → List ℕ) (n : ℕ) → flat_map f (take n []) ≡ flat_map g (take n [])
 nothing_more f g zero = refl
 nothing_more f g (suc n) = refl
 
-pub begun_written : (s : Tests) (left : Option ℕ) (b : Begun) → IsSpec s → written_chars s true left (begun_text b) ≡ written_units s left (begun_units b)
+pub begun_written : (s : Tests) (left : Option ℕ) (b : Begun) → IsSpec s
+    → written_chars s true left (begun_text b) ≡ written_units s left (begun_units b)
 begun_written s None Nothing k = refl
 begun_written s (Some n) Nothing k = nothing_more (encoded_char (any_char s)) (kept_unit s) n
 begun_written s None Percent k = ap (λ l. l ++ []) (sym (stray_written s k))

@@ -1,7 +1,7 @@
 -- Whether a text is empty once it is encoded.
-use Rattle.iri_template.proofs.Common.{◌≡◌, ◌≢◌, ℕ, zero, suc, ◌-◌, cond, false, List, [], ◌∷◌, ◌++◌, take, refl, sym, ◌∙◌, ap, subst}
-use Rattle.iri_template.proofs.Common.{arith, append-nil, Result, Ok, Err, ◌<◌, Bool, true, Option, None, Some, length, nat_le}
-use Rattle.iri_template.proofs.Common.{length-append, ◌==◌, flat_map, encode_utf8, IsUtf8, chars, encode_utf8_all, chars-nil}
+use Rattle.iri_template.proofs.Common.{◌≡◌, ℕ, zero, suc, cond, false, List, [], ◌∷◌, ◌++◌, take, refl, sym, ◌∙◌, ap}
+use Rattle.iri_template.proofs.Common.{arith, ◌<◌, Bool, true, Option, None, Some, length, nat_le}
+use Rattle.iri_template.proofs.Common.{length-append, ◌==◌, flat_map, encode_utf8, IsUtf8, chars, encode_utf8_all}
 use Rattle.iri_template.proofs.Common.{len_utf8_bounds, nat_tests, Tests, unreserved, chars_of_empty}
 use Rattle.iri_template.proofs.Common.{encoded_char, limited, shown_text, is_used_up}
 use Rattle.std.proofs.lemmas.Str.{chars-append, encodes-chars, length-encode}
@@ -43,7 +43,8 @@ some_limited kept None (c ∷ cs) h k = some_more kept c cs
 some_limited kept (Some zero) (c ∷ cs) h k = cc
 some_limited kept (Some (suc n)) (c ∷ cs) h k = some_more kept c (take n cs)
 
-none_limited : (kept : ℕ → Bool) (count : Option ℕ) (cs : List ℕ) → cs ≡ [] → (length (flat_map (encoded_char kept) (limited count cs)) == 0) ≡ true
+none_limited : (kept : ℕ → Bool) (count : Option ℕ) (cs : List ℕ) → cs ≡ []
+    → (length (flat_map (encoded_char kept) (limited count cs)) == 0) ≡ true
 none_limited kept None [] e = refl
 none_limited kept None (c ∷ cs) e = cc
 none_limited kept (Some zero) cs e = refl

@@ -1,7 +1,8 @@
 -- How calls that read a value piece by piece compose.
-use Rattle.iri_template.proofs.Common.{◌≡◌, ℕ, zero, suc, ◌-◌, true, false, List, [], ◌∷◌, ◌++◌, Option, Some, None, length, take, refl, sym, ◌∙◌, ap}
-use Rattle.iri_template.proofs.Common.{subst, arith, append_assoc, append-nil, Result, Ok, Err, IsErr, AreSinkLaws, Shows, OnOk, shown_none, shows_all}
-use Rattle.iri_template.proofs.Common.{shows_then, shows_exit, Stop, Tests, Reads, kept_rest, is_used_up, written_units, units, TextUnit, limited}
+use Rattle.iri_template.proofs.Common.{◌≡◌, ℕ, zero, suc, true, false, List, [], ◌++◌, Option, Some, None, length, refl, sym, ◌∙◌, ap}
+use Rattle.iri_template.proofs.Common.{subst, append_assoc, append-nil, Result, Ok, Err, IsErr, AreSinkLaws, Shows, OnOk, shown_none}
+use Rattle.iri_template.proofs.Common.{shows_all}
+use Rattle.iri_template.proofs.Common.{shows_then, shows_exit, Stop, Tests, Reads, kept_rest, is_used_up, written_units, units, TextUnit}
 use Rattle.iri_template.proofs.Common.{Bool, IsUtf8, chars, fewer, held_text, lacks, written_chars, shown_text, IsHeld, held_units}
 use Rattle.iri_template.proofs.HeldUnits.{settled, run_settled, chars_both, held_closed, ends_closed}
 use Rattle.iri_percent.specs.Units.{units_from}
@@ -70,7 +71,8 @@ module _ {V W : Type 0} {rest_of : V → List ℕ → List ℕ} {puts halts : W 
       → HasReadUpTo rest_of puts halts stops a w all c u ds
   up_to_more cs ds e p q = record { before = p.before ++ cs; whole = further cs ds e p; reads = reads_then laws p.reads q }
 
-  pub up_to_exit : {b c d : V} {v u : W} {rest : List ℕ} {e : Stop} {r : Result (Unit {0}) Stop} (cs ds : List ℕ) → rest ≡ cs ++ ds → IsErr r
+  pub up_to_exit : {b c d : V} {v u : W} {rest : List ℕ} {e : Stop} {r : Result (Unit {0}) Stop} (cs ds : List ℕ) → rest ≡ cs ++ ds
+      → IsErr r
       → HasReadUpTo rest_of puts halts stops a w all b v rest → Reads rest_of puts halts stops b v cs c u (Err e)
       → Reads rest_of puts halts stops a w all d u r
   up_to_exit {d = d} {u = u} {r = r} cs ds e is p q = subst (λ l. Reads rest_of puts halts stops a w l d u r) (sym (further cs ds e p))
@@ -175,7 +177,8 @@ module _ {W : Type 0} (s : Tests) {puts halts : W → List ℕ → W → Type 0}
 
 module _ {S W : Type 0} (s : Tests) where
   -- a whole value
-  whole : (a : ValueSink S W) (t : List ℕ) → held_text a.state ≡ [] → shown_text s a.allow a.state.left t ≡ value_rest s a.allow a.state (chars t ++ [])
+  whole : (a : ValueSink S W) (t : List ℕ) → held_text a.state ≡ []
+      → shown_text s a.allow a.state.left t ≡ value_rest s a.allow a.state (chars t ++ [])
   whole a t none = at a.allow ∙ ap (value_rest s a.allow a.state) (sym (append-nil (chars t)))
     where
       at : (allow : Bool) → shown_text s allow a.state.left t ≡ value_rest s allow a.state (chars t)
@@ -184,7 +187,8 @@ module _ {S W : Type 0} (s : Tests) where
 
 module _ {S W : Type 0} (s : Tests) {puts halts : W → List ℕ → W → Type 0} {stops : W → ℕ} (laws : AreSinkLaws puts halts) where
   -- what a call has read of a text, as what it has done to the sink that encodes
-  pub value_put : (a b : ValueSink S W) (t : List ℕ) (x : Result (Unit {0}) Stop) → IsUtf8 t → b.to.ghost_name ≡ a.to.ghost_name → b.allow ≡ a.allow
+  pub value_put : (a b : ValueSink S W) (t : List ℕ) (x : Result (Unit {0}) Stop) → IsUtf8 t → b.to.ghost_name ≡ a.to.ghost_name
+      → b.allow ≡ a.allow
       → Reads (value_rest s a.allow) puts halts stops a.state a.to.now (chars t) b.state b.to.now x
       → Shows (ValuePuts s puts) (ValueHalts s halts) (λ (v : ValueSink S W). stops v.to.now) a t b x
   value_put a b t (Ok y) u same allow q = record {

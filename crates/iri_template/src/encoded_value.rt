@@ -1,14 +1,16 @@
-//! The text of a value, or its first characters, encoded as it comes, in whatever pieces. A prefix counts characters from the
-//! beginning of a value, of which one in percent-encoded octets is one (RFC 6570 section 2.4.1). Each character that isn't
-//! allowed becomes the percent-encoded octets of its UTF-8; where reserved characters are allowed, percent-encoded octets are
-//! too (section 3.2.1).
-ghost use Rattle.std.specs.Prelude.{◌≡◌, ◌≤◌, ◌<◌, ◌∷◌, ◌++◌, [], ◌-◌, ◌==◌, ◌&&◌, nat_lt, true, false, length, take, OnOk, None, MatchOption};
+//! The text of a value, or its first characters, encoded as it comes, in whatever pieces. A prefix counts characters
+//! from the beginning of a value, of which one in percent-encoded octets is one (RFC 6570 section 2.4.1). Each character
+//! that isn't allowed becomes the percent-encoded octets of its UTF-8; where reserved characters are allowed, so are
+//! percent-encoded octets (section 3.2.1).
+ghost use Rattle.std.specs.Prelude.{◌≡◌, ◌≤◌, ◌<◌, ◌∷◌, ◌++◌, [], ◌-◌, ◌==◌, ◌&&◌, nat_lt, true, false, length, take};
+ghost use Rattle.std.specs.Prelude.{OnOk, None, MatchOption};
 ghost use Rattle.std.specs.Bool.{OnTrue};
 ghost use Rattle.std.specs.Char.{is_ascii_hexdigit};
 ghost use Rattle.std.specs.Str.{chars};
 ghost use Rattle.iri_text.specs.Shown.{Shows};
 ghost use Rattle.iri_template.specs.Expansion.{limited, shown_text};
-ghost use Rattle.iri_template.specs.inside.Held.{IsHeld, fewer, goes_on, held_text, held_units, begun_units, octet_units, is_used_up};
+ghost use Rattle.iri_template.specs.inside.Held.{IsHeld, fewer, goes_on, held_text, held_units, begun_units};
+ghost use Rattle.iri_template.specs.inside.Held.{octet_units, is_used_up};
 ghost use Rattle.iri_template.specs.inside.Held.{are_begun, has_digit, continues};
 ghost use Rattle.iri_template.specs.inside.Held.{written_units, written_chars};
 ghost use Rattle.iri_template.specs.inside.Reads.{Reads, kept_rest};
@@ -93,7 +95,8 @@ fn cut_chars(text: &str, most: u16) -> (&str, u16)
 
 #[tactic(auto, unfolding(iri_percent::specs::Encoding::encoded))]
 fn put_all<S: Spec, W: TextSink>(sink: &mut W, allow: bool, text: &str) -> Result<(), Stop>
-    ensures { Shows W.puts W.halts W.stops sink.old (written_chars S.tests allow None (chars text.now)) sink.new result }
+    ensures { Shows W.puts W.halts W.stops sink.old
+        (written_chars S.tests allow None (chars text.now)) sink.new result }
 {
     if allow {
         PercentEncoded::<&str, S>::characters(text).show(sink)
@@ -128,7 +131,8 @@ fn put_plain<S: Spec, W: TextSink>(
     left: &mut Option<u16>,
     c: char,
 ) -> Result<(), Stop>
-    ensures shows { Shows W.puts W.halts W.stops sink.old (written_chars S.tests true left.old (c ∷ [])) sink.new result }
+    ensures shows { Shows W.puts W.halts W.stops sink.old
+        (written_chars S.tests true left.old (c ∷ [])) sink.new result }
     ensures left { left.new ≡ fewer left.old 1 }
 {
     let mut buf = [0u8; 4];
@@ -228,8 +232,8 @@ fn take_octet<S: Spec, W: TextSink>(
     put_octets::<S, W>(sink, state)
 }
 
-// Takes the octet that two hex digits spell. Where it doesn't continue the character that is held back, it is the first of
-// the next.
+// Takes the octet that two hex digits spell. Where it doesn't continue the character that is held back, it is the first
+// of the next.
 fn put_octet<S: Spec, W: TextSink>(
     sink: &mut W,
     state: &mut Reading,
@@ -256,7 +260,8 @@ fn put_octet<S: Spec, W: TextSink>(
 fn join<S: Spec, W: TextSink>(sink: &mut W, state: &mut Reading, c: u8) -> Result<(), Stop>
     requires held { IsHeld state.old }
     requires goes_on { goes_on state.old.begun c ≡ true }
-    ensures reads { Reads (kept_rest S.tests) W.puts W.halts W.stops state.old sink.old (c ∷ []) state.new sink.new result }
+    ensures reads { Reads (kept_rest S.tests) W.puts W.halts W.stops state.old sink.old
+        (c ∷ []) state.new sink.new result }
     ensures held { IsHeld state.new }
 {
     match state.begun {
@@ -277,7 +282,8 @@ fn join<S: Spec, W: TextSink>(sink: &mut W, state: &mut Reading, c: u8) -> Resul
 
 fn put_char<S: Spec, W: TextSink>(sink: &mut W, state: &mut Reading, c: char) -> Result<(), Stop>
     requires { IsHeld state.old }
-    ensures reads { Reads (kept_rest S.tests) W.puts W.halts W.stops state.old sink.old (c ∷ []) state.new sink.new result }
+    ensures reads { Reads (kept_rest S.tests) W.puts W.halts W.stops state.old sink.old
+        (c ∷ []) state.new sink.new result }
     ensures held { IsHeld state.new }
 {
     if state.begun.goes_on(c) {
@@ -330,8 +336,8 @@ fn put_piece<S: Spec, W: TextSink>(
     }
 }
 
-// Writes what a text settles in which reserved characters and percent-encoded octets stay. After the last character that may
-// be written it isn't looked at.
+// Writes what a text settles in which reserved characters and percent-encoded octets stay. After the last character
+// that may be written it isn't looked at.
 fn put_kept<S: Spec, W: TextSink>(sink: &mut W, state: &mut Reading, text: &str) -> Result<(), Stop>
     requires { IsHeld state.old }
     ensures reads { Reads (kept_rest S.tests) W.puts W.halts W.stops state.old sink.old

@@ -1,5 +1,5 @@
-//! What is held back of a value that comes in pieces: percent-encoded octets of a character whose others may follow, and the
-//! beginning of one more.
+//! What is held back of a value that comes in pieces: percent-encoded octets of a character whose others may follow,
+//! and the beginning of one more.
 ghost use Rattle.std.specs.Prelude.{◌≡◌, ◌≤◌, ◌<◌, ◌*◌, ◌++◌, ◌∷◌, [], ◌==◌, length, take, true};
 ghost use Rattle.std.specs.Char.{is_ascii_hexdigit};
 ghost use Rattle.iri_template.specs.inside.Held.{width, continues, goes_on, octet_units, shown_octets};
@@ -29,7 +29,8 @@ impl Begun {
     }
 }
 
-// How many octets a character has whose first one begins with this hex digit (RFC 3629 section 3); one where none begins.
+// How many octets a character has whose first one begins with this hex digit (RFC 3629 section 3); one where it begins
+// none.
 pub(crate) fn width(digit: u8) -> u8
     ensures { result ≡ width digit }
 {

@@ -1,12 +1,12 @@
 -- What is held back of a value that comes in pieces, and the units that it is where nothing follows that goes on with it.
-use Rattle.std.specs.Prelude.{◌≡◌, ◌<◌, ℕ, zero, ◌+◌, ◌*◌, ◌-◌, ◌/◌, Bool, true, false, cond, not, ◌&&◌, ◌||◌, ◌==◌, nat_lt, List, [], ◌∷◌, ◌++◌}
-use Rattle.std.specs.Prelude.{Option, Some, None, is_some, length, take}
+use Rattle.std.specs.Prelude.{◌≡◌, ℕ, zero, ◌+◌, ◌*◌, ◌-◌, Bool, true, false, cond, ◌&&◌, ◌||◌, ◌==◌, nat_lt, List, [], ◌∷◌, ◌++◌}
+use Rattle.std.specs.Prelude.{Option, Some, None, length, take}
 use Rattle.std.specs.Char.{is_ascii_hexdigit}
 use Rattle.std.specs.List.{flat_map}
 use Rattle.iri_grammar.specs.Characters.{percent_sign}
 use Rattle.iri_grammar.specs.Classes.{Tests, any_char, unreserved}
 use Rattle.iri_percent.specs.Encoding.{encoded_char}
-use Rattle.iri_percent.specs.Units.{TextUnit, Plain, Char, Lone, Stray, is_triplet, octets, first_char, units}
+use Rattle.iri_percent.specs.Units.{TextUnit, Plain, Char, Lone, Stray, is_triplet, octets, first_char}
 use Rattle.iri_template.specs.Expansion.{limited, kept_unit}
 use Rattle.iri_template.specs.declared.held.Begun.{Begun}
 use Rattle.iri_template.specs.declared.held.Begun.TheVariants.{Nothing, Percent, Digit}

@@ -1,5 +1,7 @@
-use Rattle.iri_template.proofs.Common.{◌≡◌, ℕ, suc, List, [], ◌∷◌, ◌+◌, ◌-◌, ◌++◌, length, take, sym, ◌∙◌, ap, subst, arith, refl, append_assoc, length-append}
-use Rattle.iri_template.proofs.Common.{IsUtf8, chars, chars_rest, chars_of_empty, first_char, encode_utf8, IsCharBoundary, IsCharBoundary-at_seam}
+use Rattle.iri_template.proofs.Common.{◌≡◌, ℕ, suc, List, [], ◌+◌, ◌-◌, ◌++◌, length, take, sym, ◌∙◌, ap, subst, arith, refl, append_assoc}
+use Rattle.iri_template.proofs.Common.{length-append}
+use Rattle.iri_template.proofs.Common.{IsUtf8, chars, chars_rest, chars_of_empty, first_char, encode_utf8, IsCharBoundary}
+use Rattle.iri_template.proofs.Common.{IsCharBoundary-at_seam}
 use Rattle.std.proofs.Math.Seq.{take-append_seam}
 use Rattle.std.proofs.lemmas.List.{take_all}
 use Rattle.std.proofs.lemmas.Str.{chars-append}
@@ -8,9 +10,11 @@ use Rattle.iri_template.proofs.encoded_value.cut_chars.Invariants.{IsPast}
 use Rattle.iri_template.proofs.encoded_value.cut_chars.Goals as goal
 
 begun : (t rest : List ℕ) (most : ℕ) → rest ≡ t → IsUtf8 t → IsPast t rest most most
-begun t rest most e u = subst (λ (l : List ℕ). IsPast t l most most) (sym e) (record { past = []; whole = refl; utf8 = u; count = omega arith })
+begun t rest most e u = subst (λ (l : List ℕ). IsPast t l most most) (sym e)
+    (record { past = []; whole = refl; utf8 = u; count = omega arith })
 
-one_more : (t rest left_over : List ℕ) (most left c : ℕ) → IsPast t rest most (left + 1) → rest ≡ encode_utf8 c ++ left_over → IsPast t left_over most left
+one_more : (t rest left_over : List ℕ) (most left c : ℕ) → IsPast t rest most (left + 1) → rest ≡ encode_utf8 c ++ left_over
+    → IsPast t left_over most left
 one_more t rest next most left c p e =
     let f = first_char rest next c p.utf8 e in
     let count : length (chars rest) ≡ suc (length (chars next)) = ap length f.first in

@@ -1,9 +1,10 @@
-use Rattle.iri_template.proofs.Common.{◌≡◌, ◌<◌, ℕ, List, true, ◌++◌, length, ◌∙◌, ap, sym, arith, length-append, nat_tests, before, lacks, rules, IsUtf8, chars}
+use Rattle.iri_template.proofs.Common.{◌≡◌, ◌<◌, ℕ, List, true, ◌++◌, length, ◌∙◌, ap, sym, arith, length-append, nat_tests, before, lacks}
+use Rattle.iri_template.proofs.Common.{rules, IsUtf8, chars}
 use Rattle.iri_template.proofs.Common.{encode_utf8, first_char}
 use Rattle.std.proofs.lemmas.Str.{chars-append}
 use Rattle.iri_grammar.proofs.splits.CutLaws.{joined_from}
 use Rattle.iri_grammar.proofs.units.FirstUnits.{char_shorter}
-use Rattle.iri_template.proofs.HeldUnits.{before-lacks}
+use Rattle.iri_grammar.proofs.faults.Scans.{before-lacks}
 use Rattle.iri_template.proofs.encoded_value.next_piece.Goals as goal
 
 pub returns-then-not-is_empty : goal.returns-then-not-is_empty
@@ -11,7 +12,8 @@ returns-then-not-is_empty c =
     let t = c.args.text.now in
     let run = c.cut_before.result.0.now in
     let rest = c.cut_before.result.1.now in
-    let whole : run ++ rest ≡ t = ap (λ l. l ++ rest) c.cut_before.ensures.before ∙ ap (λ l. before 37 t ++ l) c.cut_before.ensures.from ∙ joined_from 37 t in
+    let whole : run ++ rest ≡ t = ap (λ l. l ++ rest) c.cut_before.ensures.before
+        ∙ ap (λ l. before 37 t ++ l) c.cut_before.ensures.from ∙ joined_from 37 t in
     let some : 0 < length run = grind (arith, nat_tests) in
     let u : IsUtf8 run = search rules in
     let none : lacks 37 run ≡ true = ap (lacks 37) c.cut_before.ensures.before ∙ before-lacks 37 t in

@@ -1,4 +1,5 @@
-use Rattle.iri_template.proofs.Common.{◌≡◌, ℕ, Option, true, [], ◌∷◌, ◌++◌, ◌∙◌, ap, sym, subst, Shows, Tests, fewer, written_chars, written_units, begun_units}
+use Rattle.iri_template.proofs.Common.{◌≡◌, ℕ, Option, true, [], ◌∷◌, ◌++◌, ◌∙◌, ap, sym, subst, Shows, Tests, fewer, written_chars}
+use Rattle.iri_template.proofs.Common.{written_units, begun_units}
 use Rattle.iri_template.proofs.Common.{shows_then, shows_exit}
 use Rattle.iri_grammar.specs.Classes.{IsSpec}
 use Rattle.iri_template.proofs.HeldUnits.{begun_written, chars_both}

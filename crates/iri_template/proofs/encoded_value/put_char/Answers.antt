@@ -1,5 +1,5 @@
-use Rattle.iri_template.proofs.Common.{◌≡◌, ℕ, List, false, true, [], ◌∷◌, ◌++◌, ◌∙◌, ap, sym, refl, arith, units, held_text, held_units, IsHeld, lacks, ne_eqb, nat_tests, written_units}
-use Rattle.std.proofs.Common.{eqb-true}
+use Rattle.iri_template.proofs.Common.{◌≡◌, ℕ, List, false, true, [], ◌∷◌, ◌++◌, ◌∙◌, ap, sym, refl, units, held_text, held_units, IsHeld}
+use Rattle.iri_template.proofs.Common.{lacks, ne_eqb, written_units}
 use Rattle.iri_template.proofs.HeldUnits.{held_closed, ends_closed, joined_text}
 use Rattle.iri_template.proofs.Reading.{reads_silently, reads_stopped, reads_after, reads_run}
 use Rattle.iri_template.specs.inside.Held.{goes_on, begun_text}
@@ -7,7 +7,8 @@ use Rattle.iri_template.specs.declared.encoded_value.Reading.{Reading}
 use Rattle.iri_template.proofs.encoded_value.put_char.Goals as goal
 
 -- a character that doesn't go on with what is held back
-apart : (a : Reading) (c : ℕ) → IsHeld a → goes_on a.begun c ≡ false → (r : List ℕ) → units (held_text a ++ (c ∷ r)) ≡ held_units a ++ units (c ∷ r)
+apart : (a : Reading) (c : ℕ) → IsHeld a → goes_on a.begun c ≡ false → (r : List ℕ)
+    → units (held_text a ++ (c ∷ r)) ≡ held_units a ++ units (c ∷ r)
 apart a c h n r = held_closed a.octets (c ∷ r) a.missing a.begun h.octets h.digit n (ends_closed a.missing a.begun (c ∷ r) h.digit n)
 
 pub returns-in_err-put_held-clause-reads : goal.returns-in_err-put_held-clause-reads

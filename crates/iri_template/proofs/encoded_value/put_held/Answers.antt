@@ -1,4 +1,4 @@
-use Rattle.iri_template.proofs.Common.{◌≡◌, ◌++◌, ◌∙◌, ap, sym, subst, length, Shows, fewer, written_units, begun_units, octet_units}
+use Rattle.iri_template.proofs.Common.{◌∙◌, ap, sym, subst, length, Shows, fewer, written_units, begun_units, octet_units}
 use Rattle.iri_template.proofs.Common.{shows_then, shows_exit}
 use Rattle.iri_template.proofs.HeldUnits.{units_both, nothing_units, fewer_none}
 use Rattle.iri_template.proofs.encoded_value.put_held.Goals as goal

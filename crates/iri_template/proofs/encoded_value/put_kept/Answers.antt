@@ -1,4 +1,4 @@
-use Rattle.iri_template.proofs.Common.{◌≡◌, ◌++◌, ◌∙◌, ap, sym, chars, rules, IsUtf8, chars_of_empty, kept_rest}
+use Rattle.iri_template.proofs.Common.{◌++◌, ◌∙◌, ap, sym, chars, rules, IsUtf8, chars_of_empty, kept_rest}
 use Rattle.iri_template.proofs.Reading.{up_to_none, up_to_more, up_to_exit, up_to_last, used_up}
 use Rattle.iri_template.specs.inside.Pieces.{piece_chars}
 use Rattle.iri_template.proofs.encoded_value.put_kept.Goals as goal
@@ -19,7 +19,8 @@ pieces-preserved g c =
 
 pub returns-then-is_used_up-clause-reads : goal.returns-then-is_used_up-clause-reads
 returns-then-is_used_up-clause-reads g c = up_to_last g.met.W.TextSink.rules
-    (used_up g.S.Spec.tests c.pieces.state (chars c.pieces.rest.now) (sym c.is_used_up.ensures ∙ c.if-is_used_up.true)) c.pieces.invariant.far
+    (used_up g.S.Spec.tests c.pieces.state (chars c.pieces.rest.now) (sym c.is_used_up.ensures
+        ∙ c.if-is_used_up.true)) c.pieces.invariant.far
 
 pub returns-in_err-put_piece-clause-reads : goal.returns-in_err-put_piece-clause-reads
 returns-in_err-put_piece-clause-reads g c = up_to_exit g.met.W.TextSink.rules (piece_chars c.in-Some.piece) (chars c.in-Some.following.now)

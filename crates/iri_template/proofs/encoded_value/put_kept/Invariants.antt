@@ -1,4 +1,4 @@
-use Rattle.iri_template.proofs.Common.{◌≤◌, length, IsUtf8, chars, kept_rest, IsHeld}
+use Rattle.iri_template.proofs.Common.{length, IsUtf8, chars, kept_rest, IsHeld}
 use Rattle.iri_template.proofs.Reading.{HasReadUpTo}
 use Rattle.iri_template.proofs.encoded_value.put_kept.Given as goal
 

@@ -1,7 +1,7 @@
-use Rattle.iri_template.proofs.Common.{◌≡◌, ◌<◌, ◌&&◌, ℕ, List, true, false, [], ◌∷◌, ◌++◌, ◌∙◌, ap, sym, arith, append-nil, units, octet_units, both}
+use Rattle.iri_template.proofs.Common.{◌≡◌, ◌&&◌, ℕ, List, true, false, [], ◌∷◌, ◌++◌, ◌∙◌, ap, sym, append-nil, units, octet_units, both}
 use Rattle.std.proofs.Common.{ltb-true}
 use Rattle.std.specs.Prelude.{nat_lt}
-use Rattle.iri_template.proofs.HeldUnits.{begun_more, begun_first, octets_closed, other_closed}
+use Rattle.iri_template.proofs.HeldUnits.{begun_more, octets_closed, other_closed}
 use Rattle.iri_template.proofs.Reading.{reads_stopped, reads_after}
 use Rattle.iri_template.specs.inside.Held.{begun_text, continues}
 use Rattle.iri_template.specs.declared.encoded_value.Reading.{Reading}
@@ -20,7 +20,8 @@ apart : (a : Reading) (high low : ℕ) → IsHeld a → a.begun ≡ Nothing → 
     → nat_lt 0 a.missing && continues high ≡ false → (r : List ℕ)
     → units (held_text a ++ (37 ∷ high ∷ low ∷ r)) ≡ octet_units a.octets ++ units (37 ∷ high ∷ low ∷ r)
 apart a high low h none p q n r =
-    ap (λ b. units ((a.octets ++ begun_text b) ++ 37 ∷ high ∷ low ∷ r)) none ∙ ap (λ l. units (l ++ 37 ∷ high ∷ low ∷ r)) (append-nil a.octets)
+    ap (λ b. units ((a.octets ++ begun_text b) ++ 37 ∷ high ∷ low ∷ r)) none
+        ∙ ap (λ l. units (l ++ 37 ∷ high ∷ low ∷ r)) (append-nil a.octets)
     ∙ octets_closed a.octets (37 ∷ high ∷ low ∷ r) a.missing h.octets (other_closed a.missing high low r p q n)
 
 pub returns-in_err-put_octets-clause-reads : goal.returns-in_err-put_octets-clause-reads

@@ -1,4 +1,4 @@
-use Rattle.iri_template.proofs.Common.{◌≡◌, sym, subst, rules, chars, IsUtf8, Reads, kept_rest}
+use Rattle.iri_template.proofs.Common.{sym, subst, rules, chars, IsUtf8, Reads, kept_rest}
 use Rattle.iri_template.proofs.HeldUnits.{chars_lack}
 use Rattle.iri_template.proofs.Reading.{reads_run}
 use Rattle.iri_template.specs.inside.Pieces.{IsPlainRun, piece_chars}
@@ -15,5 +15,5 @@ returns-in-Run-clause-reads g c =
     let plain = subst (λ p. IsPlainRun a p) c.in-Run.is c.requires.plain in
     subst (λ p. Reads (kept_rest g.S.Spec.tests) w.puts w.halts w.stops a c.args.sink.now (piece_chars p) b c.put_chars.new.sink c.put_chars.result)
     (sym c.in-Run.is)
-    (reads_run g.S.Spec.tests g.met.W.TextSink.rules {b = b} (chars run) plain.0 plain.1 (chars_lack run u plain.2) c.put_chars.ensures.shows
-    plain.0 plain.1 c.put_chars.ensures.left)
+    (reads_run g.S.Spec.tests g.met.W.TextSink.rules {b = b} (chars run) plain.0 plain.1 (chars_lack run u plain.2)
+    c.put_chars.ensures.shows plain.0 plain.1 c.put_chars.ensures.left)

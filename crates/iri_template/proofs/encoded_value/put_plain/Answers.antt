@@ -1,4 +1,5 @@
-use Rattle.iri_template.proofs.Common.{◌≡◌, ℕ, List, true, [], ◌∷◌, ◌++◌, ◌∙◌, ap, sym, subst, append-nil, length, Shows, IsUtf8, chars, chars-nil, encode_utf8}
+use Rattle.iri_template.proofs.Common.{◌≡◌, ℕ, List, true, [], ◌∷◌, ◌∙◌, ap, sym, subst, append-nil, length, Shows, IsUtf8, chars}
+use Rattle.iri_template.proofs.Common.{chars-nil, encode_utf8}
 use Rattle.iri_template.proofs.Common.{first_char, fewer, written_chars}
 use Rattle.iri_template.proofs.encoded_value.put_plain.Goals as goal
 

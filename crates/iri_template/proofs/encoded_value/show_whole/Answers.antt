@@ -1,4 +1,4 @@
-use Rattle.iri_template.proofs.Common.{◌≡◌, [], ◌∙◌, ap, sym, shows_all, shown_none}
+use Rattle.iri_template.proofs.Common.{[], ◌∙◌, ap, shows_all, shown_none}
 use Rattle.iri_template.proofs.Reading.{whole_then, whole_exit, kept_end, chars_end}
 use Rattle.iri_template.specs.inside.Reads.{value_rest}
 use Rattle.iri_template.proofs.encoded_value.show_whole.Goals as goal

@@ -1,4 +1,5 @@
-use Rattle.iri_template.proofs.Common.{◌≡◌, ◌<◌, ℕ, List, [], ◌∷◌, ◌++◌, ◌∙◌, ap, arith, length-append, written_units, units, octet_units, sym, subst, append-nil, are_begun, true}
+use Rattle.iri_template.proofs.Common.{◌≡◌, ◌<◌, [], ◌∷◌, ◌++◌, ◌∙◌, ap, arith, length-append, written_units, units, octet_units, sym}
+use Rattle.iri_template.proofs.Common.{subst, append-nil, are_begun, true}
 use Rattle.iri_template.proofs.HeldUnits.{begun_short, octet_text, octets_closed}
 use Rattle.iri_template.proofs.Reading.{reads_silently, reads_units}
 use Rattle.iri_template.specs.inside.Held.{begun_text}

@@ -1,4 +1,5 @@
-use Rattle.iri_template.proofs.Common.{◌≡◌, ◌≢◌, ◌≤◌, ℕ, Bool, true, false, cond, ◌&&◌, List, [], ◌∷◌, length, drop, refl, sym, ◌∙◌, ap, arith}
+use Rattle.iri_template.proofs.Common.{◌≡◌, ◌≢◌, ◌≤◌, ℕ, Bool, true, false, cond, ◌&&◌, List, [], ◌∷◌, length, drop, refl, sym, ◌∙◌, ap}
+use Rattle.iri_template.proofs.Common.{arith}
 use Rattle.iri_template.proofs.Common.{length-drop, ◌==◌, is_ascii_hexdigit, ne_eqb, nat_tests, nil_from_length, by_test, over, over_from}
 use Rattle.iri_template.proofs.Common.{is_name_char, begins_triplet}
 use Rattle.std.proofs.lemmas.Bool.{and_parts, and_left}
@@ -39,7 +40,8 @@ unfolding over_from
 no_octet x [] h e = refl
 no_octet x (a ∷ []) h e = elim (is_ascii_hexdigit a) as (λ b. (b && false) ≡ false) [ true ↦ refl | false ↦ refl ]
 no_octet x (a ∷ b ∷ t) h e =
-    let k : (is_ascii_hexdigit a && is_ascii_hexdigit b) ≡ false = ap (λ n. (n == 37) && (is_ascii_hexdigit a && is_ascii_hexdigit b)) (sym e) ∙ h in
+    let k : (is_ascii_hexdigit a && is_ascii_hexdigit b) ≡ false =
+        ap (λ n. (n == 37) && (is_ascii_hexdigit a && is_ascii_hexdigit b)) (sym e) ∙ h in
     and_more (is_ascii_hexdigit a) (is_ascii_hexdigit b) (over_from is_name_char 0 t) k
 
 no_unit : (x : ℕ) (t : List ℕ) → begins_triplet (x ∷ t) ≡ false → is_name_char x ≡ false → over is_name_char (x ∷ t) ≡ false
