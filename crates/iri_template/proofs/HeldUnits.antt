@@ -5,7 +5,7 @@ use Rattle.iri_template.proofs.Common.{Option, Some, None, length, take, refl, s
 use Rattle.iri_template.proofs.Common.{◌==◌, length-append, flat_map, list_all, is_ascii_hexdigit, encode_utf8, both, nat_tests, chars-nil}
 use Rattle.iri_template.proofs.Common.{Tests}
 use Rattle.iri_template.proofs.Common.{any_char, TextUnit, Plain, units, limited, kept_unit, encoded_char, lacks, fewer, written_units}
-use Rattle.iri_template.proofs.Common.{before, by_test, IsUtf8, chars}
+use Rattle.iri_template.proofs.Common.{by_test, IsUtf8, chars}
 use Rattle.iri_template.proofs.Common.{written_chars, stays, octet_units, begun_units, are_begun, lone_units}
 use Rattle.std.proofs.Common.{eqb-true, eq-eqb, ltb, ltb-true, ltb-false, ◌/◌}
 use Rattle.std.proofs.lemmas.Bool.{lt-ltb, le-ltb, agree_below, agree_below_at}
