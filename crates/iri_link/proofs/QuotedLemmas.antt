@@ -33,25 +33,25 @@ at_good false c cs n h =
     (λ _ e. (rw (n, e) refl, rw (n, e) refl))
     (λ _ e. (rw (n, e, h) refl, rw (n, e) refl)) refl
 
-module _ (bs : List ℕ) (i : ℕ) (e : Bool) (inside : i < length bs) (same : closes_from e (drop i bs) ≡ closes_from false bs) where
-  split : drop i bs ≡ get_or bs i 0 ∷ drop (i + 1) bs
-  split = let n : suc i ≡ i + 1 = omega arith in subst (λ k. drop i bs ≡ get_or bs i 0 ∷ drop k bs) n (drop-cons bs i 0 inside)
+at_place : (bs : List ℕ) (i : ℕ) → i < length bs → drop i bs ≡ get_or bs i 0 ∷ drop (i + 1) bs
+at_place bs i inside = let n : suc i ≡ i + 1 = omega arith in subst (λ k. drop i bs ≡ get_or bs i 0 ∷ drop k bs) n (drop-cons bs i 0 inside)
 
+module _ (bs : List ℕ) (i : ℕ) (e : Bool) (inside : i < length bs) (same : closes_from e (drop i bs) ≡ closes_from false bs) where
   pub end_found : (i + quoted_len e (drop i bs) ≡ quoted_len false bs) → (not e && get_or bs i 0 == 34) ≡ true → (closes_from false bs ≡ true) × (i ≡ quoted_len false bs)
   end_found counts h =
       let m = at_delimiter e (get_or bs i 0) (drop (i + 1) bs) h in
-      let n : quoted_len e (drop i bs) ≡ 0 = ap (quoted_len e) split ∙ m.1 in
-      (sym same ∙ (ap (closes_from e) split ∙ m.0), omega (arith, counts, n))
+      let n : quoted_len e (drop i bs) ≡ 0 = ap (quoted_len e) (at_place bs i inside) ∙ m.1 in
+      (sym same ∙ (ap (closes_from e) (at_place bs i inside) ∙ m.0), omega (arith, counts, n))
 
   pub end_refused : is_pair_char (get_or bs i 0) ≡ false → closes_from false bs ≡ false
-  end_refused h = sym same ∙ (ap (closes_from e) split ∙ at_bad e (get_or bs i 0) (drop (i + 1) bs) h)
+  end_refused h = sym same ∙ (ap (closes_from e) (at_place bs i inside) ∙ at_bad e (get_or bs i 0) (drop (i + 1) bs) h)
 
   pub end_on : (i + quoted_len e (drop i bs) ≡ quoted_len false bs) → (not e && get_or bs i 0 == 34) ≡ false → is_pair_char (get_or bs i 0) ≡ true
       → (closes_from (not e && get_or bs i 0 == 92) (drop (i + 1) bs) ≡ closes_from false bs) × (i + 1 + quoted_len (not e && get_or bs i 0 == 92) (drop (i + 1) bs) ≡ quoted_len false bs)
   end_on counts n h =
       let g = at_good e (get_or bs i 0) (drop (i + 1) bs) n h in
-      let k : quoted_len e (drop i bs) ≡ suc (quoted_len (not e && get_or bs i 0 == 92) (drop (i + 1) bs)) = ap (quoted_len e) split ∙ g.1 in
-      (sym g.0 ∙ (sym (ap (closes_from e) split) ∙ same), omega (arith, counts, k))
+      let k : quoted_len e (drop i bs) ≡ suc (quoted_len (not e && get_or bs i 0 == 92) (drop (i + 1) bs)) = ap (quoted_len e) (at_place bs i inside) ∙ g.1 in
+      (sym g.0 ∙ (sym (ap (closes_from e) (at_place bs i inside)) ∙ same), omega (arith, counts, k))
 
 pub end_none : (bs : List ℕ) (i : ℕ) (e : Bool) → length bs ≤ i → closes_from e (drop i bs) ≡ closes_from false bs → closes_from false bs ≡ false
 unfolding closes_from
@@ -59,17 +59,14 @@ end_none bs i e h same = sym same ∙ ap (closes_from e) (drop_all i bs h)
 
 -- ---- how long it is, whether it ends or not
 module _ (bs : List ℕ) (i : ℕ) (e : Bool) (inside : i < length bs) (counts : i + quoted_len e (drop i bs) ≡ quoted_len false bs) where
-  parted : drop i bs ≡ get_or bs i 0 ∷ drop (i + 1) bs
-  parted = let n : suc i ≡ i + 1 = omega arith in subst (λ k. drop i bs ≡ get_or bs i 0 ∷ drop k bs) n (drop-cons bs i 0 inside)
-
   pub len_found : (not e && get_or bs i 0 == 34) ≡ true → i ≡ quoted_len false bs
   len_found h =
-      let n : quoted_len e (drop i bs) ≡ 0 = ap (quoted_len e) parted ∙ (at_delimiter e (get_or bs i 0) (drop (i + 1) bs) h).1 in
+      let n : quoted_len e (drop i bs) ≡ 0 = ap (quoted_len e) (at_place bs i inside) ∙ (at_delimiter e (get_or bs i 0) (drop (i + 1) bs) h).1 in
       omega (arith, counts, n)
 
   pub len_on : (not e && get_or bs i 0 == 34) ≡ false → i + 1 + quoted_len (not e && get_or bs i 0 == 92) (drop (i + 1) bs) ≡ quoted_len false bs
   len_on h =
-      let k : quoted_len e (drop i bs) ≡ suc (quoted_len (not e && get_or bs i 0 == 92) (drop (i + 1) bs)) = ap (quoted_len e) parted ∙ at_other e (get_or bs i 0) (drop (i + 1) bs) h in
+      let k : quoted_len e (drop i bs) ≡ suc (quoted_len (not e && get_or bs i 0 == 92) (drop (i + 1) bs)) = ap (quoted_len e) (at_place bs i inside) ∙ at_other e (get_or bs i 0) (drop (i + 1) bs) h in
       omega (arith, counts, k)
 
 pub len_end : (bs : List ℕ) (i : ℕ) (e : Bool) → length bs ≤ i → i ≤ length bs → i + quoted_len e (drop i bs) ≡ quoted_len false bs → length bs ≡ quoted_len false bs

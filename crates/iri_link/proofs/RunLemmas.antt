@@ -64,38 +64,18 @@ run-boundary Name t u = stop-boundary is_name_char name-low t
 run-boundary Value t u = stop-boundary is_value_char value-low t
 run-boundary Pair t u = stop-boundary is_pair_char pair-low t
 
--- ---- whether all bytes pass
-run-all : (p : ℕ → Bool) (t : List ℕ) → list_all p t ≡ true → run_of p t ≡ length t
-run-all p [] h = refl
-run-all p (c ∷ cs) h = let k = both (p c) (list_all p cs) h in rw k.0 (ap suc (run-all p cs k.1))
-
-run-some : (p : ℕ → Bool) (t : List ℕ) → list_all p t ≡ false → run_of p t < length t
-run-some p [] h = cc
-run-some p (c ∷ cs) h =
-    elim (p c) as (λ b. (b && list_all p cs) ≡ false → cond b (suc (run_of p cs)) 0 < length (c ∷ cs)) [
-      | true ↦ λ k. omega (arith, run-some p cs k)
-      | false ↦ λ k. omega arith
-    ] h
-
-pub run-whole : (p : ℕ → Bool) (t : List ℕ) → (run_of p t == length t) ≡ list_all p t
-run-whole p t =
-    when (list_all p t) _ (λ k. rw k (let e = run-all p t k in grind (arith, nat_tests)))
-    (λ k. rw k (let e = run-some p t k in grind (arith, nat_tests)))
-
 -- ---- blanks at the end
-blank_end : (xs : List ℕ) (c : ℕ) → is_blank c ≡ true → without_end (xs ++ c ∷ []) ≡ without_end xs
-blank_end [] c h = rw h refl
-blank_end (x ∷ xs) c h = ap (λ w. cond (not (is_blank x && is_empty w)) (x ∷ w) w) (blank_end xs c h)
-
 not_empty : (xs : List ℕ) (c : ℕ) → is_empty (xs ++ c ∷ []) ≡ false
 not_empty [] c = refl
 not_empty (x ∷ xs) c = refl
 
-text_end : (xs : List ℕ) (c : ℕ) → is_blank c ≡ false → without_end (xs ++ c ∷ []) ≡ xs ++ c ∷ []
-text_end [] c h = rw h refl
-text_end (x ∷ xs) c h =
-    ap (λ w. cond (not (is_blank x && is_empty w)) (x ∷ w) w) (text_end xs c h)
-    ∙ (rw (not_empty xs c) (when (is_blank x) (cond (not (is_blank x && false)) (x ∷ (xs ++ c ∷ [])) (xs ++ c ∷ []) ≡ x ∷ (xs ++ c ∷ [])) (λ k. rw k refl) (λ k. rw k refl)))
+-- a last byte goes where it is a blank, and ends the text where it is none
+at_last : (xs : List ℕ) (c : ℕ) → without_end (xs ++ c ∷ []) ≡ cond (is_blank c) (without_end xs) (xs ++ c ∷ [])
+at_last [] c = when (is_blank c) _ (λ h. rw h refl) (λ h. rw h refl)
+at_last (x ∷ xs) c =
+    ap (λ w. cond (not (is_blank x && is_empty w)) (x ∷ w) w) (at_last xs c)
+    ∙ when (is_blank c) _ (λ h. rw h refl) (λ h. rw (h, not_empty xs c)
+    (when (is_blank x) (cond (not (is_blank x && false)) (x ∷ (xs ++ c ∷ [])) (xs ++ c ∷ []) ≡ x ∷ (xs ++ c ∷ [])) (λ k. rw k refl) (λ k. rw k refl)))
 
 grows : (t : List ℕ) (m : ℕ) → m < length t → take (suc m) t ≡ take m t ++ slice_index t m ∷ []
 grows [] m h = absurd (omega (arith, h))
@@ -107,10 +87,10 @@ last_at t n a b = let e : n ≡ suc (n - 1) = omega (arith, a) in ap (λ k. take
 
 -- the last byte of a prefix is a blank, or not
 pub end_blank : (t : List ℕ) (n : ℕ) → 0 < n → n ≤ length t → is_blank (slice_index t (n - 1)) ≡ true → without_end (take n t) ≡ without_end (take (n - 1) t)
-end_blank t n a b h = ap without_end (last_at t n a b) ∙ blank_end (take (n - 1) t) (slice_index t (n - 1)) h
+end_blank t n a b h = ap without_end (last_at t n a b) ∙ rw h (at_last (take (n - 1) t) (slice_index t (n - 1)))
 
 pub end_text : (t : List ℕ) (n : ℕ) → 0 < n → n ≤ length t → is_blank (slice_index t (n - 1)) ≡ false → take n t ≡ without_end (take n t)
-end_text t n a b h = let e = last_at t n a b in e ∙ (sym (text_end (take (n - 1) t) (slice_index t (n - 1)) h) ∙ ap without_end (sym e))
+end_text t n a b h = let e = last_at t n a b in e ∙ (sym (rw h (at_last (take (n - 1) t) (slice_index t (n - 1)))) ∙ ap without_end (sym e))
 
 -- ---- tests
 -- whether m comes first

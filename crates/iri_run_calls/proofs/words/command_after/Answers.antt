@@ -1,9 +1,8 @@
-use Rattle.std.proofs.Common.{◌∙◌, [], ◌∷◌, List, ℕ, None, Some, Option, ap, subst, sym}
+use Rattle.std.proofs.Common.{◌∙◌, ◌∷◌, List, ℕ, None, Some, Option, ap, subst, sym}
 use Rattle.std.specs.Prelude.{MatchOption}
 use Rattle.iri_cli.specs.run.Words.{IsCommand, word_of}
 use Rattle.iri_cli.specs.declared.run.words.Command.{Command}
 use Rattle.iri_grammar.specs.OptionalSlices.{now_of}
-use Rattle.iri_grammar.specs.Blanks.{space}
 use Rattle.iri_run_calls.proofs.TextLemmas.{words_cut}
 use Rattle.iri_run_calls.proofs.words.command_after.Goals as goal
 

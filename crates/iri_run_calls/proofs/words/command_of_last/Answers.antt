@@ -1,4 +1,4 @@
-use Rattle.std.proofs.Common.{◌∙◌, [], ◌∷◌, List, ℕ, None, Some, Option, ap, refl, subst, sym}
+use Rattle.std.proofs.Common.{◌∙◌, ◌∷◌, List, ℕ, None, Some, Option, ap, refl, subst, sym}
 use Rattle.std.specs.Prelude.{MatchOption}
 use Rattle.iri_cli.specs.run.Words.{IsCommand, word_of}
 use Rattle.iri_cli.specs.declared.run.words.Command.{Command}
