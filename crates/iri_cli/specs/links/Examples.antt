@@ -27,12 +27,8 @@ pub answer_by_scheme : answers (links_rules uri_tests Scheme) (codes "http://h:8
 unfolding on_literals links_answer fault_from closes_from reading
 answer_by_scheme = refl
 
--- read laxly: a media type without quotes, a parameter without a name, what is no link-value after one, and bytes that are no text
-pub answers_to_lax_lines : answers (lax_rules uri_tests Default) (codes "https://example.com/")
-    (codes "</f.woff2>; rel=preload; as=font; type=font/woff2; crossorigin" ∷ codes "</style.css>; rel=preload;=pri=1" ∷ codes "</a>; rel=preload, bar"
-    ∷ codes "a" ∷ (255 ∷ []) ∷ [])
-    ≡ codes "ok <https://example.com/f.woff2>; rel=\"preload\"; as=\"font\"; type=\"font/woff2\"; crossorigin\n"
-    ∷ codes "ok <https://example.com/style.css>; rel=\"preload\"\n" ∷ codes "ok <https://example.com/a>; rel=\"preload\"\n"
-    ∷ codes "ok \n" ∷ codes "bad invalid utf-8 bytes at 0\n" ∷ []
+-- read laxly: a media type without quotes and what is no link-value after it; and bytes that are no text
+pub answers_to_lax_lines : answers (lax_rules uri_tests Default) (codes "a:/") (codes "<b>;t=x/y, c" ∷ (255 ∷ []) ∷ [])
+    ≡ codes "ok <a:/b>; t=\"x/y\"\n" ∷ codes "bad invalid utf-8 bytes at 0\n" ∷ []
 unfolding on_literals lax_answer lax_reading
 answers_to_lax_lines = refl
