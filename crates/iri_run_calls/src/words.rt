@@ -7,7 +7,8 @@ ghost use Rattle.iri_grammar.specs.Blanks.{space};
 
 use iri_cli::help::notice_of;
 use iri_cli::run::words::{
-    Command, Grammar, command_of_five, command_of_four, command_of_three, command_of_two, grammar_of,
+    Command, Grammar, command_of_five, command_of_four, command_of_three, command_of_two,
+    grammar_of,
 };
 use iri_grammar::cutting::cut;
 

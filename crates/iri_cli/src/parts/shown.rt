@@ -111,6 +111,13 @@ impl<S: Spec> Show for TakenApart<'_, S> {
             key: ",\"scheme\":\"",
             value: parts.scheme(),
         };
-        show_five(sink, &"{\"text\":\"", &self.iri.view(), &"\"", &scheme, &AfterScheme { parts })
+        show_five(
+            sink,
+            &"{\"text\":\"",
+            &self.iri.view(),
+            &"\"",
+            &scheme,
+            &AfterScheme { parts },
+        )
     }
 }

@@ -13,7 +13,7 @@ returns-then-not-is_empty c =
     let run = c.cut_before.result.0.now in
     let rest = c.cut_before.result.1.now in
     let whole : run ++ rest ≡ t = ap (λ l. l ++ rest) c.cut_before.ensures.before
-        ∙ ap (λ l. before 37 t ++ l) c.cut_before.ensures.from ∙ joined_from 37 t in
+    ∙ ap (λ l. before 37 t ++ l) c.cut_before.ensures.from ∙ joined_from 37 t in
     let some : 0 < length run = grind (arith, nat_tests) in
     let u : IsUtf8 run = search rules in
     let none : lacks 37 run ≡ true = ap (lacks 37) c.cut_before.ensures.before ∙ before-lacks 37 t in

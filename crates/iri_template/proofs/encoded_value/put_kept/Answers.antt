@@ -20,7 +20,7 @@ pieces-preserved g c =
 pub returns-then-is_used_up-clause-reads : goal.returns-then-is_used_up-clause-reads
 returns-then-is_used_up-clause-reads g c = up_to_last g.met.W.TextSink.rules
     (used_up g.S.Spec.tests c.pieces.state (chars c.pieces.rest.now) (sym c.is_used_up.ensures
-        ∙ c.if-is_used_up.true)) c.pieces.invariant.far
+    ∙ c.if-is_used_up.true)) c.pieces.invariant.far
 
 pub returns-in_err-put_piece-clause-reads : goal.returns-in_err-put_piece-clause-reads
 returns-in_err-put_piece-clause-reads g c = up_to_exit g.met.W.TextSink.rules (piece_chars c.in-Some.piece) (chars c.in-Some.following.now)

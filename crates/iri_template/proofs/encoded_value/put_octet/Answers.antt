@@ -21,7 +21,7 @@ apart : (a : Reading) (high low : ℕ) → IsHeld a → a.begun ≡ Nothing → 
     → units (held_text a ++ (37 ∷ high ∷ low ∷ r)) ≡ octet_units a.octets ++ units (37 ∷ high ∷ low ∷ r)
 apart a high low h none p q n r =
     ap (λ b. units ((a.octets ++ begun_text b) ++ 37 ∷ high ∷ low ∷ r)) none
-        ∙ ap (λ l. units (l ++ 37 ∷ high ∷ low ∷ r)) (append-nil a.octets)
+    ∙ ap (λ l. units (l ++ 37 ∷ high ∷ low ∷ r)) (append-nil a.octets)
     ∙ octets_closed a.octets (37 ∷ high ∷ low ∷ r) a.missing h.octets (other_closed a.missing high low r p q n)
 
 pub returns-in_err-put_octets-clause-reads : goal.returns-in_err-put_octets-clause-reads

@@ -41,7 +41,7 @@ no_octet x [] h e = refl
 no_octet x (a ∷ []) h e = elim (is_ascii_hexdigit a) as (λ b. (b && false) ≡ false) [ true ↦ refl | false ↦ refl ]
 no_octet x (a ∷ b ∷ t) h e =
     let k : (is_ascii_hexdigit a && is_ascii_hexdigit b) ≡ false =
-        ap (λ n. (n == 37) && (is_ascii_hexdigit a && is_ascii_hexdigit b)) (sym e) ∙ h in
+    ap (λ n. (n == 37) && (is_ascii_hexdigit a && is_ascii_hexdigit b)) (sym e) ∙ h in
     and_more (is_ascii_hexdigit a) (is_ascii_hexdigit b) (over_from is_name_char 0 t) k
 
 no_unit : (x : ℕ) (t : List ℕ) → begins_triplet (x ∷ t) ≡ false → is_name_char x ≡ false → over is_name_char (x ∷ t) ≡ false
