@@ -87,10 +87,17 @@ last_at t n a b = let e : n ≡ suc (n - 1) = omega (arith, a) in ap (λ k. take
 
 -- the last byte of a prefix is a blank, or not
 pub end_blank : (t : List ℕ) (n : ℕ) → 0 < n → n ≤ length t → is_blank (slice_index t (n - 1)) ≡ true → without_end (take n t) ≡ without_end (take (n - 1) t)
-end_blank t n a b h = ap without_end (last_at t n a b) ∙ rw h (at_last (take (n - 1) t) (slice_index t (n - 1)))
+end_blank t n a b h =
+    let xs = take (n - 1) t in
+    let c = slice_index t (n - 1) in
+    ap without_end (last_at t n a b) ∙ at_last xs c ∙ ap (λ k. cond k (without_end xs) (xs ++ c ∷ [])) h
 
 pub end_text : (t : List ℕ) (n : ℕ) → 0 < n → n ≤ length t → is_blank (slice_index t (n - 1)) ≡ false → take n t ≡ without_end (take n t)
-end_text t n a b h = let e = last_at t n a b in e ∙ (sym (rw h (at_last (take (n - 1) t) (slice_index t (n - 1)))) ∙ ap without_end (sym e))
+end_text t n a b h =
+    let xs = take (n - 1) t in
+    let c = slice_index t (n - 1) in
+    let e = last_at t n a b in
+    e ∙ (sym (at_last xs c ∙ ap (λ k. cond k (without_end xs) (xs ++ c ∷ [])) h) ∙ ap without_end (sym e))
 
 -- ---- tests
 -- whether m comes first
