@@ -2,13 +2,12 @@
 use Rattle.std.specs.Prelude.{◌≡◌, [], ◌∷◌, codes, refl}
 use Rattle.iri_grammar.specs.Classes.{uri_tests}
 use Rattle.iri_link.specs.Fault.{fault_from, closes_from}
-use Rattle.iri_link.specs.LaxReadings.{lax_reading}
 use Rattle.iri_link.specs.Readings.{reading}
 use Rattle.iri_percent.specs.declared.canon_mode.CanonMode.TheVariants.{Default, Scheme}
 use Rattle.iri_docs.specs.OnLiterals.{on_literals}
 use Rattle.iri_cli.specs.run.Ending.{answers}
-use Rattle.iri_cli.specs.links.Answers.{lax_answer, links_answer}
-use Rattle.iri_cli.specs.links.Rules.{lax_rules, links_rules}
+use Rattle.iri_cli.specs.links.Answers.{links_answer}
+use Rattle.iri_cli.specs.links.Rules.{links_rules}
 
 -- links of an API with pages, a name in capitals, an escaped delimiter, no link; and a fault of each kind but that of UTF-8
 pub answers_to_some_lines : answers (links_rules uri_tests Default) (codes "https://api.example.com/items?page=2")
@@ -26,9 +25,3 @@ pub answer_by_scheme : answers (links_rules uri_tests Scheme) (codes "http://h:8
     ≡ codes "ok <http://h/>; rel=\"self\", <http://h/a>\n" ∷ []
 unfolding on_literals links_answer fault_from closes_from reading
 answer_by_scheme = refl
-
--- read laxly: a media type without quotes and what is no link-value after it; and bytes that are no text
-pub answers_to_lax_lines : answers (lax_rules uri_tests Default) (codes "a:/") (codes "<b>;t=x/y, c" ∷ (255 ∷ []) ∷ [])
-    ≡ codes "ok <a:/b>; t=\"x/y\"\n" ∷ codes "bad invalid utf-8 bytes at 0\n" ∷ []
-unfolding on_literals lax_answer lax_reading
-answers_to_lax_lines = refl
