@@ -47,10 +47,11 @@ fn command_after<'a>(name: &str, grammar: Grammar, rest: &'a str) -> Option<Comm
     let Some(after) = after else {
         return command_of_three(name, grammar, word);
     };
-    match cut(after, b' ') {
-        (last, None) => command_of_four(name, grammar, word, last),
-        (next, Some(after)) => command_of_last(name, grammar, word, next, after),
-    }
+    let (next, more) = cut(after, b' ');
+    let Some(more) = more else {
+        return command_of_four(name, grammar, word, next);
+    };
+    command_of_last(name, grammar, word, next, more)
 }
 
 /// The command that a text names, whose words have one space between each two.

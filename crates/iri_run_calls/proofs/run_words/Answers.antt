@@ -30,10 +30,14 @@ returns c =
             lines = run.lines;
             gens = run.gens;
             canonical = run.canonical;
+            canonical_uris = run.canonical_uris;
+            parts = run.parts;
             register = run.register;
             links = run.links;
+            lax = run.lax;
             docs = run.docs;
             robots = run.robots;
+            pairs = run.pairs;
           });
       out = c.copy_over.ensures;
       len = refl;

@@ -14,21 +14,20 @@ returns-in_default c =
     let words = words_cut c.args.rest.now c.cut.result.0.now None c.cut.ensures.before (sym (ap now_of c.in_default.is) ∙ c.cut.ensures.after) in
     subst (λ ws. Reads c.command_of_three.result (c.args.name.now ∷ word_of c.args.grammar ∷ ws)) (sym words) c.command_of_three.ensures
 
-pub returns-in_default-None : goal.returns-in_default-None
-returns-in_default-None c =
+pub returns-in_default-more : goal.returns-in_default-more
+returns-in_default-more c =
     let words = words_cut c.args.rest.now c.cut.result.0.now (Some c.in-Some.after.now) c.cut.ensures.before
     (sym (ap now_of c.in-Some.is) ∙ c.cut.ensures.after) in
     let last = words_cut c.in-Some.after.now c.cut-2.result.0.now None c.cut-2.ensures.before
-    (sym (ap now_of c.in_default-None.is-1) ∙ c.cut-2.ensures.after) in
+    (sym (ap now_of c.in_default-more.is) ∙ c.cut-2.ensures.after) in
     subst (λ ws. Reads c.command_of_four.result (c.args.name.now ∷ word_of c.args.grammar ∷ ws))
     (sym (words ∙ ap (λ ws. c.cut.result.0.now ∷ ws) last)) c.command_of_four.ensures
 
-pub returns-in_default-Some : goal.returns-in_default-Some
-returns-in_default-Some c =
+pub returns : goal.returns
+returns c =
     let words = words_cut c.args.rest.now c.cut.result.0.now (Some c.in-Some.after.now) c.cut.ensures.before
     (sym (ap now_of c.in-Some.is) ∙ c.cut.ensures.after) in
-    let rest = c.in_default-Some.after.now in
-    let more = words_cut c.in-Some.after.now c.cut-2.result.0.now (Some rest) c.cut-2.ensures.before
-    (sym (ap now_of c.in_default-Some.is-1) ∙ c.cut-2.ensures.after) in
+    let more = words_cut c.in-Some.after.now c.cut-2.result.0.now (Some c.in-Some-more.more.now) c.cut-2.ensures.before
+    (sym (ap now_of c.in-Some-more.is) ∙ c.cut-2.ensures.after) in
     subst (λ ws. Reads c.command_of_last.result (c.args.name.now ∷ word_of c.args.grammar ∷ ws))
     (sym (words ∙ ap (λ ws. c.cut.result.0.now ∷ ws) more)) c.command_of_last.ensures

@@ -12,16 +12,16 @@ use Rattle.iri_run_calls.proofs.words.command_of_last.Goals as goal
 abbrev Reads : Option Command → List (List ℕ) → Type 0
 Reads command words = MatchOption command ((c : Command) → ¬ (IsCommand words c)) (IsCommand words)
 
-pub returns-in-None : goal.returns-in-None
-returns-in-None c =
-    let last = words_cut c.args.rest.now c.cut.result.0.now None c.cut.ensures.before (sym (ap now_of c.in-None.is-1) ∙ c.cut.ensures.after) in
+pub returns-in_default-None : goal.returns-in_default-None
+returns-in_default-None c =
+    let last = words_cut c.args.rest.now c.cut.result.0.now None c.cut.ensures.before (sym (ap now_of c.in_default-None.is-1) ∙ c.cut.ensures.after) in
     subst (λ ws. Reads c.command_of_five.result (c.args.name.now ∷ word_of c.args.grammar ∷ c.args.third.now ∷ c.args.fourth.now ∷ ws)) (sym last)
     c.command_of_five.ensures
 
-pub returns-in-Some : goal.returns-in-Some
-returns-in-Some c =
-    let rest = c.in-Some.field-0-1.now in
-    let last = words_cut c.args.rest.now c.cut.result.0.now (Some rest) c.cut.ensures.before (sym (ap now_of c.in-Some.is-1) ∙ c.cut.ensures.after) in
+pub returns-in_default-Some : goal.returns-in_default-Some
+returns-in_default-Some c =
+    let rest = c.in_default-Some.field-0-1.now in
+    let last = words_cut c.args.rest.now c.cut.result.0.now (Some rest) c.cut.ensures.before (sym (ap now_of c.in_default-Some.is-1) ∙ c.cut.ensures.after) in
     let sixth = words_cut rest (before space rest) (after space rest) refl refl in
     subst (λ ws. Reads None (c.args.name.now ∷ word_of c.args.grammar ∷ c.args.third.now ∷ c.args.fourth.now ∷ ws))
     (sym (last ∙ ap (λ ws. c.cut.result.0.now ∷ ws) sixth))
