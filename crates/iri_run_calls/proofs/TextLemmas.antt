@@ -9,7 +9,7 @@ use Rattle.iri_cli.specs.run.Words.{IsCommand, mode_words, named, word_of}
 use Rattle.iri_cli.specs.declared.run.words.Command.{Command}
 use Rattle.iri_cli.specs.declared.run.words.Command.TheVariants.{Lines, Gen, Tell}
 use Rattle.iri_cli.specs.declared.run.words.LineCommand.{LineCommand}
-use Rattle.iri_cli.specs.declared.run.words.LineCommand.TheVariants.{Canon, ToUri, LaxLinks, Robots}
+use Rattle.iri_cli.specs.declared.run.words.LineCommand.TheVariants.{Canon, ToUri, Parts, Expand, Register, Links, LaxLinks, Docs, Robots, Pairs}
 use Rattle.iri_cli.specs.declared.run.words.Grammar.{Grammar}
 use Rattle.iri_percent.specs.declared.canon_mode.CanonMode.{CanonMode}
 use Rattle.iri_percent.specs.declared.canon_mode.CanonMode.TheVariants.{Default, Scheme}
@@ -34,11 +34,22 @@ few_after Canon Default third fourth fifth sixth more e = cc e
 few_after Canon Scheme third fourth fifth sixth more e = cc e
 few_after ToUri Default third fourth fifth sixth more e = cc e
 few_after ToUri Scheme third fourth fifth sixth more e = cc e
+few_after Parts Default third fourth fifth sixth more e = cc e
+few_after Parts Scheme third fourth fifth sixth more e = cc e
+few_after Expand Default third fourth fifth sixth more e = cc e
+few_after Expand Scheme third fourth fifth sixth more e = cc e
+few_after Register Default third fourth fifth sixth more e = cc e
+few_after Register Scheme third fourth fifth sixth more e = cc e
+few_after Links Default third fourth fifth sixth more e = cc e
+few_after Links Scheme third fourth fifth sixth more e = cc e
 few_after LaxLinks Default third fourth fifth sixth more e = cc e
 few_after LaxLinks Scheme third fourth fifth sixth more e = cc e
+few_after Docs Default third fourth fifth sixth more e = cc e
+few_after Docs Scheme third fourth fifth sixth more e = cc e
 few_after (Robots token) Default third fourth fifth sixth more e = cc e
 few_after (Robots token) Scheme third fourth fifth sixth more e = cc e
-few_after a m third fourth fifth sixth more e = cc e
+few_after Pairs Default third fourth fifth sixth more e = cc e
+few_after Pairs Scheme third fourth fifth sixth more e = cc e
 
 -- no command has six words
 pub six_words : (first second third fourth fifth sixth : List ℕ) (more : List (List ℕ)) (command : Command)
