@@ -1,1 +1,2 @@
+pub mod ThroughEach
 pub mod PlainChars
