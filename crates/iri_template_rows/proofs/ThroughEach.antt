@@ -1,6 +1,9 @@
 -- How a loop writes the texts of things one by one, with those that are left.
-use Rattle.iri_template.proofs.Common.{◌≡◌, ℕ, List, [], ◌∷◌, ◌++◌, ◌∙◌, ap, sym, subst, refl, append_assoc, append-nil, Result, Ok, Err}
-use Rattle.iri_template.proofs.Common.{IsErr, AreSinkLaws, Shows, HasShown, shown_none, shown_more, shown_exit, shows_all, Stop, texts}
+use Rattle.std.proofs.Common.{◌≡◌, ℕ, List, [], ◌∷◌, ◌++◌, ◌∙◌, ap, sym, subst, refl, append_assoc, append-nil, Result, Ok, Err, IsErr}
+use Rattle.iri_text.specs.Shown.{AreSinkLaws, Shows}
+use Rattle.iri_text.proofs.Compose.{HasShown, shown_none, shown_more, shown_exit, shows_all}
+use Rattle.iri_text.specs.declared.shown.show.Stop.{Stop}
+use Rattle.iri_text.specs.inside.Through.{texts}
 use Rattle.iri_text.specs.inside.Through.{after}
 use Rattle.iri_text.proofs.ThroughLaws.{texts-one, after-append, texts-append}
 
