@@ -1,5 +1,5 @@
 -- Patterns that the second byte of a text tells not to match.
-use Rattle.iri_robots.proofs.Common.{◌≡◌, ◌≢◌, ℕ, ◌≤◌, Bool, true, false, cond, List, [], ◌∷◌, length, refl, sym, ◌∙◌, ap, subst, arith, ◌==◌}
+use Rattle.iri_robots.proofs.Common.{◌≡◌, ◌≢◌, ℕ, ◌≤◌, Bool, true, false, cond, List, [], ◌∷◌, length, refl, sym, ◌∙◌, ap, subst, arith}
 use Rattle.iri_robots.proofs.Common.{is_anchored, without_anchor, IsFilledBy, Matches, Fits}
 use Rattle.std.proofs.Common.{slice_index}
 use Rattle.iri_robots.specs.inside.SecondBytes.{second_of, IsApart}

@@ -1,4 +1,4 @@
-use Rattle.iri_robots.proofs.Common.{◌≡◌, ◌+◌, ◌++◌, ◌∷◌, [], ap, sym, ◌∙◌, subst, drop, IsBestOf, rules_in_groups}
+use Rattle.iri_robots.proofs.Common.{◌+◌, ◌++◌, ◌∷◌, [], ap, sym, ◌∙◌, subst, drop, IsBestOf, rules_in_groups}
 use Rattle.std.proofs.lemmas.List.{drop_more}
 use Rattle.iri_robots.proofs.Runs.{IsJudged}
 use Rattle.iri_robots.proofs.GroupLemmas.{judged_rule, passed_rule}
