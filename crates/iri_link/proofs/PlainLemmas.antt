@@ -1,6 +1,6 @@
 -- Parameters in their written form: what both readings make of them.
 use Rattle.iri_link.proofs.Common.{◌≡◌, cond, ℕ, Bool, true, false, ◌&&◌, List, [], ◌∷◌, ◌++◌, Some, refl, sym, ap, ◌∙◌, arith, both, test_apart, append_assoc, append-nil, length}
-use Rattle.iri_link.proofs.Common.{nat_tests, list_all, flat_map, map, Tests, LinkParam, after_param, after_semicolon, fault_from, escaped, written_param, str_to_ascii_lowercase}
+use Rattle.iri_link.proofs.Common.{nat_tests, list_all, flat_map, map, LinkParam, after_param, after_semicolon, fault_from, escaped, written_param, str_to_ascii_lowercase}
 use Rattle.iri_link.proofs.Common.{after_equals, is_token_char, is_pair_char, is_plain_char, IsQuoted, done, plain, in_quoted}
 use Rattle.std.proofs.Common.{length-append}
 use Rattle.std.proofs.lemmas.Grind.{flat_map-append}
