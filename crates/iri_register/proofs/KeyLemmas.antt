@@ -11,7 +11,7 @@ use Rattle.std.specs.List.{position_or_len, swap_remove}
 use Rattle.std.specs.declared.hash.DefaultHasher.{DefaultHasher}
 use Rattle.indexmap.specs.IndexMap.{insert_entry, swap_remove_entry}
 use Rattle.iri_register.proofs.GroupLemmas.{same}
-use Rattle.iri_register.proofs.HashLemmas.{hashed_last, position_as}
+use Rattle.iri_register.proofs.HashLemmas.{hashed_last, hashed_slot, position_as}
 use Rattle.iri_register.proofs.MapLemmas.{less_none}
 use Rattle.iri_register.proofs.SlotLemmas.{at_within, apart_text, flag_false, flag_small, place_live, live_within}
 use Rattle.iri_register.proofs.SlotLemmas.{insert_last, kept_as}
@@ -156,9 +156,9 @@ gaps_dead (e ∷ es) zero (suc k) x f n = rw (n, flag_false e f) refl
 gaps_dead (e ∷ es) (suc i) zero x f n = refl
 gaps_dead (e ∷ es) (suc i) (suc k) x f n = ap (λ m. cond (is_live e) 0 1 + m) (gaps_dead es i k x f n)
 
-pub kept_dead : {es : List (Key × Lines)} {m : Moves} {live : ℕ} → IsKept es m live → (i : ℕ) (x : Key × Lines)
-    → flag_at es i ≡ 0 → is_live x ≡ false → IsKept (slice_set es i x) m live
-kept_dead {es} kept i x f n = kept_as kept (slice_set es i x) (length_slot es i x) (λ k. gaps_dead es i k x f n)
+pub kept_dead : {h : DefaultHasher} {es : List (Key × Lines)} {m : Moves} {live : ℕ} → IsKept h es m live → (i : ℕ) (x : Key × Lines)
+    → IsHashed h x.0 → flag_at es i ≡ 0 → is_live x ≡ false → IsKept h (slice_set es i x) m live
+kept_dead {h} {es} kept i x a f n = kept_as kept (slice_set es i x) (hashed_slot h es i x kept.hashed a) (length_slot es i x) (λ k. gaps_dead es i k x f n)
 
 pub on_ok : {A E : Type 0} {P Q : Type 0} (r : Result A E) → OnOk r P → (P → Q) → OnOk r Q
 on_ok (Ok a) h f = f h
