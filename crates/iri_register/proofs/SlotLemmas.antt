@@ -5,6 +5,7 @@ use Rattle.std.proofs.Common.{bytes_eq, ◌≡◌, ◌≢◌, ℕ, zero, suc, �
 use Rattle.std.proofs.Common.{slice_get, true, false, cond, true≢false, Some, None, is_some, option_map, ◌&&◌, string_bytes}
 use Rattle.std.proofs.Common.{refl, sym, ◌∙◌, ap, subst, arith, ⊎_elim}
 use Rattle.std.proofs.lemmas.Bool.{cases_lt}
+use Rattle.std.proofs.lemmas.List.{length-append}
 use Rattle.std.proofs.lemmas.Option.{none-some, same_Some}
 use Rattle.std.specs.Map.{values_of}
 use Rattle.std.specs.Prelude.{nat_eq}
@@ -433,10 +434,6 @@ added_last (e ∷ es) t n h =
       | false ↦ λ m. ap (λ l. e ∷ l) (added_last es t n (less_none (place es t) m))
     ] h
 
-length_last : (es : List (Key × Lines)) (x : Key × Lines) → length (es ++ x ∷ []) ≡ length es + 1
-length_last [] x = omega arith
-length_last (e ∷ es) x = let rest = length_last es x in omega (arith, rest)
-
 more_gaps : (es : List (Key × Lines)) (x : Key × Lines) (k : ℕ) → is_live x ≡ true → gaps (es ++ x ∷ []) k ≡ gaps es k
 more_gaps [] x zero h = refl
 more_gaps [] x (suc k) h = rw h refl
@@ -458,19 +455,15 @@ pub kept_more : {k : DefaultHasher} {es : List (Key × Lines)} {m : Moves} {live
 kept_more {k} {es} kept x a h n = record {
   hashed = hashed_last k es x kept.hashed a;
   blocked = kept.blocked;
-  within = let l = length_last es x in omega (arith, l, h);
+  within = let l = length-append es (x ∷ []) in omega (arith, l, h);
   moves = λ k b. kept.moves k b ∙ sym (more_gaps es x k n);
   living =
-      let l = length_last es x in
+      let l = length-append es (x ∷ []) in
       let a = gaps_all es (length es + 1) (omega arith) in
       let b = gaps_all (es ++ x ∷ []) (length es + 1) (omega (arith, l)) in
       let g = more_gaps es x (length es + 1) n in
       omega (arith, a, b, l, g, kept.living);
 }
 
-longer : (es : List Entry) (e : Entry) → length (es ++ e ∷ []) ≡ length es + 1
-longer [] e = omega arith
-longer (x ∷ es) e = let rest = longer es e in omega (arith, rest)
-
 pub added_longer : (es : List Entry) (t : List ℕ) (n : ℕ) → place es t ≡ None → length (added es t n) ≡ length es + 1
-added_longer es t n h = ap length (added_last es t n h) ∙ longer es (record { target = t; lines = n ∷ [] })
+added_longer es t n h = ap length (added_last es t n h) ∙ length-append es ((record { target = t; lines = n ∷ [] }) ∷ [])

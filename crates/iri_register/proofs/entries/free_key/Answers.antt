@@ -1,8 +1,9 @@
 use Rattle.iri_register.proofs.Common.{◌≡◌, ap, sym, subst, ◌∙◌, is_some, false, length, string_bytes, arith, lookup, entries_of}
 use Rattle.iri_register.proofs.Common.{rules, has_lines, is_text, IsKept, key_eq}
+use Rattle.std.proofs.lemmas.List.{length-set}
 use Rattle.iri_register.proofs.HashLemmas.{lookup_as, position_as}
 use Rattle.iri_register.proofs.MapLemmas.{at_position}
-use Rattle.iri_register.proofs.KeyLemmas.{absent_live, dead_at, lookup_gone, slot_given, entries_dead, kept_dead, length_slot, on_ok}
+use Rattle.iri_register.proofs.KeyLemmas.{absent_live, dead_at, lookup_gone, slot_given, entries_dead, kept_dead, on_ok}
 use Rattle.iri_register.specs.declared.lines.Lines.TheVariants.{More}
 use Rattle.iri_register.proofs.entries.free_key.Goals as goal
 
@@ -46,7 +47,7 @@ returns-in_ok-insert-in-Some c =
     let none = ap has_lines c.new.ensures.items in
     let kept = subst (λ l. IsKept h l c.args.moves.now c.args.live) (sym given) (kept_dead c.requires.kept i (key, w) hashed dead none) in
     let gone : is_some (lookup (key_eq q) c.swap_remove.new.self.entries) ≡ false = search rules in
-    let l = ap length given ∙ length_slot es i (key, w) in
+    let l = ap length given ∙ length-set es i (key, w) in
     record {
       kept = kept;
       same = ap entries_of given ∙ entries_dead es i (key, w) dead none;
