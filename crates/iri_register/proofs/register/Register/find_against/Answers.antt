@@ -3,7 +3,7 @@ use Rattle.std.proofs.lemmas.List.{nil_from_length}
 use Rattle.std.proofs.Math.Logic.{∥∥₁_elim}
 use Rattle.std.proofs.Props.{props}
 use Rattle.iri_register.proofs.ShareLemmas.{finds_joined}
-use Rattle.iri_register.proofs.register.Links.find.Goals as goal
+use Rattle.iri_register.proofs.register.Register.find_against.Goals as goal
 
 pub returns-in-Ok-clause-joined : goal.returns-in-Ok-clause-joined
 returns-in-Ok-clause-joined g c =
