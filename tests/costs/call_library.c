@@ -139,7 +139,7 @@ static const struct {
 	{"set-fragment-with", fragment_with}, {"replace-host", host}, {"replace-host-with", host_with}, {"replace-reg-name", name},
 	{"replace-reg-name-with", name_with}, {"split", split}, {"is-normalized", is_normalized}, {"validate-reference", validate_reference},
 	{"validate-scheme", validate_scheme}, {"validate-absolute", validate_absolute}, {"validate-relative", validate_relative},
-	{"fault-part", fault_part}, {"template-variables", names}, {"expand", expand_template}, {"expand-value", expand_value},
+	{"fault-part", fault_part}, {"template-variables", names}, {"expand-template", expand_template}, {"expand-value", expand_value},
 	{"expand-list", expand_list}, {"expand-names", expand_names}, {"build", build}, {"build-many", build_many}, {"lines", lines},
 	{"robots-rules", robots_rules}, {"robots-allows", allows}, {"run", run}, {"run-words", run_words},
 };

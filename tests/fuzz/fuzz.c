@@ -1,4 +1,4 @@
-/* fuzz TARGET | fuzz PROGRAM COMMAND GRAMMAR [WORD]: checks an input of tests/fuzz/fuzz by what its answers have to be without a second
+/* fuzz TARGET | fuzz PROGRAM COMMAND GRAMMAR [WORD..]: checks an input of tests/fuzz/fuzz by what its answers have to be without a second
  * program. Where one isn't so, it says what on standard error, and ends by abort(). A target is some calls of the library for C. */
 #include "fuzz.h"
 #include <stdio.h>
@@ -68,8 +68,8 @@ static void check_calls(const char *name, struct text given)
 int main(int argc, char **argv)
 {
 	const struct itimerval second = {.it_value = {.tv_sec = 1}};
-	const char *words[] = {argv[1], argc > 2 ? argv[2] : NULL, argc > 3 ? argv[3] : NULL, argc > 4 ? argv[4] : NULL};
-	if (argc < 2)
+	const char *const *words = (const char *const *)argv + 1;
+	if (argc != 2 && argc < 4)
 		return 2;
 	__AFL_INIT();
 	const uint8_t *given = __AFL_FUZZ_TESTCASE_BUF;

@@ -90,7 +90,8 @@ void check_templates(struct input input);
 void check_lines(struct input input);
 void check_run(struct input input);
 
-/* Of a command the input is the program's. Its texts are fed back to `canon`, and its links to `links`. */
+/* Of a command, whose words stand after the program and before NULL, the input is the program's. Its texts are fed back to `canon`, and its
+ * links to `links`. */
 void check_command(const char *const *words, struct text given);
 
 #endif

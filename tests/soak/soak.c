@@ -17,6 +17,12 @@ static const char *mode_of(const struct soak *soak)
 	return soak->reading.by_scheme ? soak->mode : NULL;
 }
 
+/* The words of a command, and by scheme rules those with `scheme` after them. */
+static const char *in_mode(const struct soak *soak, const char *words, const char *by_scheme)
+{
+	return soak->reading.by_scheme ? by_scheme : words;
+}
+
 static struct text other_base(struct soak *soak)
 {
 	struct text scheme = split(soak->reading.base).scheme, base;
@@ -74,7 +80,7 @@ static const char *page_of(struct bytes *page, struct text base)
 	return (const char *)page->at;
 }
 
-/* A line on a page has the answer that `canon` gives with the page as base, whatever page the line before has. */
+/* A line on a page has the answer that `canon` gives with the page as base, whatever page the line before has, or none. */
 static void check_pairs(struct soak *soak)
 {
 	struct asked asked = {0};
@@ -84,6 +90,10 @@ static void check_pairs(struct soak *soak)
 		ask(soak, &asked, on_page, soak->lines[i], soak->answers[i], "a link on a page has its answer against that base");
 		if (below(&soak->spelling, 4) == 0)
 			ask(soak, &asked, on_other, WORD("x:y"), WORD("ok x:y"), "a link with a scheme has one text on every page");
+		if (below(&soak->spelling, 32) == 0)
+			ask(soak, &asked, "a/b\t", soak->lines[i], WORD("base expected an absolute IRI but got a relative IRI"), "a page that is no base");
+		if (below(&soak->spelling, 32) == 0)
+			ask(soak, &asked, "", WORD("http://a/b"), WORD("bad line"), "a line without a tab");
 	}
 	check(soak, &asked, soak->reading.base, "pairs", mode_of(soak));
 	free(page.at);
@@ -115,6 +125,67 @@ static void check_mapped(struct soak *soak)
 	soak->grammar = grammar;
 	free(base_bytes.at);
 	free(line.at);
+	free(wanted.at);
+}
+
+/* `to uri` has the text mapped to a URI, and the same faults. */
+static void check_to_uri(struct soak *soak)
+{
+	struct asked asked = against(soak, soak->reading.base);
+	struct bytes wanted = {0};
+	for (size_t i = 0; i < soak->count; i++)
+		ask(soak, &asked, "", soak->lines[i], mapped(soak->answers[i], &wanted), "`to uri` maps the text that canon answers");
+	check(soak, &asked, soak->reading.base, "canon", in_mode(soak, "to uri", "to uri scheme"));
+	free(wanted.at);
+}
+
+/* `parts` has the components of the text that `canon` answers, or its fault. */
+static void check_parts(struct soak *soak)
+{
+	struct asked asked = against(soak, soak->reading.base);
+	struct bytes wanted = {0};
+	for (size_t i = 0; i < soak->count; i++) {
+		struct text answer = soak->answers[i], object;
+		if (is_good(answer)) {
+			object = object_of(text_of(answer), &wanted);
+		} else {
+			wanted.len = 0;
+			put_word(&wanted, "{\"bad\":\"");
+			put(&wanted, answer.at + 4, answer.len - 4);
+			put_word(&wanted, "\"}");
+			object = (struct text){wanted.at, wanted.len};
+		}
+		ask(soak, &asked, "", soak->lines[i], object, "`parts` has the components of the text");
+	}
+	check(soak, &asked, soak->reading.base, "parts", mode_of(soak));
+	free(wanted.at);
+}
+
+/* By appendix B of RFC 8288, with `lax`, a field's links are those whose targets are references, with each value; what begins with no `<`
+ * is passed over. A line may have no `>`, which ends its target, and is UTF-8. */
+static void check_lax(struct soak *soak)
+{
+	struct asked asked = against(soak, soak->reading.base);
+	struct bytes field = {0}, wanted = {0};
+	for (size_t i = 0; i < soak->count; i++) {
+		struct text answer = soak->answers[i], line = soak->lines[i];
+		if (!is_utf8(line) || (line.len && memchr(line.at, '>', line.len)))
+			continue;
+		field.len = wanted.len = 0;
+		put_word(&field, below(&soak->spelling, 2) ? "bar, <" : " ,\tb\"a,<c>\"r;x,<");
+		put_text(&field, line);
+		put_word(&field, ">;type=font/woff2 ,,<y:z>;REL=next");
+		put_word(&wanted, "ok ");
+		if (is_good(answer)) {
+			put_byte(&wanted, '<');
+			put_text(&wanted, text_of(answer));
+			put_word(&wanted, ">; type=\"font/woff2\", ");
+		}
+		put_word(&wanted, "<y:z>; rel=\"next\"");
+		ask(soak, &asked, "", (struct text){field.at, field.len}, (struct text){wanted.at, wanted.len}, "links that `lax` takes");
+	}
+	check(soak, &asked, soak->reading.base, "links", in_mode(soak, "lax", "lax scheme"));
+	free(field.at);
 	free(wanted.at);
 }
 
@@ -187,7 +258,7 @@ static void check_register(struct soak *soak)
 	free(other.at);
 	free(order);
 	free(slots);
-	check(soak, &asked, soak->reading.base, "register", NULL);
+	check(soak, &asked, soak->reading.base, "register", mode_of(soak));
 }
 
 #ifdef LIBRARY
@@ -195,7 +266,7 @@ static void check_register(struct soak *soak)
 static uint8_t called(const struct soak *soak, struct text line, uint8_t *out, size_t size, size_t *detail)
 {
 	struct text base = soak->reading.base;
-	return irikit_canonical(GRAMMAR(soak->reading), IRIKIT_NORMAL, (const char *)base.at, base.len, (const char *)line.at, line.len,
+	return irikit_canonical(GRAMMAR(soak->reading), MODE(soak->reading), (const char *)base.at, base.len, (const char *)line.at, line.len,
 	                        (char *)out, size, detail);
 }
 
@@ -212,7 +283,7 @@ static void check_library(struct soak *soak)
 				fault(soak, "the library's text", soak->reading.base, line, text, (struct text){out, detail < text.len ? detail : text.len});
 			if (called(soak, line, few, size, &detail) != IRIKIT_SHORT || detail != text.len || memcmp(few, out, size))
 				fault(soak, "the library's text in a shorter buffer", soak->reading.base, line, text, (struct text){few, size});
-			if (irikit_is_normalized(GRAMMAR(soak->reading), IRIKIT_NORMAL, (const char *)text.at, text.len, &detail) != IRIKIT_OK)
+			if (irikit_is_normalized(GRAMMAR(soak->reading), MODE(soak->reading), (const char *)text.at, text.len, &detail) != IRIKIT_OK)
 				fault(soak, "an answer is in normal form by the library", soak->reading.base, line, text, text);
 		} else {
 			irikit_fault_words(detail, (char *)fault_words + 4, sizeof fault_words - 4, &words);
@@ -240,15 +311,16 @@ int main(int argc, char **argv)
 	check_other_base(&soak);
 	check_spellings(&soak);
 	check_pairs(&soak);
+	check_to_uri(&soak);
+	check_parts(&soak);
+	check_lax(&soak);
 	if (soak.reading.iri)
 		check_mapped(&soak);
 	if (soak.reading.by_scheme)
 		check_without_rules(&soak);
-	else
-		check_register(&soak);
+	check_register(&soak);
 #ifdef LIBRARY
-	if (!soak.reading.by_scheme)
-		check_library(&soak);
+	check_library(&soak);
 #endif
 	printf("lines %zu good %zu asked %zu faults %zu\n", soak.count, soak.good, soak.asked, soak.faults);
 	return soak.faults != 0;

@@ -29,6 +29,8 @@ struct reading {
 };
 /* The number of its grammar in irikit.h. */
 #define GRAMMAR(reading) ((reading).iri ? IRIKIT_IRI : IRIKIT_URI)
+/* And that of its mode. */
+#define MODE(reading) ((reading).by_scheme ? IRIKIT_BY_SCHEME : IRIKIT_NORMAL)
 
 /* A reference in its parts, of which each but the path may be absent: NULL. */
 struct parts {
@@ -80,6 +82,9 @@ void put_base(struct numbers *numbers, int iri, struct bytes *to);
 /* Puts another spelling of a reference that is in the grammar: its canonical text against the base is the same. */
 void put_spelling(struct numbers *numbers, const struct reading *reading, struct text reference, struct bytes *to);
 
+/* Puts the JSON that `parts` answers for a canonical text, over what was there. */
+struct text object_of(struct text text, struct bytes *to);
+
 /* Puts octets past ASCII as percent-encoded octets (RFC 3987 section 3.1), over what was there. */
 struct text mapped(struct text text, struct bytes *to);
 
@@ -126,11 +131,15 @@ struct soak {
 
 void *taken(void *block, size_t size);
 int is_good(struct text answer);
+
+/* Whether a text begins with a word. */
+int begins_with(struct text text, const char *word);
 struct text text_of(struct text answer);
 void fault(struct soak *soak, const char *property, struct text base, struct text line, struct text wanted, struct text got);
 
-/* Runs a command over an input, of which the last LF may go. Where a signal ended it, the status is 128 more than its number. */
-struct output run(struct soak *soak, const char *command, const char *mode, const struct bytes *input);
+/* Runs a command over an input, of which the last LF may go; after the grammar it has these words, a space between each two, or none: NULL.
+ * Where a signal ended it, the status is 128 more than its number. */
+struct output run(struct soak *soak, const char *command, const char *words, const struct bytes *input);
 
 /* Makes the lines and a base, and asks for their answers. */
 void begin(struct soak *soak);
@@ -142,6 +151,6 @@ struct asked against(struct soak *soak, struct text base);
 void ask(struct soak *soak, struct asked *asked, const char *letter, struct text line, struct text wanted, const char *property);
 
 /* Whether all is answered so; what is asked is let go then. */
-void check(struct soak *soak, struct asked *asked, struct text base, const char *command, const char *mode);
+void check(struct soak *soak, struct asked *asked, struct text base, const char *command, const char *words);
 
 #endif

@@ -41,9 +41,20 @@ void fault(struct soak *soak, const char *property, struct text base, struct tex
 	show("got   ", got);
 }
 
+int begins_with(struct text text, const char *word)
+{
+	return text.len >= strlen(word) && memcmp(text.at, word, strlen(word)) == 0;
+}
+
 int is_good(struct text answer)
 {
-	return answer.len >= 3 && memcmp(answer.at, "ok ", 3) == 0;
+	return begins_with(answer, "ok ");
+}
+
+/* Whether an answer makes the status 1. */
+static int is_refusal(struct text answer)
+{
+	return begins_with(answer, "bad ") || begins_with(answer, "base ") || begins_with(answer, "{\"bad\"");
 }
 
 struct text text_of(struct text answer)
@@ -75,7 +86,17 @@ static struct output read_output(int file)
 	return output;
 }
 
-struct output run(struct soak *soak, const char *command, const char *mode, const struct bytes *input)
+/* The program in the place of this one. */
+static _Noreturn void become(const struct soak *soak, const char *command, const char *words)
+{
+	char *list[10] = {(char *)soak->program, (char *)command, (char *)soak->grammar}, *left = words ? strdup(words) : NULL;
+	for (int i = 3; i < 9 && (list[i] = strsep(&left, " ")); i++)
+		;
+	execv(soak->program, list);
+	_exit(127);
+}
+
+struct output run(struct soak *soak, const char *command, const char *words, const struct bytes *input)
 {
 	int in = memfd_create("input", MFD_CLOEXEC), out = memfd_create("output", MFD_CLOEXEC), status = 0;
 	size_t len = input->len;
@@ -89,8 +110,7 @@ struct output run(struct soak *soak, const char *command, const char *mode, cons
 		dup2(in, 0);
 		dup2(out, 1);
 		setrlimit(RLIMIT_CPU, &(struct rlimit){soak->seconds, soak->seconds + 1});
-		execl(soak->program, soak->program, command, soak->grammar, mode, (char *)NULL);
-		_exit(127);
+		become(soak, command, words);
 	}
 	if (child < 0 || waitpid(child, &status, 0) != child)
 		fail("fork");
@@ -130,15 +150,15 @@ void ask(struct soak *soak, struct asked *asked, const char *letter, struct text
 	put_text(&asked->wanted, wanted);
 }
 
-void check(struct soak *soak, struct asked *asked, struct text base, const char *command, const char *mode)
+void check(struct soak *soak, struct asked *asked, struct text base, const char *command, const char *words)
 {
-	struct output output = run(soak, command, mode, &asked->input);
+	struct output output = run(soak, command, words, &asked->input);
 	int bad = 0;
 	for (size_t i = 0; i < asked->count && i < output.count; i++) {
 		struct row *row = asked->rows + i;
 		struct text got = output.lines[i], line = {asked->input.at + row->line, row->line_len};
 		struct text wanted = row->wanted_len == ANY ? WORD("ok ..") : (struct text){asked->wanted.at + row->wanted, row->wanted_len};
-		bad |= wanted.len > 3 && memcmp(wanted.at, "bad", 3) == 0;
+		bad |= is_refusal(wanted);
 		if (row->wanted_len == ANY ? !is_good(got) : !is_same(wanted, got))
 			fault(soak, row->property, base, line, wanted, got);
 	}

@@ -128,6 +128,34 @@ void put_spelling(struct numbers *numbers, const struct reading *reading, struct
 	}
 }
 
+static void put_member(struct bytes *to, const char *name, struct text value)
+{
+	if (!value.at)
+		return;
+	put_word(to, to->len ? ",\"" : "{\"");
+	put_word(to, name);
+	put_word(to, "\":\"");
+	put_text(to, value);
+	put_byte(to, '"');
+}
+
+struct text object_of(struct text text, struct bytes *to)
+{
+	struct parts parts = split(text);
+	struct authority authority = split_authority(parts.authority);
+	to->len = 0;
+	put_member(to, "text", text);
+	put_member(to, "scheme", parts.scheme);
+	put_member(to, "userinfo", authority.userinfo);
+	put_member(to, "host", authority.host);
+	put_member(to, "port", authority.port);
+	put_member(to, "path", parts.path);
+	put_member(to, "query", parts.query);
+	put_member(to, "fragment", parts.fragment);
+	put_byte(to, '}');
+	return (struct text){to->at, to->len};
+}
+
 /* RFC 3987 section 3.1: octets past ASCII as percent-encoded octets. */
 struct text mapped(struct text text, struct bytes *to)
 {

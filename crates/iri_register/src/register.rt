@@ -13,6 +13,7 @@ ghost use Rattle.iri_register.specs.Shared.{AddsJoined, FindsJoined};
 use crate::added::Added;
 use crate::entries::{self, Entries};
 use crate::error::RegisterError;
+use crate::key::{self, Key};
 use iri_grammar::spec::Spec;
 use iri_normal::mode::CanonMode;
 use iri_normal::resolver::FixedBaseResolver;
@@ -58,7 +59,7 @@ struct Links {
     alloc: Global,
     mode: CanonMode,
     // The target of the last line, for the look-up.
-    target: String,
+    target: Key,
     entries: Entries,
 }
 
@@ -117,15 +118,15 @@ impl Links {
             return none_there::<S>(reference);
         }
         // The last line's target has had room for each that is there, so one found allocates once.
-        let mut target = String::new(self.alloc);
+        let mut target = key::none(self.alloc);
         match write_target(
-            &mut target,
-            self.target.capacity(),
+            &mut target.text,
+            self.target.text.capacity(),
             self.mode,
             resolver,
             reference,
         ) {
-            Ok(()) => Ok(entries::find(&self.entries, target.as_str())),
+            Ok(()) => Ok(entries::find(&self.entries, &mut target)),
             Err(error) => Err(error),
         }
     }
@@ -144,13 +145,8 @@ impl Links {
         ensures mode { self.new.mode ≡ self.old.mode }
         ensures unchanged { OnErr result (self.new.entries ≡ self.old.entries) }
     {
-        match write_target(&mut self.target, 0, self.mode, resolver, reference) {
-            Ok(()) => match entries::add(
-                self.alloc,
-                &mut self.entries,
-                self.target.as_str(),
-                line,
-            ) {
+        match write_target(&mut self.target.text, 0, self.mode, resolver, reference) {
+            Ok(()) => match entries::add(self.alloc, &mut self.entries, &mut self.target, line) {
                 Ok(answer) => Ok(answer),
                 Err(_) => Err(RegisterError::Memory),
             },
@@ -174,8 +170,8 @@ impl Links {
         if entries::len(&self.entries) == 0 {
             return none_there::<S>(reference);
         }
-        match write_target(&mut self.target, 0, self.mode, resolver, reference) {
-            Ok(()) => Ok(entries::remove(self.alloc, &mut self.entries, self.target.as_str())),
+        match write_target(&mut self.target.text, 0, self.mode, resolver, reference) {
+            Ok(()) => Ok(entries::remove(self.alloc, &mut self.entries, &mut self.target)),
             Err(error) => Err(error),
         }
     }
@@ -244,7 +240,7 @@ impl<S: Spec> Register<S> {
             links: Links {
                 alloc,
                 mode,
-                target: String::new(alloc),
+                target: key::none(alloc),
                 entries: entries::none(alloc, key),
             },
         }

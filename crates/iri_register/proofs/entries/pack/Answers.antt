@@ -1,5 +1,6 @@
-use Rattle.iri_register.proofs.Common.{◌≡◌, ap, sym, subst, ◌∙◌, filter, length, arith, rules, entries_of, is_live, IsKept}
+use Rattle.iri_register.proofs.Common.{◌≡◌, ap, sym, subst, ◌∙◌, filter, length, arith, rules, entries_of, is_live, IsKept, AreHashed}
 use Rattle.indexmap.proofs.CallerLemmas.{filter-RetainsPairs}
+use Rattle.iri_register.proofs.HashLemmas.{hashed_live}
 use Rattle.iri_register.proofs.SlotLemmas.{live_within, kept_packed, packed_same}
 use Rattle.iri_register.proofs.entries.pack.Goals as goal
 
@@ -19,6 +20,7 @@ returns c =
     let l = ap length f in
     record {
       kept = subst (λ ds. IsKept ds m c.args.live) (sym f) (kept_packed es m c.args.live living e.blocked (omega (arith, e.room)) e.none);
+      hashed = λ h a. subst (AreHashed h) (sym f) (hashed_live h es a);
       same = ap entries_of f ∙ packed_same es;
       packed = f;
       room = omega (arith, l, living, e.room);

@@ -1,6 +1,9 @@
-use Rattle.iri_register.proofs.Common.{◌≡◌, ◌+◌, ◌∷◌, [], ◌++◌, false, is_some, ap, refl, sym, subst, ◌∙◌, string_bytes}
-use Rattle.iri_register.proofs.Common.{arith, lookup, added, entries_of, has_lines, is_text, IsKept}
+use Rattle.iri_register.proofs.Common.{◌≡◌, ◌+◌, ◌∷◌, [], false, is_some, ap, refl, sym, subst, ◌∙◌, string_bytes}
+use Rattle.iri_register.proofs.Common.{arith, lookup, added, entries_of, is_text, IsKept, Key, AreHashed}
+use Rattle.std.specs.Hash.DefaultHasher.{finish, write}
+use Rattle.iri_register.proofs.HashLemmas.{hashed_last}
 use Rattle.iri_register.proofs.SlotLemmas.{live_within, insert_last, added_new, kept_more}
+use Rattle.iri_register.specs.declared.lines.Lines.TheVariants.{One}
 use Rattle.iri_register.proofs.entries.put_last.Goals as goal
 
 pub overflow_add-result : goal.overflow_add-result
@@ -11,16 +14,17 @@ overflow_add-result c =
 pub returns : goal.returns
 returns c =
     let es = c.args.map.now.entries in
-    let key = c.in_ok-key.key in
-    let w = c.push.new.self in
-    let is : string_bytes key ≡ c.args.target.now = c.in_ok-key.ensures.ok in
-    let none : is_some (lookup (is_text (string_bytes key)) es) ≡ false =
+    let q = c.args.target.now in
+    let key : Key = record { hash = q.hash; text = c.in_ok-text.text } in
+    let w = One (c.args.line ∷ []) in
+    let is : string_bytes c.in_ok-text.text ≡ string_bytes q.text = c.in_ok-text.ensures.ok ∙ c.as_str.ensures.value in
+    let none : is_some (lookup (is_text (string_bytes key.text)) es) ≡ false =
     subst (λ t. is_some (lookup (is_text t) es) ≡ false) (sym is) c.requires.absent in
-    let lines = c.in_ok-push.ensures.items ∙ ap (λ l. l ++ c.args.line ∷ []) c.in_ok-lines.ensures.items in
     let last = c.in_ok-insert.ensures.entries ∙ insert_last key w es none in
     record {
-      kept = λ moves kept room. subst (λ ls. IsKept ls moves (c.args.live + 1)) (sym last) (kept_more kept (key, w) room (ap has_lines lines));
-      entries = ap entries_of c.in_ok-insert.ensures.entries ∙ added_new c.args.line key w es none lines
+      kept = λ moves kept room. subst (λ ls. IsKept ls moves (c.args.live + 1)) (sym last) (kept_more kept (key, w) room refl);
+      entries = ap entries_of c.in_ok-insert.ensures.entries ∙ added_new c.args.line key w es none refl
           ∙ ap (λ t. added (entries_of es) t c.args.line) is;
+      hashed = λ h a b. subst (AreHashed h) (sym last) (hashed_last h es (key, w) b (a ∙ ap (λ t. finish (write h t)) (sym is)));
       live = refl;
     }

@@ -2,7 +2,7 @@ use Rattle.iri_normal.proofs.Common.{◌∙◌, ap, split_of, split_text, base_t
 use Rattle.iri_normal.specs.NormalizedText.{written}
 use Rattle.iri_normal.proofs.canonical_texts.WrittenTexts.{made-normal_in, written-canonical_in}
 use Rattle.iri_normal.proofs.ShownTexts.{shows_same}
-use Rattle.iri_normal.proofs.canonical.show_canonical_in.Goals as goal
+use Rattle.iri_normal.proofs.canonical.show_resolved.Goals as goal
 
 pub returns : goal.returns
 returns g c =
