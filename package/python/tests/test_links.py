@@ -139,6 +139,11 @@ class Many(unittest.TestCase):
         self.assertEqual([links.canonical_many(["c\r", "d"]), links.canonical_many(["c\n", "d"])], [[None, "http://a/d"]] * 2)
         texts = ["c\nd", "c\r", "c", "\r", "\n", "", b"\r\n", "c\r\nd", "\0"]
         self.assertEqual(links.canonical_many(texts), [None, None, "http://a/c", None, None, "http://a/b", None, None, None])
+        for at in (0, 4095, 4096, 8999):
+            for text in ("\n", "c\r", b"c\r\n", b"c\nc", "%", "\ud800"):
+                many, wanted = [["c"] * 9000, ["http://a/c"] * 9000]
+                many[at], wanted[at] = text, None
+                self.assertEqual(links.canonical_many(many), wanted)
 
     def test_what_is_not_unicode(self):
         texts = ["c", "\ud800", b"d", "\udcff", b"\xff", "\ud83d\ude00", "e"]
