@@ -1,5 +1,6 @@
 mod Common
 pub mod SlotLemmas
+pub mod AnswerLemmas
 pub mod LineLemmas
 pub mod PairLemmas
 pub mod EditLemmas
