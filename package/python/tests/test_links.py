@@ -191,7 +191,7 @@ class Pairs(unittest.TestCase):
             (b"\t", base), (b"\tb", base), (b"http://a\tb\tc", b"bad invalid path\n"), (b"http://a\t\t", b"bad invalid path\n"),
             (b"http://a\tb\r\r", b"bad invalid path\n"), (b"http://a\r\tb", b"base invalid host\n"), (b"a:#\tb", b"base unexpected fragment\n"),
             ("\ud800\tb", b"base invalid utf-8 bytes\n"), ("a:\t\udfff", b"bad invalid utf-8 bytes\n"), (b"a:\t\xff", b"bad invalid utf-8 bytes\n"),
-            ("\ufeffa:\tb", base), ("a:\t\ufeffb", b"bad invalid path\n"), (b"a:\tb\na:\tc", b"ok a:b\nok a:c\n"),
+            ("\ufeffa:\tb", b"base invalid scheme\n"), ("a:\t\ufeffb", b"bad invalid path\n"), (b"a:\tb\na:\tc", b"ok a:b\nok a:c\n"),
             (b"//a\tb\nhttp://a\tb\nhttp://a\tc\n", base + b"ok http://a/b\nok http://a/c\n"),
         ):
             self.assertEqual(irikit.pairs(lines), wanted, lines)

@@ -97,13 +97,16 @@ fn pages_and_links() {
         ("a:\t\r", "ok a:\n"),
         ("a:\tb\tc", "bad invalid path\n"),
         ("a:#\tb\na:\tb", "base unexpected fragment\nok a:b\n"),
-        ("\u{feff}a:\tb", "base expected an absolute IRI but got a relative IRI\n"),
+        ("\u{feff}a:\tb", "base invalid scheme\n"),
     ];
     for (lines, wanted) in rows {
         assert_eq!(Uri.pairs(lines), wanted, "{lines:?}");
     }
     let long = "x".repeat(1 << 20);
-    assert_eq!(Iri.pairs(&format!("a:/\t{long}")), format!("ok a:/{long}\n"));
+    assert_eq!(
+        Iri.pairs(&format!("a:/\t{long}")),
+        format!("ok a:/{long}\n")
+    );
 }
 
 /// docs/COMMANDS.md, Input: an LF ends a line, what follows the last LF is one where it has at least a byte, and one CR before the end
