@@ -207,7 +207,7 @@ test("a string is answered as the bytes of its UTF-8 are, and by a kit that was 
   ];
   const calls = [
     (one, s, t, g) => one.canonical(s, t, g), (one, s, t, g) => one.canonicalLines("a:/b", t, g, "scheme"),
-    (one, s, t, g) => one.pairs(t, g, "scheme"), (one, s, t, g) => one.pairs(`${s}\t${t}\na:/b\t${t}`, g),
+    (one, s, t, g) => one.pairs(t, g, "scheme"),
     (one, s, t, g) => one.canonicalMany("x:/y", [s, t], g), (one, s, t, g) => one.target("http://a/b", t, g),
     (one, s, t, g) => one.split(t, g), (one, s, t, g) => one.steps(t, g), (one, s, t, g) => one.validate(t, "relative", g),
     (one, s, t) => one.faultPart(t, "invalid-path"), (one, s, t, g) => one.build({ host: s, path: t }, "reference", g),

@@ -1,6 +1,5 @@
 mod Common
 pub mod SlotLemmas
-pub mod AnswerLemmas
 pub mod LineLemmas
 pub mod PairLemmas
 pub mod EditLemmas
