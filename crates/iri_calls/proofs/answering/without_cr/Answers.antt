@@ -3,7 +3,7 @@ use Rattle.std.proofs.Math.Seq.{take-length}
 use Rattle.std.proofs.lemmas.Bool.Decides.{Decides-eqb}
 use Rattle.std.proofs.lemmas.Slice.Eq.{strip_suffix_is}
 use Rattle.iri_text.proofs.Parts.{no_cr-cr, other-len}
-use Rattle.iri_calls.proofs.lines.without_cr.Goals as goal
+use Rattle.iri_calls.proofs.answering.without_cr.Goals as goal
 
 pub returns-in-Some : goal.returns-in-Some
 returns-in-Some c =
