@@ -139,6 +139,9 @@ pub(crate) fn check_text<'a, S: Spec>(text: &'a str) -> Result<(), Halt<'a>>
     let mut inside = false;
     let mut rest = text;
     'pieces: loop {
+        if rest.is_empty() {
+            return Ok(());
+        }
         match next_piece(inside, rest) {
             Ok(Some((piece, after))) => {
                 check_piece::<S>(piece)?;
