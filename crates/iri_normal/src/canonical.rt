@@ -44,6 +44,24 @@ pub enum CanonError {
     Memory,
 }
 
+// The canonical text by the parts of the target. The compiler clears a target's memory where the call that has it begins: as a call of
+// its own this costs a reference that goes a quicker way nothing, otherwise 24 instructions (2026-12-01).
+#[inline(always)]
+fn show_resolved<'a, S: Spec, W: TextSink>(
+    sink: &mut W,
+    mode: CanonMode,
+    resolver: &FixedBaseResolver<'a, S>,
+    reference: &SplitView<'a, S, Reference>,
+) -> Result<(), Stop>
+    ensures { Shows W.puts W.halts W.stops sink.old
+        (canonical_in S.tests mode (base_text resolver.now) (split_text reference.now)) sink.new result }
+{
+    resolver
+        .resolve_split(reference)
+        .and_normalize_in(mode)
+        .show(sink)
+}
+
 /// Shows the canonical text of a reference against a resolver's base to a sink: the reference resolved (RFC 3986
 /// section 5.2) and put into normal form (section 6.2.2). Allocates nothing.
 ///
@@ -62,6 +80,7 @@ pub enum CanonError {
 /// assert!(rt; show_canonical(&mut sink, &page, &SplitView::new("../%67")?).is_ok());
 /// assert_eq!(rt; sink.as_str(), "http://a/b/g");
 /// ```
+#[inline(always)]
 pub fn show_canonical<'a, S: Spec, W: TextSink>(
     sink: &mut W,
     resolver: &FixedBaseResolver<'a, S>,
@@ -78,7 +97,7 @@ pub fn show_canonical<'a, S: Spec, W: TextSink>(
         let bare = lacks_triplets(reference.parts());
         return show_lowered::<S, W>(sink, prefix, rest, bare);
     }
-    resolver.resolve_split(reference).and_normalize().show(sink)
+    show_resolved::<S, W>(sink, CanonMode::Default, resolver, reference)
 }
 
 /// Shows the canonical text of a reference against a resolver's base to a sink, by the rules of a mode. Allocates
@@ -99,6 +118,7 @@ pub fn show_canonical<'a, S: Spec, W: TextSink>(
 /// assert!(rt; show_canonical_in(&mut sink, CanonMode::Scheme, &page, &SplitView::new("//h:80")?).is_ok());
 /// assert_eq!(rt; sink.as_str(), "http://h/");
 /// ```
+#[inline(always)]
 pub fn show_canonical_in<'a, S: Spec, W: TextSink>(
     sink: &mut W,
     mode: CanonMode,
@@ -111,10 +131,7 @@ pub fn show_canonical_in<'a, S: Spec, W: TextSink>(
     if resolver.is_alike(mode, reference) {
         return show_canonical(sink, resolver, reference);
     }
-    resolver
-        .resolve_split(reference)
-        .and_normalize_in(mode)
-        .show(sink)
+    show_resolved::<S, W>(sink, mode, resolver, reference)
 }
 
 // The canonical text of bytes against a base.

@@ -295,6 +295,7 @@ impl<'a, S: Spec> FixedBaseResolver<'a, S> {
 
     // What comes before a reference in its canonical text, where nothing in the reference changes but its percent-encoded octets:
     // after these two its own text follows. `None` says nothing.
+    #[inline(always)]
     pub(crate) fn before_unchanged(
         &self,
         reference: &SplitView<'a, S, Reference>,

@@ -1,26 +1,30 @@
 -- The key of an entry that was taken out goes, and another one comes into its slot.
 use Rattle.iri_register.proofs.Common.{bytes_eq, ◌≡◌, ℕ, zero, suc, ◌+◌, ◌-◌, ◌<◌, List, [], ◌∷◌, ◌++◌, length, map, filter, true, false}
-use Rattle.iri_register.proofs.Common.{Some, None, is_some, option_map, position, String, string_bytes, Global, refl, sym, ◌∙◌, ap, arith}
-use Rattle.iri_register.proofs.Common.{Vec, Ok, keys_of, lookup, IsDistinct, AllByRecursion, Entry, place, entry_of, entries_of, is_live}
+use Rattle.iri_register.proofs.Common.{Some, None, is_some, option_map, position, string_bytes, Key, AreHashed, IsHashed, key_eq, refl, sym, ◌∙◌, ap, arith}
+use Rattle.iri_register.proofs.Common.{Lines, Ok, keys_of, lookup, IsDistinct, AllByRecursion, Entry, place, entry_of, entries_of, is_live}
 use Rattle.iri_register.proofs.Common.{is_text, IsAt, flag_at, gaps, Moves, IsKept}
-use Rattle.std.proofs.Common.{not, take, Bool, cond, string_eq, nat_lt, slice_set, ⊎_elim, lt-ltb}
+use Rattle.std.proofs.Common.{not, take, Bool, cond, nat_lt, slice_set, ⊎_elim, lt-ltb}
 use Rattle.std.specs.Prelude.{slice_index_or, OnOk, Result, Err}
 use Rattle.std.proofs.lemmas.Bool.{cases_lt}
+use Rattle.std.proofs.lemmas.List.{length-append, length-map, length-set}
 use Rattle.std.proofs.lemmas.Option.{none-some}
 use Rattle.std.specs.List.{position_or_len, swap_remove}
+use Rattle.std.specs.declared.hash.DefaultHasher.{DefaultHasher}
 use Rattle.indexmap.specs.IndexMap.{insert_entry, swap_remove_entry}
+use Rattle.iri_register.proofs.GroupLemmas.{same}
+use Rattle.iri_register.proofs.HashLemmas.{hashed_last, hashed_slot, position_as}
 use Rattle.iri_register.proofs.MapLemmas.{less_none}
 use Rattle.iri_register.proofs.SlotLemmas.{at_within, apart_text, flag_false, flag_small, place_live, live_within}
 use Rattle.iri_register.proofs.SlotLemmas.{insert_last, kept_as}
 
 -- a target that has no entry stands in a slot that was given up
-pub dead_at : (t : List ℕ) (es : List (String Global × Vec ℕ)) (i : ℕ) → IsAt t es i → place (entries_of es) t ≡ None → flag_at es i ≡ 0
+pub dead_at : (t : List ℕ) (es : List (Key × Lines)) (i : ℕ) → IsAt t es i → place (entries_of es) t ≡ None → flag_at es i ≡ 0
 dead_at t es i h n =
     let small = flag_small es i in
     ⊎_elim (λ y. omega arith) (λ y. let one : flag_at es i ≡ 1 = omega arith in absurd (none-some _ (sym n ∙ place_live t es i h one)))
     (cases_lt (flag_at es i) 1)
 
-none_among : (t : List ℕ) (es : List (String Global × Vec ℕ)) → AllByRecursion (λ y. is_text t y ≡ false) (keys_of es)
+none_among : (t : List ℕ) (es : List (Key × Lines)) → AllByRecursion (λ y. is_text t y ≡ false) (keys_of es)
     → is_some (lookup (is_text t) (filter is_live es)) ≡ false
 none_among t [] h = refl
 none_among t (e ∷ es) h =
@@ -31,20 +35,20 @@ none_among t (e ∷ es) h =
     ]
 
 -- and is no key of the entries that stay
-pub lookup_gone : (t : List ℕ) (es : List (String Global × Vec ℕ)) (i : ℕ) → IsDistinct string_eq (keys_of es) → IsAt t es i
-    → flag_at es i ≡ 0 → is_some (lookup (is_text t) (filter is_live es)) ≡ false
+pub lookup_gone : (h : DefaultHasher) (t : List ℕ) (es : List (Key × Lines)) (i : ℕ) → AreHashed h es → IsDistinct key_eq (keys_of es)
+    → IsAt t es i → flag_at es i ≡ 0 → is_some (lookup (is_text t) (filter is_live es)) ≡ false
 unfolding IsDistinct
-lookup_gone t [] i d h f = absurd h
-lookup_gone t (e ∷ es) zero d h f = rw (flag_false e f) (none_among t es (apart_text t e.0 h es d.0))
-lookup_gone t (e ∷ es) (suc i) d h f =
-    let rest = lookup_gone t es i d.1 h.1 f in
+lookup_gone h t [] i hs d a f = absurd a
+lookup_gone h t (e ∷ es) zero hs d a f = rw (flag_false e f) (none_among t es (apart_text h t e.0 a hs.0 es hs.1 d.0))
+lookup_gone h t (e ∷ es) (suc i) hs d a f =
+    let rest = lookup_gone h t es i hs.1 d.1 a.1 f in
     elim (is_live e) as (λ b. is_some (lookup (is_text t) (cond b (e ∷ filter is_live es) (filter is_live es))) ≡ false) [
-      | true ↦ rw h.0 rest
+      | true ↦ rw a.0 rest
       | false ↦ rest
     ]
 
 -- where no entry was taken out, a target that has none is no key
-pub absent_live : (t : List ℕ) (es : List (String Global × Vec ℕ)) → length es ≡ length (filter is_live es) → place (entries_of es) t ≡ None
+pub absent_live : (t : List ℕ) (es : List (Key × Lines)) → length es ≡ length (filter is_live es) → place (entries_of es) t ≡ None
     → is_some (lookup (is_text t) es) ≡ false
 absent_live t [] h n = refl
 absent_live t (e ∷ es) h n = by (λ l m. absent_live t es l m) (is_live e) h n
@@ -63,35 +67,26 @@ absent_live t (e ∷ es) h n = by (λ l m. absent_live t es l m) (is_live e) h n
 
 -- ---- the last entry comes into the slot
 
-at_more : (t : List ℕ) (es : List (String Global × Vec ℕ)) (i : ℕ) (x : String Global × Vec ℕ) → IsAt t es i → IsAt t (es ++ x ∷ []) i
+at_more : (t : List ℕ) (es : List (Key × Lines)) (i : ℕ) (x : Key × Lines) → IsAt t es i → IsAt t (es ++ x ∷ []) i
 at_more t [] i x h = absurd h
 at_more t (e ∷ es) zero x h = h
 at_more t (e ∷ es) (suc i) x h = (h.0, at_more t es i x h.1)
 
-or_len_at : (t : List ℕ) (es : List (String Global × Vec ℕ)) (i : ℕ) → IsAt t es i → position_or_len (is_text t) (keys_of es) ≡ i
+or_len_at : (t : List ℕ) (es : List (Key × Lines)) (i : ℕ) → IsAt t es i → position_or_len (is_text t) (keys_of es) ≡ i
 or_len_at t [] i h = absurd h
 or_len_at t (e ∷ es) zero h = ap (λ b. cond (not b) (1 + position_or_len (is_text t) (keys_of es)) 0) h
 or_len_at t (e ∷ es) (suc i) h =
     ap (λ b. cond (not b) (1 + position_or_len (is_text t) (keys_of es)) 0) h.0 ∙ (ap (λ n. 1 + n) (or_len_at t es i h.1) ∙ omega arith)
 
-length_keys : (es : List (String Global × Vec ℕ)) → length (keys_of es) ≡ length es
-length_keys [] = refl
-length_keys (e ∷ es) = ap suc (length_keys es)
-
-pub position_at : (t : List ℕ) (es : List (String Global × Vec ℕ)) (i : ℕ) → IsAt t es i → position (is_text t) (keys_of es) ≡ Some i
+pub position_at : (t : List ℕ) (es : List (Key × Lines)) (i : ℕ) → IsAt t es i → position (is_text t) (keys_of es) ≡ Some i
 position_at t es i h =
     let o = or_len_at t es i h in
     let w = at_within t es i h in
-    let l = length_keys es in
+    let l = length-map es (λ (e : Key × Lines). e.0) in
     ap (λ k. cond (nat_lt k (length (keys_of es))) (Some k) None) o ∙ ap (λ b. cond b (Some i) None) (lt-ltb i (length (keys_of es)) (omega arith))
 
 length_more : {X : Type 0} (xs : List X) (x : X) → length (xs ++ x ∷ []) - 1 ≡ length xs
-length_more [] x = refl
-length_more (y ∷ xs) x = let l = length_more xs x in omega (arith, l, longer xs x)
-  where
-    longer : {X : Type 0} (xs : List X) (x : X) → length (xs ++ x ∷ []) ≡ length xs + 1
-    longer [] x = refl
-    longer (y ∷ xs) x = let l = longer xs x in omega arith
+length_more xs x = let l = length-append xs (x ∷ []) in omega (arith, l)
 
 last_one : {X : Type 0} (xs : List X) (x d : X) → slice_index_or (xs ++ x ∷ []) (length xs) d ≡ x
 last_one [] x d = refl
@@ -111,26 +106,24 @@ swap_last xs i x d h =
     ap (λ n. take n (slice_set (xs ++ x ∷ []) i (slice_index_or (xs ++ x ∷ []) n d))) (length_more xs x)
     ∙ (ap (λ y. take (length xs) (slice_set (xs ++ x ∷ []) i y)) (last_one xs x d) ∙ taken_in xs i x x h)
 
-pub swapped_in : (t : List ℕ) (es : List (String Global × Vec ℕ)) (i : ℕ) (x : String Global × Vec ℕ) → IsAt t es i
-    → swap_remove_entry (is_text t) (es ++ x ∷ []) ≡ slice_set es i x
-swapped_in t [] i x h = absurd h
-swapped_in t (e ∷ es) i x h = rw (position_at t ((e ∷ es) ++ x ∷ []) i (at_more t (e ∷ es) i x h)) (swap_last (e ∷ es) i x e (at_within t (e ∷ es) i h))
+pub swapped_in : (t : List ℕ) (es : List (Key × Lines)) (i : ℕ) (x : Key × Lines) (E : Key → Bool) → IsAt t es i
+    → position E (keys_of (es ++ x ∷ [])) ≡ position (is_text t) (keys_of (es ++ x ∷ []))
+    → swap_remove_entry E (es ++ x ∷ []) ≡ slice_set es i x
+swapped_in t [] i x E h p = absurd h
+swapped_in t (e ∷ es) i x E h p =
+    rw (p ∙ position_at t ((e ∷ es) ++ x ∷ []) i (at_more t (e ∷ es) i x h)) (swap_last (e ∷ es) i x e (at_within t (e ∷ es) i h))
 
 -- a new key goes last, and then into the slot of the one that goes
-pub slot_given : (t : List ℕ) (key : String Global) (w : Vec ℕ) (es more less : List (String Global × Vec ℕ)) (i : ℕ) → IsAt t es i
-    → is_some (lookup (is_text (string_bytes key)) es) ≡ false → more ≡ insert_entry string_eq es key w
-    → less ≡ swap_remove_entry (is_text t) more → less ≡ slice_set es i (key, w)
-slot_given t key w es more less i at absent m l =
-    l ∙ (ap (swap_remove_entry (is_text t)) (m ∙ insert_last key w es absent) ∙ swapped_in t es i (key, w) at)
+pub slot_given : (h : DefaultHasher) (q key : Key) (w : Lines) (es more less : List (Key × Lines)) (i : ℕ) → IsHashed h q → IsHashed h key
+    → AreHashed h es → IsAt (string_bytes q.text) es i → is_some (lookup (is_text (string_bytes key.text)) es) ≡ false
+    → more ≡ insert_entry key_eq es key w → less ≡ swap_remove_entry (key_eq q) more → less ≡ slice_set es i (key, w)
+slot_given h q key w es more less i hq hk hs at absent m l =
+    l ∙ (ap (swap_remove_entry (key_eq q)) (m ∙ insert_last key w es absent)
+    ∙ swapped_in (string_bytes q.text) es i (key, w) (key_eq q) at (position_as h q (es ++ (key, w) ∷ []) hq (hashed_last h es (key, w) hs hk)))
 
 -- ---- an entry without lines in a slot that was given up changes nothing
 
-pub length_slot : (es : List (String Global × Vec ℕ)) (i : ℕ) (x : String Global × Vec ℕ) → length (slice_set es i x) ≡ length es
-length_slot [] i x = refl
-length_slot (e ∷ es) zero x = refl
-length_slot (e ∷ es) (suc i) x = ap suc (length_slot es i x)
-
-pub entries_dead : (es : List (String Global × Vec ℕ)) (i : ℕ) (x : String Global × Vec ℕ) → flag_at es i ≡ 0 → is_live x ≡ false
+pub entries_dead : (es : List (Key × Lines)) (i : ℕ) (x : Key × Lines) → flag_at es i ≡ 0 → is_live x ≡ false
     → entries_of (slice_set es i x) ≡ entries_of es
 entries_dead [] i x f n = refl
 entries_dead (e ∷ es) zero x f n = rw (n, flag_false e f) refl
@@ -142,7 +135,7 @@ entries_dead (e ∷ es) (suc i) x f n =
       | false ↦ rest
     ]
 
-gaps_dead : (es : List (String Global × Vec ℕ)) (i k : ℕ) (x : String Global × Vec ℕ) → flag_at es i ≡ 0 → is_live x ≡ false
+gaps_dead : (es : List (Key × Lines)) (i k : ℕ) (x : Key × Lines) → flag_at es i ≡ 0 → is_live x ≡ false
     → gaps (slice_set es i x) k ≡ gaps es k
 gaps_dead [] i k x f n = refl
 gaps_dead (e ∷ es) zero zero x f n = refl
@@ -150,9 +143,9 @@ gaps_dead (e ∷ es) zero (suc k) x f n = rw (n, flag_false e f) refl
 gaps_dead (e ∷ es) (suc i) zero x f n = refl
 gaps_dead (e ∷ es) (suc i) (suc k) x f n = ap (λ m. cond (is_live e) 0 1 + m) (gaps_dead es i k x f n)
 
-pub kept_dead : {es : List (String Global × Vec ℕ)} {m : Moves} {live : ℕ} → IsKept es m live → (i : ℕ) (x : String Global × Vec ℕ)
-    → flag_at es i ≡ 0 → is_live x ≡ false → IsKept (slice_set es i x) m live
-kept_dead {es} kept i x f n = kept_as kept (slice_set es i x) (length_slot es i x) (λ k. gaps_dead es i k x f n)
+pub kept_dead : {h : DefaultHasher} {es : List (Key × Lines)} {m : Moves} {live : ℕ} → IsKept h es m live → (i : ℕ) (x : Key × Lines)
+    → IsHashed h x.0 → flag_at es i ≡ 0 → is_live x ≡ false → IsKept h (slice_set es i x) m live
+kept_dead {h} {es} kept i x a f n = kept_as kept (slice_set es i x) (hashed_slot h es i x kept.hashed a) (length-set es i x) (λ k. gaps_dead es i k x f n)
 
 pub on_ok : {A E : Type 0} {P Q : Type 0} (r : Result A E) → OnOk r P → (P → Q) → OnOk r Q
 on_ok (Ok a) h f = f h
@@ -160,7 +153,7 @@ on_ok (Err e) h f = h
 
 -- ---- each target once
 
-apart_live : (t : List ℕ) (es : List (String Global × Vec ℕ)) → AllByRecursion (λ y. is_text t y ≡ false) (keys_of es)
+apart_live : (t : List ℕ) (es : List (Key × Lines)) → AllByRecursion (λ y. is_text t y ≡ false) (keys_of es)
     → AllByRecursion (λ u. bytes_eq t u ≡ false) (map (λ (e : Entry). e.target) (entries_of es))
 apart_live t [] h = tt
 apart_live t (e ∷ es) h =
@@ -168,13 +161,14 @@ apart_live t (e ∷ es) h =
     elim (is_live e) as (λ b. AllByRecursion (λ u. bytes_eq t u ≡ false) (map (λ (e : Entry). e.target) (map entry_of (cond b (e ∷ filter is_live es) (filter
     is_live es))))) [ true ↦ (h.0, rest) | false ↦ rest ]
 
-pub once_live : (es : List (String Global × Vec ℕ)) → IsDistinct string_eq (keys_of es)
+pub once_live : (h : DefaultHasher) (es : List (Key × Lines)) → AreHashed h es → IsDistinct key_eq (keys_of es)
     → IsDistinct bytes_eq (map (λ (e : Entry). e.target) (entries_of es))
 unfolding IsDistinct
-once_live [] h = tt
-once_live (e ∷ es) h =
-    let rest = once_live es h.1 in
+once_live h [] hs d = tt
+once_live h (e ∷ es) hs d =
+    let rest = once_live h es hs.1 d.1 in
+    let t = string_bytes e.0.text in
     elim (is_live e) as (λ b. IsDistinct bytes_eq (map (λ (e : Entry). e.target) (map entry_of (cond b (e ∷ filter is_live es) (filter is_live es))))) [
-      | true ↦ (apart_live (string_bytes e.0) es h.0, rest)
+      | true ↦ (apart_live t es (apart_text h t e.0 (same t) hs.0 es hs.1 d.0), rest)
       | false ↦ rest
     ]

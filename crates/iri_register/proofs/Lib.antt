@@ -1,6 +1,7 @@
 mod Common
 pub mod CommandLemmas
 pub mod GroupLemmas
+pub mod HashLemmas
 pub mod KeyLemmas
 pub mod MapLemmas
 pub mod MoveLemmas

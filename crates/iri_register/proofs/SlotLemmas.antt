@@ -1,29 +1,32 @@
 -- What the slots say of the entries that were not taken out.
-use Rattle.iri_register.proofs.Common.{Vec, keys_of, lookup, IsDistinct, AllByRecursion, Entry, entry_at, place, added, removed, line_count}
+use Rattle.iri_register.proofs.Common.{Lines, numbers_in, Key, AreHashed, IsHashed, key_eq, keys_of, lookup, IsDistinct, AllByRecursion, Entry, entry_at, place, added, removed, line_count}
 use Rattle.iri_register.proofs.Common.{entry_of, entries_of, has_lines, is_live, Moves, moved, IsBlocked, is_text, IsAt, flag_at, gaps, IsKept}
 use Rattle.std.proofs.Common.{bytes_eq, ◌≡◌, ◌≢◌, ℕ, zero, suc, ◌+◌, ◌-◌, ◌<◌, ◌≤◌, List, [], ◌∷◌, ◌++◌, length, map, filter}
-use Rattle.std.proofs.Common.{slice_get, true, Bool, false, cond, true≢false, Some, None, is_some, option_map, String, string_bytes}
-use Rattle.std.proofs.Common.{string_eq, Global, refl, sym, ◌∙◌, ap, subst, arith, not, ⊎_elim}
-use Rattle.std.specs.Bool.{◌==◌}
-use Rattle.std.proofs.lemmas.Bool.{cases_lt, eqb-true, false_from_ne_true}
+use Rattle.std.proofs.Common.{slice_get, true, false, cond, true≢false, Some, None, is_some, option_map, ◌&&◌, string_bytes}
+use Rattle.std.proofs.Common.{refl, sym, ◌∙◌, ap, subst, arith, ⊎_elim}
+use Rattle.std.proofs.lemmas.Bool.{cases_lt}
+use Rattle.std.proofs.lemmas.List.{length-append}
 use Rattle.std.proofs.lemmas.Option.{none-some, same_Some}
 use Rattle.std.specs.Map.{values_of}
+use Rattle.std.specs.Prelude.{nat_eq}
+use Rattle.std.specs.declared.hash.DefaultHasher.{DefaultHasher}
 use Rattle.indexmap.specs.IndexMap.{set_value_at, insert_entry}
 use Rattle.iri_register.specs.Entries.{with_line}
 use Rattle.iri_register.specs.inside.Slots.{flag}
 use Rattle.iri_register.proofs.GroupLemmas.{is_same}
+use Rattle.iri_register.proofs.HashLemmas.{and_false, as_texts, hashed_last, hashed_live, hashed_set}
 use Rattle.iri_register.proofs.MapLemmas.{less_none}
 
 -- ---- gaps
 
-pub gaps_small : (es : List (String Global × Vec ℕ)) (n : ℕ) → gaps es n ≤ n
+pub gaps_small : (es : List (Key × Lines)) (n : ℕ) → gaps es n ≤ n
 gaps_small [] n = omega arith
 gaps_small (e ∷ es) zero = omega arith
 gaps_small (e ∷ es) (suc n) =
     let rest = gaps_small es n in
     elim (is_live e) as (λ b. cond b 0 1 + gaps es n ≤ suc n) [ true ↦ omega (arith, rest) | false ↦ omega (arith, rest) ]
 
-pub gaps_most : (es : List (String Global × Vec ℕ)) (n : ℕ) → gaps es n + length (filter is_live es) ≤ length es
+pub gaps_most : (es : List (Key × Lines)) (n : ℕ) → gaps es n + length (filter is_live es) ≤ length es
 gaps_most [] n = omega arith
 gaps_most (e ∷ es) zero = let rest = gaps_most es zero in
     elim (is_live e) as (λ b. ◌≤◌ (0 + length (cond b (e ∷ filter is_live es) (filter is_live es))) (suc (length es))) [
@@ -36,7 +39,7 @@ gaps_most (e ∷ es) (suc n) = let rest = gaps_most es n in
       | false ↦ omega (arith, rest)
     ]
 
-pub gaps_all : (es : List (String Global × Vec ℕ)) (n : ℕ) → length es ≤ n → gaps es n + length (filter is_live es) ≡ length es
+pub gaps_all : (es : List (Key × Lines)) (n : ℕ) → length es ≤ n → gaps es n + length (filter is_live es) ≡ length es
 gaps_all [] n h = refl
 gaps_all (e ∷ es) zero h = absurd (omega arith)
 gaps_all (e ∷ es) (suc n) h =
@@ -46,13 +49,13 @@ gaps_all (e ∷ es) (suc n) h =
       | false ↦ omega (arith, rest)
     ]
 
-pub gaps_next : (es : List (String Global × Vec ℕ)) (n : ℕ) → n < length es → gaps es (suc n) + flag_at es n ≡ gaps es n + 1
+pub gaps_next : (es : List (Key × Lines)) (n : ℕ) → n < length es → gaps es (suc n) + flag_at es n ≡ gaps es n + 1
 gaps_next [] n h = absurd (omega arith)
 gaps_next (e ∷ es) zero h =
     let z = none es in
     elim (is_live e) as (λ b. cond b 0 1 + gaps es 0 + cond b 1 0 ≡ 0 + 1) [ true ↦ omega (arith, z) | false ↦ omega (arith, z) ]
   where
-    none : (es : List (String Global × Vec ℕ)) → gaps es 0 ≡ 0
+    none : (es : List (Key × Lines)) → gaps es 0 ≡ 0
     none [] = refl
     none (e ∷ es) = refl
 gaps_next (e ∷ es) (suc n) h = let rest = gaps_next es n (omega arith) in omega (arith, rest)
@@ -60,20 +63,20 @@ gaps_next (e ∷ es) (suc n) h = let rest = gaps_next es n (omega arith) in omeg
 zero_one : ◌≡◌ {A = ℕ} 0 1 → ⊥
 zero_one h = omega (arith, h)
 
-pub flag_true : (e : String Global × Vec ℕ) → flag e ≡ 1 → is_live e ≡ true
+pub flag_true : (e : Key × Lines) → flag e ≡ 1 → is_live e ≡ true
 flag_true e h = elim (is_live e) as (λ b. ◌≡◌ {A = ℕ} (cond b 1 0) 1 → b ≡ true) [ true ↦ λ m. refl | false ↦ λ m. absurd (zero_one m) ] h
 
-pub flag_false : (e : String Global × Vec ℕ) → flag e ≡ 0 → is_live e ≡ false
+pub flag_false : (e : Key × Lines) → flag e ≡ 0 → is_live e ≡ false
 flag_false e h = elim (is_live e) as (λ b. ◌≡◌ {A = ℕ} (cond b 1 0) 0 → b ≡ false) [ true ↦ λ m. absurd (zero_one (sym m)) | false ↦ λ m. refl ] h
 
 -- ---- places
 
-pub at_within : (t : List ℕ) (es : List (String Global × Vec ℕ)) (i : ℕ) → IsAt t es i → i < length es
+pub at_within : (t : List ℕ) (es : List (Key × Lines)) (i : ℕ) → IsAt t es i → i < length es
 at_within t [] i h = absurd h
 at_within t (e ∷ es) zero h = omega arith
 at_within t (e ∷ es) (suc i) h = let rest = at_within t es i h.1 in omega arith
 
-pub place_live : (t : List ℕ) (es : List (String Global × Vec ℕ)) (i : ℕ) → IsAt t es i → flag_at es i ≡ 1
+pub place_live : (t : List ℕ) (es : List (Key × Lines)) (i : ℕ) → IsAt t es i → flag_at es i ≡ 1
     → place (entries_of es) t ≡ Some (i - gaps es i + 1)
 place_live t [] i h f = absurd h
 place_live t (e ∷ es) zero h f = rw (flag_true e f, h) refl
@@ -86,7 +89,7 @@ place_live t (e ∷ es) (suc i) h f =
       | false ↦ rest ∙ ap Some (omega (arith, small))
     ]
 
-pub place_absent : (t : List ℕ) (es : List (String Global × Vec ℕ)) → AllByRecursion (λ y. is_text t y ≡ false) (keys_of es)
+pub place_absent : (t : List ℕ) (es : List (Key × Lines)) → AllByRecursion (λ y. is_text t y ≡ false) (keys_of es)
     → place (entries_of es) t ≡ None
 place_absent t [] h = refl
 place_absent t (e ∷ es) h =
@@ -96,7 +99,7 @@ place_absent t (e ∷ es) h =
       | false ↦ rest
     ]
 
-pub lookup_absent : (t : List ℕ) (es : List (String Global × Vec ℕ)) → is_some (lookup (is_text t) es) ≡ false
+pub lookup_absent : (t : List ℕ) (es : List (Key × Lines)) → is_some (lookup (is_text t) es) ≡ false
     → AllByRecursion (λ y. is_text t y ≡ false) (keys_of es)
 lookup_absent t [] h = tt
 lookup_absent t (e ∷ es) h =
@@ -108,7 +111,7 @@ lookup_absent t (e ∷ es) h =
 
 -- ---- the entry at a place
 
-pub entry_live : (es : List (String Global × Vec ℕ)) (s : ℕ) → flag_at es s ≡ 1
+pub entry_live : (es : List (Key × Lines)) (s : ℕ) → flag_at es s ≡ 1
     → slice_get (entries_of es) (s - gaps es s) ≡ option_map entry_of (slice_get es s)
 entry_live [] s f = absurd (omega arith)
 entry_live (e ∷ es) zero f = rw (flag_true e f) refl
@@ -124,8 +127,8 @@ entry_live (e ∷ es) (suc s) f =
 
 -- ---- an entry is taken out
 
-pub removed_live : (t : List ℕ) (es : List (String Global × Vec ℕ)) (i : ℕ) (w : Vec ℕ) → IsAt t es i → flag_at es i ≡ 1
-    → has_lines w.items ≡ false → entries_of (set_value_at es i w) ≡ removed (entries_of es) t
+pub removed_live : (t : List ℕ) (es : List (Key × Lines)) (i : ℕ) (w : Lines) → IsAt t es i → flag_at es i ≡ 1
+    → has_lines (numbers_in w) ≡ false → entries_of (set_value_at es i w) ≡ removed (entries_of es) t
 removed_live t [] i w h f n = absurd h
 removed_live t (e ∷ es) zero w h f n = rw (n, flag_true e f, h) refl
 removed_live t (e ∷ es) (suc i) w h f n =
@@ -136,13 +139,13 @@ removed_live t (e ∷ es) (suc i) w h f n =
       | false ↦ rest
     ]
 
-pub count_live : (t : List ℕ) (es : List (String Global × Vec ℕ)) (i : ℕ) (v : Vec ℕ) → IsAt t es i → flag_at es i ≡ 1
-    → slice_get (values_of es) i ≡ Some v → line_count (entries_of es) t ≡ Some (length v.items)
+pub count_live : (t : List ℕ) (es : List (Key × Lines)) (i : ℕ) (v : Lines) → IsAt t es i → flag_at es i ≡ 1
+    → slice_get (values_of es) i ≡ Some v → line_count (entries_of es) t ≡ Some (length (numbers_in v))
 count_live t [] i v h f g = absurd h
-count_live t (e ∷ es) zero v h f g = rw (flag_true e f, h) (ap (λ (u : Vec ℕ). Some (length u.items)) (same_Some _ _ g))
+count_live t (e ∷ es) zero v h f g = rw (flag_true e f, h) (ap (λ (u : Lines). Some (length (numbers_in u))) (same_Some _ _ g))
 count_live t (e ∷ es) (suc i) v h f g =
     let rest = count_live t es i v h.1 f g in
-    elim (is_live e) as (λ b. line_count (map entry_of (cond b (e ∷ filter is_live es) (filter is_live es))) t ≡ Some (length v.items)) [
+    elim (is_live e) as (λ b. line_count (map entry_of (cond b (e ∷ filter is_live es) (filter is_live es))) t ≡ Some (length (numbers_in v))) [
       | true ↦ rw (h.0, rest) refl
       | false ↦ rest
     ]
@@ -164,74 +167,68 @@ removed_none (e ∷ es) t h =
     ] h
 
 -- the slots before it stay, and those after it move up
-pub gaps_before : (es : List (String Global × Vec ℕ)) (i k : ℕ) (w : Vec ℕ) → k ≤ i → gaps (set_value_at es i w) k ≡ gaps es k
+pub gaps_before : (es : List (Key × Lines)) (i k : ℕ) (w : Lines) → k ≤ i → gaps (set_value_at es i w) k ≡ gaps es k
 gaps_before [] i k w h = refl
 gaps_before (e ∷ es) zero zero w h = refl
 gaps_before (e ∷ es) zero (suc k) w h = absurd (omega arith)
 gaps_before (e ∷ es) (suc i) zero w h = refl
 gaps_before (e ∷ es) (suc i) (suc k) w h = ap (λ n. cond (is_live e) 0 1 + n) (gaps_before es i k w (omega arith))
 
-pub gaps_after : (es : List (String Global × Vec ℕ)) (i k : ℕ) (w : Vec ℕ) → i < k → flag_at es i ≡ 1 → has_lines w.items ≡ false
+pub gaps_after : (es : List (Key × Lines)) (i k : ℕ) (w : Lines) → i < k → flag_at es i ≡ 1 → has_lines (numbers_in w) ≡ false
     → gaps (set_value_at es i w) k ≡ gaps es k + 1
 gaps_after [] i k w h f n = absurd (zero_one f)
 gaps_after (e ∷ es) i zero w h f n = absurd (omega arith)
 gaps_after (e ∷ es) zero (suc k) w h f n = rw (n, flag_true e f) (omega arith)
 gaps_after (e ∷ es) (suc i) (suc k) w h f n = let rest = gaps_after es i k w (omega arith) f n in omega (arith, rest)
 
-pub length_set : (es : List (String Global × Vec ℕ)) (i : ℕ) (w : Vec ℕ) → length (set_value_at es i w) ≡ length es
+pub length_set : (es : List (Key × Lines)) (i : ℕ) (w : Lines) → length (set_value_at es i w) ≡ length es
 length_set [] i w = refl
 length_set (e ∷ es) zero w = refl
 length_set (e ∷ es) (suc i) w = ap suc (length_set es i w)
 
 -- ---- what the slot that a search found says
 
-pub flag_entry : (es : List (String Global × Vec ℕ)) (i : ℕ) (k : String Global) (v : Vec ℕ) → slice_get es i ≡ Some (k, v)
-    → flag_at es i ≡ cond (has_lines v.items) 1 0
+pub flag_entry : (es : List (Key × Lines)) (i : ℕ) (k : Key) (v : Lines) → slice_get es i ≡ Some (k, v)
+    → flag_at es i ≡ cond (has_lines (numbers_in v)) 1 0
 flag_entry [] i k v h = absurd (none-some _ h)
-flag_entry (e ∷ es) zero k v h = ap (λ (p : String Global × Vec ℕ). cond (has_lines p.1.items) 1 0) (same_Some _ _ h)
+flag_entry (e ∷ es) zero k v h = ap (λ (p : Key × Lines). cond (has_lines (numbers_in p.1)) 1 0) (same_Some _ _ h)
 flag_entry (e ∷ es) (suc i) k v h = flag_entry es i k v h
 
-nonzero : (n : ℕ) → 0 < n → (n == 0) ≡ false
-nonzero n h = false_from_ne_true (n == 0) (λ e. let q = eqb-true n 0 e in omega (arith, q, h))
+pub apart_text : (h : DefaultHasher) (t : List ℕ) (k : Key) → bytes_eq t (string_bytes k.text) ≡ true → IsHashed h k
+    → (es : List (Key × Lines)) → AreHashed h es → AllByRecursion (λ y. key_eq k y ≡ false) (keys_of es)
+    → AllByRecursion (λ y. is_text t y ≡ false) (keys_of es)
+apart_text h t k e hk [] hs a = tt
+apart_text h t k e hk (x ∷ es) hs a = (
+  subst (λ v. bytes_eq v (string_bytes x.0.text) ≡ false) (sym (is_same t (string_bytes k.text) e)) (sym (as_texts h k x.0 hk hs.0) ∙ a.0),
+  apart_text h t k e hk es hs.1 a.1,
+)
 
-pub empty_none : (ls : List ℕ) (n : ℕ) → n ≡ length ls → (n == 0) ≡ true → has_lines ls ≡ false
-empty_none [] n e h = refl
-empty_none (l ∷ ls) n e h = absurd (true≢false (sym h ∙ nonzero n (omega (arith, e))))
-
-pub empty_some : (ls : List ℕ) (n : ℕ) → n ≡ length ls → (n == 0) ≡ false → has_lines ls ≡ true
-empty_some [] n e h = absurd (true≢false (sym (ap (λ k. k == 0) e) ∙ h))
-empty_some (l ∷ ls) n e h = refl
-
-pub apart_text : (t : List ℕ) (k : String Global) → bytes_eq t (string_bytes k) ≡ true → (es : List (String Global × Vec ℕ))
-    → AllByRecursion (λ y. string_eq k y ≡ false) (keys_of es) → AllByRecursion (λ y. is_text t y ≡ false) (keys_of es)
-apart_text t k e [] h = tt
-apart_text t k e (x ∷ es) h = (subst (λ v. bytes_eq v (string_bytes x.0) ≡ false) (sym (is_same t (string_bytes k) e)) h.0, apart_text t k e es h.1)
-
-pub place_dead : (t : List ℕ) (es : List (String Global × Vec ℕ)) (i : ℕ) → IsDistinct string_eq (keys_of es) → IsAt t es i
-    → flag_at es i ≡ 0 → place (entries_of es) t ≡ None
+pub place_dead : (h : DefaultHasher) (t : List ℕ) (es : List (Key × Lines)) (i : ℕ) → AreHashed h es → IsDistinct key_eq (keys_of es)
+    → IsAt t es i → flag_at es i ≡ 0 → place (entries_of es) t ≡ None
 unfolding IsDistinct
-place_dead t [] i d h f = absurd h
-place_dead t (e ∷ es) zero d h f = rw (flag_false e f) (place_absent t es (apart_text t e.0 h es d.0))
-place_dead t (e ∷ es) (suc i) d h f =
-    let rest = place_dead t es i d.1 h.1 f in
+place_dead h t [] i hs d a f = absurd a
+place_dead h t (e ∷ es) zero hs d a f = rw (flag_false e f) (place_absent t es (apart_text h t e.0 a hs.0 es hs.1 d.0))
+place_dead h t (e ∷ es) (suc i) hs d a f =
+    let rest = place_dead h t es i hs.1 d.1 a.1 f in
     elim (is_live e) as (λ b. place (map entry_of (cond b (e ∷ filter is_live es) (filter is_live es))) t ≡ None) [
-      | true ↦ rw (h.0, rest) refl
+      | true ↦ rw (a.0, rest) refl
       | false ↦ rest
     ]
 
 -- ---- together with the moves
 
 -- a slot of the entries has not moved up by more than its number
-pub moved_is : {es : List (String Global × Vec ℕ)} {m : Moves} {live : ℕ} → IsKept es m live → (i : ℕ) → i < length es
+pub moved_is : {h : DefaultHasher} {es : List (Key × Lines)} {m : Moves} {live : ℕ} → IsKept h es m live → (i : ℕ) → i < length es
     → moved m i ≡ gaps es i
 moved_is kept i h = kept.moves i (omega (arith, h, kept.within))
 
 -- one is taken out
-pub kept_less : {es : List (String Global × Vec ℕ)} {m : Moves} {live : ℕ} → IsKept es m live → (i : ℕ) (w : Vec ℕ) (n : Moves)
-    → i < length es → flag_at es i ≡ 1 → has_lines w.items ≡ false → IsBlocked n → length n.slots.items ≡ length m.slots.items
+pub kept_less : {k : DefaultHasher} {es : List (Key × Lines)} {m : Moves} {live : ℕ} → IsKept k es m live → (i : ℕ) (w : Lines) (n : Moves)
+    → i < length es → flag_at es i ≡ 1 → has_lines (numbers_in w) ≡ false → IsBlocked n → length n.slots.items ≡ length m.slots.items
     → ((k : ℕ) → k ≤ i → moved n k ≡ moved m k) → ((k : ℕ) → i < k → k < length m.slots.items → moved n k ≡ moved m k + 1)
-    → IsKept (set_value_at es i w) n (live - 1)
-kept_less {es} {m} {live} kept i w n h f z blocked same before after = record {
+    → IsKept k (set_value_at es i w) n (live - 1)
+kept_less {k} {es} {m} {live} kept i w n h f z blocked same before after = record {
+  hashed = hashed_set k es i w kept.hashed;
   blocked = blocked;
   within = let l = length_set es i w in omega (arith, l, same, kept.within);
   moves = λ k b. ⊎_elim
@@ -248,7 +245,7 @@ kept_less {es} {m} {live} kept i w n h f z blocked same before after = record {
       omega (arith, a, b, l, g, kept.living);
 }
 
-pub some_live : (es : List (String Global × Vec ℕ)) (i : ℕ) (w : Vec ℕ) → i < length es → flag_at es i ≡ 1 → has_lines w.items ≡ false
+pub some_live : (es : List (Key × Lines)) (i : ℕ) (w : Lines) → i < length es → flag_at es i ≡ 1 → has_lines (numbers_in w) ≡ false
     → 1 ≤ length (filter is_live es)
 some_live es i w h f n =
     let a = gaps_all es (length es) (omega arith) in
@@ -259,7 +256,7 @@ some_live es i w h f n =
 
 -- ---- by place
 
-pub flag_small : (es : List (String Global × Vec ℕ)) (i : ℕ) → flag_at es i ≤ 1
+pub flag_small : (es : List (Key × Lines)) (i : ℕ) → flag_at es i ≤ 1
 flag_small [] i = omega arith
 flag_small (e ∷ es) zero = elim (is_live e) as (λ b. ◌≤◌ (cond b 1 0) 1) [ true ↦ omega arith | false ↦ omega arith ]
 flag_small (e ∷ es) (suc i) = flag_small es i
@@ -268,18 +265,18 @@ pub entry_at_is : (es : List Entry) (k : ℕ) → k ≢ 0 → entry_at es k ≡ 
 entry_at_is es zero h = absurd (h refl)
 entry_at_is es (suc k) h = ap (slice_get es) (omega arith)
 
-pub length_listed : (es : List (String Global × Vec ℕ)) → length (entries_of es) ≡ length (filter is_live es)
+pub length_listed : (es : List (Key × Lines)) → length (entries_of es) ≡ length (filter is_live es)
 length_listed [] = refl
 length_listed (e ∷ es) =
     let rest = length_listed es in
     elim (is_live e) as (λ b. length (map entry_of (cond b (e ∷ filter is_live es) (filter is_live es)))
     ≡ length (cond b (e ∷ filter is_live es) (filter is_live es))) [ true ↦ ap suc rest | false ↦ rest ]
 
-pub live_within : (es : List (String Global × Vec ℕ)) → length (filter is_live es) ≤ length es
+pub live_within : (es : List (Key × Lines)) → length (filter is_live es) ≤ length es
 live_within es = let m = gaps_most es 0 in omega (arith, m)
 
 -- the slot that stands as far after a place as its entry moved up
-pub entry_in : (es : List (String Global × Vec ℕ)) (place s : ℕ) → place ≢ 0 → flag_at es s ≡ 1 → place - 1 + gaps es s ≡ s
+pub entry_in : (es : List (Key × Lines)) (place s : ℕ) → place ≢ 0 → flag_at es s ≡ 1 → place - 1 + gaps es s ≡ s
     → entry_at (entries_of es) place ≡ option_map entry_of (slice_get es s)
 entry_in es place s p f c =
     let here : place - 1 ≡ s - gaps es s = omega (arith, c) in
@@ -287,13 +284,13 @@ entry_in es place s p f c =
 
 -- ---- a line more
 
-pub added_live : (t : List ℕ) (n : ℕ) (es : List (String Global × Vec ℕ)) (i : ℕ) (v w : Vec ℕ) → IsAt t es i → flag_at es i ≡ 1
-    → slice_get (values_of es) i ≡ Some v → w.items ≡ v.items ++ n ∷ [] → has_lines w.items ≡ true
+pub added_live : (t : List ℕ) (n : ℕ) (es : List (Key × Lines)) (i : ℕ) (v w : Lines) → IsAt t es i → flag_at es i ≡ 1
+    → slice_get (values_of es) i ≡ Some v → numbers_in w ≡ numbers_in v ++ n ∷ [] → has_lines (numbers_in w) ≡ true
     → entries_of (set_value_at es i w) ≡ added (entries_of es) t n
 added_live t n [] i v w h f g e l = absurd h
 added_live t n (x ∷ es) zero v w h f g e l =
-    rw (l, flag_true x f, h) (ap (λ (ls : List ℕ). record { target = string_bytes x.0; lines = ls } ∷ entries_of es) (e
-    ∙ ap (λ (u : Vec ℕ). u.items ++ n ∷ []) (sym (same_Some _ _ g))))
+    rw (l, flag_true x f, h) (ap (λ (ls : List ℕ). record { target = string_bytes x.0.text; lines = ls } ∷ entries_of es) (e
+    ∙ ap (λ (u : Lines). numbers_in u ++ n ∷ []) (sym (same_Some _ _ g))))
 added_live t n (x ∷ es) (suc i) v w h f g e l =
     let rest = added_live t n es i v w h.1 f g e l in
     elim (is_live x) as (λ b. map entry_of (cond b (x ∷ filter is_live (set_value_at es i w)) (filter is_live (set_value_at es i w)))
@@ -302,23 +299,23 @@ added_live t n (x ∷ es) (suc i) v w h f g e l =
       | false ↦ rest
     ]
 
-first_as : (k : String Global) (w v : Vec ℕ) (es : List (String Global × Vec ℕ)) → w.items ≡ v.items
+first_as : (k : Key) (w v : Lines) (es : List (Key × Lines)) → numbers_in w ≡ numbers_in v
     → entries_of ((k, w) ∷ es) ≡ entries_of ((k, v) ∷ es)
 first_as k w v es e = first_shown k w es ∙ (λ j. shown k (e j) (entries_of es)) ∙ sym (first_shown k v es)
   where
-    shown : String Global → List ℕ → List Entry → List Entry
-    shown k ls rest = cond (has_lines ls) (record { target = string_bytes k; lines = ls } ∷ rest) rest
+    shown : Key → List ℕ → List Entry → List Entry
+    shown k ls rest = cond (has_lines ls) (record { target = string_bytes k.text; lines = ls } ∷ rest) rest
 
-    first_shown : (k : String Global) (w : Vec ℕ) (es : List (String Global × Vec ℕ)) → entries_of ((k, w) ∷ es)
-        ≡ cond (has_lines w.items) (record { target = string_bytes k; lines = w.items } ∷ entries_of es) (entries_of es)
+    first_shown : (k : Key) (w : Lines) (es : List (Key × Lines)) → entries_of ((k, w) ∷ es)
+        ≡ cond (has_lines (numbers_in w)) (record { target = string_bytes k.text; lines = numbers_in w } ∷ entries_of es) (entries_of es)
     first_shown k w es =
-        elim (has_lines w.items) as (λ b. map entry_of (cond b ((k, w) ∷ filter is_live es) (filter is_live es))
-        ≡ cond b (record { target = string_bytes k; lines = w.items } ∷ entries_of es) (entries_of es)) [ true ↦ refl | false ↦ refl ]
+        elim (has_lines (numbers_in w)) as (λ b. map entry_of (cond b ((k, w) ∷ filter is_live es) (filter is_live es))
+        ≡ cond b (record { target = string_bytes k.text; lines = numbers_in w } ∷ entries_of es) (entries_of es)) [ true ↦ refl | false ↦ refl ]
 
-pub same_live : (es : List (String Global × Vec ℕ)) (i : ℕ) (v w : Vec ℕ) → slice_get (values_of es) i ≡ Some v → w.items ≡ v.items
+pub same_live : (es : List (Key × Lines)) (i : ℕ) (v w : Lines) → slice_get (values_of es) i ≡ Some v → numbers_in w ≡ numbers_in v
     → entries_of (set_value_at es i w) ≡ entries_of es
 same_live [] i v w g e = refl
-same_live (x ∷ es) zero v w g e = first_as x.0 w x.1 es (e ∙ ap (λ (u : Vec ℕ). u.items) (sym (same_Some _ _ g)))
+same_live (x ∷ es) zero v w g e = first_as x.0 w x.1 es (e ∙ ap (λ (u : Lines). numbers_in u) (sym (same_Some _ _ g)))
 same_live (x ∷ es) (suc i) v w g e =
     let rest = same_live es i v w g e in
     elim (is_live x) as (λ b. map entry_of (cond b (x ∷ filter is_live (set_value_at es i w)) (filter is_live (set_value_at es i w)))
@@ -327,31 +324,32 @@ same_live (x ∷ es) (suc i) v w g e =
       | false ↦ rest
     ]
 
-pub value_live : (es : List (String Global × Vec ℕ)) (i : ℕ) (v : Vec ℕ) → flag_at es i ≡ 1 → slice_get (values_of es) i ≡ Some v
-    → has_lines v.items ≡ true
+pub value_live : (es : List (Key × Lines)) (i : ℕ) (v : Lines) → flag_at es i ≡ 1 → slice_get (values_of es) i ≡ Some v
+    → has_lines (numbers_in v) ≡ true
 value_live [] i v f g = absurd (zero_one f)
-value_live (e ∷ es) zero v f g = ap (λ (u : Vec ℕ). has_lines u.items) (sym (same_Some _ _ g)) ∙ flag_true e f
+value_live (e ∷ es) zero v f g = ap (λ (u : Lines). has_lines (numbers_in u)) (sym (same_Some _ _ g)) ∙ flag_true e f
 value_live (e ∷ es) (suc i) v f g = value_live es i v f g
 
 pub has_last : (ls : List ℕ) (n : ℕ) → has_lines (ls ++ n ∷ []) ≡ true
 has_last [] n = refl
 has_last (l ∷ ls) n = refl
 
-gaps_same : (es : List (String Global × Vec ℕ)) (i k : ℕ) (w : Vec ℕ) → flag_at es i ≡ 1 → has_lines w.items ≡ true
+gaps_same : (es : List (Key × Lines)) (i k : ℕ) (w : Lines) → flag_at es i ≡ 1 → has_lines (numbers_in w) ≡ true
     → gaps (set_value_at es i w) k ≡ gaps es k
 gaps_same [] i k w f n = refl
 gaps_same (e ∷ es) i zero w f n = none e es i w
   where
-    none : (e : String Global × Vec ℕ) (es : List (String Global × Vec ℕ)) (i : ℕ) (w : Vec ℕ) → gaps (set_value_at (e ∷ es) i w) 0 ≡ 0
+    none : (e : Key × Lines) (es : List (Key × Lines)) (i : ℕ) (w : Lines) → gaps (set_value_at (e ∷ es) i w) 0 ≡ 0
     none e es zero w = refl
     none e es (suc i) w = refl
 gaps_same (e ∷ es) zero (suc k) w f n = rw (n, flag_true e f) refl
 gaps_same (e ∷ es) (suc i) (suc k) w f n = ap (λ m. cond (is_live e) 0 1 + m) (gaps_same es i k w f n)
 
 -- as many slots, with as many gaps before each
-pub kept_as : {es : List (String Global × Vec ℕ)} {m : Moves} {live : ℕ} → IsKept es m live → (ds : List (String Global × Vec ℕ))
-    → length ds ≡ length es → ((k : ℕ) → gaps ds k ≡ gaps es k) → IsKept ds m live
-kept_as {es} kept ds l same = record {
+pub kept_as : {h : DefaultHasher} {es : List (Key × Lines)} {m : Moves} {live : ℕ} → IsKept h es m live → (ds : List (Key × Lines))
+    → AreHashed h ds → length ds ≡ length es → ((k : ℕ) → gaps ds k ≡ gaps es k) → IsKept h ds m live
+kept_as {h} {es} kept ds a l same = record {
+  hashed = a;
   blocked = kept.blocked;
   within = omega (arith, l, kept.within);
   moves = λ k b. kept.moves k b ∙ sym (same k);
@@ -362,13 +360,13 @@ kept_as {es} kept ds l same = record {
       omega (arith, a, b, l, g, kept.living);
 }
 
-pub kept_same : {es : List (String Global × Vec ℕ)} {m : Moves} {live : ℕ} → IsKept es m live → (i : ℕ) (w : Vec ℕ) → flag_at es i ≡ 1
-    → has_lines w.items ≡ true → IsKept (set_value_at es i w) m live
-kept_same {es} kept i w f n = kept_as kept (set_value_at es i w) (length_set es i w) (λ k. gaps_same es i k w f n)
+pub kept_same : {h : DefaultHasher} {es : List (Key × Lines)} {m : Moves} {live : ℕ} → IsKept h es m live → (i : ℕ) (w : Lines) → flag_at es i ≡ 1
+    → has_lines (numbers_in w) ≡ true → IsKept h (set_value_at es i w) m live
+kept_same {h} {es} kept i w f n = kept_as kept (set_value_at es i w) (hashed_set h es i w kept.hashed) (length_set es i w) (λ k. gaps_same es i k w f n)
 
 -- ---- slots are freed
 
-filter_twice : (es : List (String Global × Vec ℕ)) → filter is_live (filter is_live es) ≡ filter is_live es
+filter_twice : (es : List (Key × Lines)) → filter is_live (filter is_live es) ≡ filter is_live es
 filter_twice [] = refl
 filter_twice (e ∷ es) =
     let rest = filter_twice es in
@@ -378,10 +376,10 @@ filter_twice (e ∷ es) =
       | false ↦ λ m. rest
     ] refl
 
-pub packed_same : (es : List (String Global × Vec ℕ)) → entries_of (filter is_live es) ≡ entries_of es
+pub packed_same : (es : List (Key × Lines)) → entries_of (filter is_live es) ≡ entries_of es
 packed_same es = ap (map entry_of) (filter_twice es)
 
-packed_gaps : (es : List (String Global × Vec ℕ)) (k : ℕ) → gaps (filter is_live es) k ≡ 0
+packed_gaps : (es : List (Key × Lines)) (k : ℕ) → gaps (filter is_live es) k ≡ 0
 packed_gaps [] k = refl
 packed_gaps (e ∷ es) k =
     elim (is_live e) as (λ b. is_live e ≡ b → gaps (cond b (e ∷ filter is_live es) (filter is_live es)) k ≡ 0) [
@@ -389,40 +387,34 @@ packed_gaps (e ∷ es) k =
       | false ↦ λ m. packed_gaps es k
     ] refl
   where
-    first : (e : String Global × Vec ℕ) (es : List (String Global × Vec ℕ)) (k : ℕ) → is_live e ≡ true
+    first : (e : Key × Lines) (es : List (Key × Lines)) (k : ℕ) → is_live e ≡ true
         → ((j : ℕ) → gaps (filter is_live es) j ≡ 0) → gaps (e ∷ filter is_live es) k ≡ 0
     first e es zero m r = refl
     first e es (suc k) m r = let z = r k in rw m (omega (arith, z))
 
-pub kept_packed : (es : List (String Global × Vec ℕ)) (m : Moves) (live : ℕ) → live ≡ length (filter is_live es) → IsBlocked m
-    → live < length m.slots.items → ((k : ℕ) → moved m k ≡ 0) → IsKept (filter is_live es) m live
-kept_packed es m live e blocked w none = record {
+pub kept_packed : (h : DefaultHasher) (es : List (Key × Lines)) (m : Moves) (live : ℕ) → AreHashed h es → live ≡ length (filter is_live es) → IsBlocked m
+    → live < length m.slots.items → ((k : ℕ) → moved m k ≡ 0) → IsKept h (filter is_live es) m live
+kept_packed h es m live a e blocked w none = record {
+  hashed = hashed_live h es a;
   blocked = blocked;
   within = omega (arith, e, w);
   moves = λ k b. none k ∙ sym (packed_gaps es k);
   living = e ∙ ap length (sym (filter_twice es));
 }
 
-pub not_empty : (ls : List ℕ) (n : ℕ) → n ≡ length ls → not (n == 0) ≡ has_lines ls
-not_empty ls n e = by (n == 0) refl
-  where
-    by : (b : Bool) → (n == 0) ≡ b → not (n == 0) ≡ has_lines ls
-    by true h = ap not h ∙ sym (empty_none ls n e h)
-    by false h = ap not h ∙ sym (empty_some ls n e h)
-
 -- ---- a new entry is last
 
-pub insert_last : (k : String Global) (w : Vec ℕ) (es : List (String Global × Vec ℕ)) → is_some (lookup (is_text (string_bytes k)) es) ≡ false
-    → insert_entry string_eq es k w ≡ es ++ (k, w) ∷ []
+pub insert_last : (k : Key) (w : Lines) (es : List (Key × Lines)) → is_some (lookup (is_text (string_bytes k.text)) es) ≡ false
+    → insert_entry key_eq es k w ≡ es ++ (k, w) ∷ []
 insert_last k w [] h = refl
 insert_last k w (x ∷ es) h =
-    elim (is_text (string_bytes k) x.0) as (λ b. is_some (cond b (Some x.1) (lookup (is_text (string_bytes k)) es)) ≡ false
-    → cond b ((x.0, w) ∷ es) (x ∷ insert_entry string_eq es k w) ≡ x ∷ (es ++ (k, w) ∷ [])) [
+    elim (is_text (string_bytes k.text) x.0) as (λ b. is_some (cond b (Some x.1) (lookup (is_text (string_bytes k.text)) es)) ≡ false
+    → cond (nat_eq k.hash x.0.hash && b) ((x.0, w) ∷ es) (x ∷ insert_entry key_eq es k w) ≡ x ∷ (es ++ (k, w) ∷ [])) [
       | true ↦ λ m. absurd (true≢false m)
-      | false ↦ λ m. ap (λ l. x ∷ l) (insert_last k w es m)
+      | false ↦ λ m. rw (and_false (nat_eq k.hash x.0.hash)) (ap (λ l. x ∷ l) (insert_last k w es m))
     ] h
 
-entries_last : (es : List (String Global × Vec ℕ)) (x : String Global × Vec ℕ) → is_live x ≡ true
+entries_last : (es : List (Key × Lines)) (x : Key × Lines) → is_live x ≡ true
     → entries_of (es ++ x ∷ []) ≡ entries_of es ++ entry_of x ∷ []
 entries_last [] x h = rw h refl
 entries_last (e ∷ es) x h =
@@ -442,43 +434,36 @@ added_last (e ∷ es) t n h =
       | false ↦ λ m. ap (λ l. e ∷ l) (added_last es t n (less_none (place es t) m))
     ] h
 
-length_last : (es : List (String Global × Vec ℕ)) (x : String Global × Vec ℕ) → length (es ++ x ∷ []) ≡ length es + 1
-length_last [] x = omega arith
-length_last (e ∷ es) x = let rest = length_last es x in omega (arith, rest)
-
-more_gaps : (es : List (String Global × Vec ℕ)) (x : String Global × Vec ℕ) (k : ℕ) → is_live x ≡ true → gaps (es ++ x ∷ []) k ≡ gaps es k
+more_gaps : (es : List (Key × Lines)) (x : Key × Lines) (k : ℕ) → is_live x ≡ true → gaps (es ++ x ∷ []) k ≡ gaps es k
 more_gaps [] x zero h = refl
 more_gaps [] x (suc k) h = rw h refl
 more_gaps (e ∷ es) x zero h = refl
 more_gaps (e ∷ es) x (suc k) h = ap (λ n. cond (is_live e) 0 1 + n) (more_gaps es x k h)
 
-pub added_new : (n : ℕ) (k : String Global) (w : Vec ℕ) (es : List (String Global × Vec ℕ))
-    → is_some (lookup (is_text (string_bytes k)) es) ≡ false → w.items ≡ n ∷ []
-    → entries_of (insert_entry string_eq es k w) ≡ added (entries_of es) (string_bytes k) n
+pub added_new : (n : ℕ) (k : Key) (w : Lines) (es : List (Key × Lines))
+    → is_some (lookup (is_text (string_bytes k.text)) es) ≡ false → numbers_in w ≡ n ∷ []
+    → entries_of (insert_entry key_eq es k w) ≡ added (entries_of es) (string_bytes k.text) n
 added_new n k w es h e =
     ap entries_of (insert_last k w es h)
     ∙ entries_last es (k, w) (ap has_lines e)
-    ∙ ap (λ (ls : List ℕ). entries_of es ++ record { target = string_bytes k; lines = ls } ∷ []) e
-    ∙ sym (added_last (entries_of es) (string_bytes k) n (place_absent (string_bytes k) es (lookup_absent (string_bytes k) es h)))
+    ∙ ap (λ (ls : List ℕ). entries_of es ++ record { target = string_bytes k.text; lines = ls } ∷ []) e
+    ∙ sym (added_last (entries_of es) (string_bytes k.text) n (place_absent (string_bytes k.text) es (lookup_absent (string_bytes k.text) es h)))
 
 -- an entry more in the slot after the entries
-pub kept_more : {es : List (String Global × Vec ℕ)} {m : Moves} {live : ℕ} → IsKept es m live → (x : String Global × Vec ℕ)
-    → length es < length m.slots.items → is_live x ≡ true → IsKept (es ++ x ∷ []) m (live + 1)
-kept_more {es} kept x h n = record {
+pub kept_more : {k : DefaultHasher} {es : List (Key × Lines)} {m : Moves} {live : ℕ} → IsKept k es m live → (x : Key × Lines) → IsHashed k x.0
+    → length es < length m.slots.items → is_live x ≡ true → IsKept k (es ++ x ∷ []) m (live + 1)
+kept_more {k} {es} kept x a h n = record {
+  hashed = hashed_last k es x kept.hashed a;
   blocked = kept.blocked;
-  within = let l = length_last es x in omega (arith, l, h);
+  within = let l = length-append es (x ∷ []) in omega (arith, l, h);
   moves = λ k b. kept.moves k b ∙ sym (more_gaps es x k n);
   living =
-      let l = length_last es x in
+      let l = length-append es (x ∷ []) in
       let a = gaps_all es (length es + 1) (omega arith) in
       let b = gaps_all (es ++ x ∷ []) (length es + 1) (omega (arith, l)) in
       let g = more_gaps es x (length es + 1) n in
       omega (arith, a, b, l, g, kept.living);
 }
 
-longer : (es : List Entry) (e : Entry) → length (es ++ e ∷ []) ≡ length es + 1
-longer [] e = omega arith
-longer (x ∷ es) e = let rest = longer es e in omega (arith, rest)
-
 pub added_longer : (es : List Entry) (t : List ℕ) (n : ℕ) → place es t ≡ None → length (added es t n) ≡ length es + 1
-added_longer es t n h = ap length (added_last es t n h) ∙ longer es (record { target = t; lines = n ∷ [] })
+added_longer es t n h = ap length (added_last es t n h) ∙ length-append es ((record { target = t; lines = n ∷ [] }) ∷ [])

@@ -1,4 +1,5 @@
 -- What private contracts cite.
+pub mod Keys
 pub mod Moved
 pub mod Places
 pub mod Slots

@@ -27,7 +27,8 @@
 pub mod added;
 mod entries;
 pub mod error;
-mod hasher;
+mod key;
 pub mod laws;
+mod lines;
 mod moves;
 pub mod register;

@@ -13,6 +13,7 @@ ghost use Rattle.iri_register.specs.Shared.{AddsJoined, FindsJoined};
 use crate::added::Added;
 use crate::entries::{self, Entries};
 use crate::error::RegisterError;
+use crate::key::{self, Key};
 use iri_grammar::spec::Spec;
 use iri_normal::mode::CanonMode;
 use iri_normal::resolver::FixedBaseResolver;
@@ -58,7 +59,7 @@ struct Links {
     alloc: Global,
     mode: CanonMode,
     // The target of the last line, for the look-up.
-    target: String,
+    target: Key,
     entries: Entries,
 }
 
@@ -102,34 +103,6 @@ fn none_there<S: Spec>(reference: &[u8]) -> Result<Option<usize>, RegisterError>
 }
 
 impl Links {
-    // The place of the entry that has the reference's target.
-    fn find<S: Spec>(
-        &self,
-        resolver: &FixedBaseResolver<'_, S>,
-        reference: &[u8],
-    ) -> Result<Option<usize>, RegisterError>
-        ensures joined { IfOk result (FindsJoined S.tests self.now.mode (base_text resolver.now) self.now.entries reference.now) }
-        ensures causes { RefusedFor S.tests reference.now result }
-        ensures answer { FindsPlace S.tests self.now.mode (base_text resolver.now) self.now.entries reference.now result }
-        ensures memory { self.now.entries ≡ [] → result ≢ Err RegisterError.Memory }
-    {
-        if entries::len(&self.entries) == 0 {
-            return none_there::<S>(reference);
-        }
-        // The last line's target has had room for each that is there, so one found allocates once.
-        let mut target = String::new(self.alloc);
-        match write_target(
-            &mut target,
-            self.target.capacity(),
-            self.mode,
-            resolver,
-            reference,
-        ) {
-            Ok(()) => Ok(entries::find(&self.entries, target.as_str())),
-            Err(error) => Err(error),
-        }
-    }
-
     // Puts a line of a reference.
     fn add<S: Spec>(
         &mut self,
@@ -144,13 +117,8 @@ impl Links {
         ensures mode { self.new.mode ≡ self.old.mode }
         ensures unchanged { OnErr result (self.new.entries ≡ self.old.entries) }
     {
-        match write_target(&mut self.target, 0, self.mode, resolver, reference) {
-            Ok(()) => match entries::add(
-                self.alloc,
-                &mut self.entries,
-                self.target.as_str(),
-                line,
-            ) {
+        match write_target(&mut self.target.text, 0, self.mode, resolver, reference) {
+            Ok(()) => match entries::add(self.alloc, &mut self.entries, &mut self.target, line) {
                 Ok(answer) => Ok(answer),
                 Err(_) => Err(RegisterError::Memory),
             },
@@ -174,8 +142,8 @@ impl Links {
         if entries::len(&self.entries) == 0 {
             return none_there::<S>(reference);
         }
-        match write_target(&mut self.target, 0, self.mode, resolver, reference) {
-            Ok(()) => Ok(entries::remove(self.alloc, &mut self.entries, self.target.as_str())),
+        match write_target(&mut self.target.text, 0, self.mode, resolver, reference) {
+            Ok(()) => Ok(entries::remove(self.alloc, &mut self.entries, &mut self.target)),
             Err(error) => Err(error),
         }
     }
@@ -244,7 +212,7 @@ impl<S: Spec> Register<S> {
             links: Links {
                 alloc,
                 mode,
-                target: String::new(alloc),
+                target: key::none(alloc),
                 entries: entries::none(alloc, key),
             },
         }
@@ -282,7 +250,7 @@ impl<S: Spec> Register<S> {
         ensures memory { self.now.entries ≡ [] → result ≢ Err RegisterError.Memory }
     {
         let page = FixedBaseResolver::new(self.base.as_slice());
-        self.links.find(&page, reference)
+        self.find_against(&page, reference)
     }
 
     /// The same for a reference against a resolver's base, whatever the register's is. A program that asks for many
@@ -301,7 +269,22 @@ impl<S: Spec> Register<S> {
         ensures answer { FindsPlace S.tests self.now.mode (base_text resolver.now) self.now.entries reference.now result }
         ensures memory { self.now.entries ≡ [] → result ≢ Err RegisterError.Memory }
     {
-        self.links.find(resolver, reference)
+        if self.len() == 0 {
+            return none_there::<S>(reference);
+        }
+        let links = &self.links;
+        // The last line's target has had room for each that is there, so one found allocates once.
+        let mut target = key::none(links.alloc);
+        match write_target(
+            &mut target.text,
+            links.target.text.capacity(),
+            links.mode,
+            resolver,
+            reference,
+        ) {
+            Ok(()) => Ok(entries::find(&links.entries, &mut target)),
+            Err(error) => Err(error),
+        }
     }
 
     /// Puts a line: at the end of the lines of the entry that has the reference's canonical target, or into a new entry

@@ -1,5 +1,5 @@
 // Integers as text, in decimal.
-ghost use Rattle.std.specs.Prelude.{◌≡◌, ◌≤◌, ◌<◌, ◌+◌, drop, decimal};
+ghost use Rattle.std.specs.Prelude.{◌≡◌, ◌≤◌, ◌<◌, ◌+◌, ◌/◌, ◌%◌, drop, decimal};
 ghost use Rattle.std.specs.Fmt.{signed_decimal};
 ghost use Rattle.iri_text.specs.Shown.{Shows};
 
@@ -7,6 +7,18 @@ use crate::{Show, Stop, TextSink};
 
 // The most bytes of a number: a sign and the 39 digits of the greatest `u128`.
 const MOST: usize = 40;
+
+// A number without its last digit, and this. By 64 bits a digit costs 13 instructions, in place of 34 by 128.
+#[inline(always)]
+fn last_digit(number: u128) -> (u128, u8)
+    ensures { (result.0 ≡ number / 10) × (result.1 ≡ number % 10) }
+{
+    if number > u64::MAX as u128 {
+        return (number / 10, (number % 10) as u8);
+    }
+    let low = number as u64;
+    ((low / 10) as u128, (low % 10) as u8)
+}
 
 // Writes a number at the end of a buffer, and says where it begins.
 fn write_digits(buf: &mut [u8; MOST], number: u128) -> usize
@@ -16,9 +28,10 @@ fn write_digits(buf: &mut [u8; MOST], number: u128) -> usize
     let mut rest = number;
     let mut at = MOST - 1;
     while rest >= 10 {
-        buf[at] = b'0' + (rest % 10) as u8;
+        let (tenth, digit) = last_digit(rest);
+        buf[at] = b'0' + digit;
         at -= 1;
-        rest /= 10;
+        rest = tenth;
     }
     buf[at] = b'0' + rest as u8;
     at

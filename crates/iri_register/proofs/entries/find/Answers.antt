@@ -1,11 +1,14 @@
-use Rattle.iri_register.proofs.Common.{sym, ap, ◌∙◌, Some, arith, place}
+use Rattle.iri_register.proofs.Common.{sym, ap, ◌∙◌, Some, arith, place, string_bytes}
 use Rattle.iri_register.proofs.SlotLemmas.{at_within, gaps_small, moved_is, place_live}
 use Rattle.iri_register.proofs.entries.find.Goals as goal
+
+pub slot_of-requires : goal.slot_of-requires
+slot_of-requires c = (c.entries.inside.hasher, c.entries.invariant.hashed, c.take_hash.ensures.hash)
 
 pub place_of-requires : goal.place_of-requires
 place_of-requires c =
     let es = c.entries.inside.map.entries in
-    let w = at_within c.args.target.now es c.in-Some.slot c.in-Some.ensures.here in
+    let w = at_within (string_bytes c.take_hash.new.key.text) es c.in-Some.slot c.in-Some.ensures.here in
     let k = c.entries.invariant in
     let m = moved_is k c.in-Some.slot w in
     let g = gaps_small es c.in-Some.slot in
@@ -19,8 +22,10 @@ place_of-requires c =
 pub returns-in-Some : goal.returns-in-Some
 returns-in-Some c =
     let es = c.entries.inside.map.entries in
-    let w = at_within c.args.target.now es c.in-Some.slot c.in-Some.ensures.here in
+    let t = string_bytes c.take_hash.new.key.text in
+    let w = at_within t es c.in-Some.slot c.in-Some.ensures.here in
     let m = moved_is c.entries.invariant c.in-Some.slot w in
     let g = gaps_small es c.in-Some.slot in
-    let p = place_live c.args.target.now es c.in-Some.slot c.in-Some.ensures.here c.in-Some.ensures.live in
-    ap Some (omega (arith, c.place_of.ensures, m, g)) ∙ sym p ∙ ap (λ es. place es c.args.target.now) c.entries.view_is
+    let p = place_live t es c.in-Some.slot c.in-Some.ensures.here c.in-Some.ensures.live in
+    ap Some (omega (arith, c.place_of.ensures, m, g)) ∙ sym p
+    ∙ (λ j. place (c.entries.view_is j) (string_bytes (c.take_hash.ensures.text j)))

@@ -4,7 +4,7 @@ use Rattle.iri_register.proofs.entries.lines_at.Goals as goal
 pub returns-in-Some-get_index : goal.returns-in-Some-get_index
 returns-in-Some-get_index c =
     let e = ap (option_map (λ (e : Entry). e.lines)) (c.in-Some.ensures.some ∙ ap (option_map entry_of) (sym c.in-Some-get_index.ensures.entry)) in
-    ap Some c.as_slice.ensures.value ∙ sym e ∙ ap (λ es. option_map (λ (e : Entry). e.lines) (entry_at es c.args.place)) c.entries.view_is
+    ap Some c.as_slice.ensures ∙ sym e ∙ ap (λ es. option_map (λ (e : Entry). e.lines) (entry_at es c.args.place)) c.entries.view_is
 
 pub returns-in-None-get_index : goal.returns-in-None-get_index
 returns-in-None-get_index c =

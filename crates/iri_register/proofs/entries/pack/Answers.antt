@@ -18,7 +18,7 @@ returns c =
     let living = c.requires.kept.living in
     let l = ap length f in
     record {
-      kept = subst (λ ds. IsKept ds m c.args.live) (sym f) (kept_packed es m c.args.live living e.blocked (omega (arith, e.room)) e.none);
+      kept = subst (λ ds. IsKept c.args.hasher.now ds m c.args.live) (sym f) (kept_packed c.args.hasher.now es m c.args.live c.requires.kept.hashed living e.blocked (omega (arith, e.room)) e.none);
       same = ap entries_of f ∙ packed_same es;
       packed = f;
       room = omega (arith, l, living, e.room);

@@ -1,25 +1,33 @@
-use Rattle.std.proofs.Common.{sym, ap, ◌∙◌, is_some, cond}
+use Rattle.std.proofs.Common.{sym, ap, ◌∙◌, is_some, cond, string_bytes}
+use Rattle.iri_register.proofs.HashLemmas.{lookup_as, position_as}
 use Rattle.iri_register.proofs.MapLemmas.{at_position}
-use Rattle.iri_register.proofs.SlotLemmas.{flag_entry, empty_none, empty_some, place_dead, place_absent, lookup_absent}
+use Rattle.iri_register.proofs.SlotLemmas.{flag_entry, place_dead, place_absent, lookup_absent}
 use Rattle.iri_register.proofs.entries.slot_of.Goals as goal
 
-pub returns-then-is_empty-clause-none : goal.returns-then-is_empty-clause-none
-returns-then-is_empty-clause-none c =
+pub returns-else-stays-clause-none : goal.returns-else-stays-clause-none
+returns-else-stays-clause-none c =
     let es = c.args.map.now.entries in
-    let at = at_position c.args.target.now es c.in-Some.slot (sym c.in-Some.ensures.index) in
-    let none = empty_none c.in-Some.lines.now.items c.in-Some.lines.now.len c.in-Some.lines.now.ok.0 (sym c.is_empty.ensures ∙ c.if-is_empty.true) in
-    let f = flag_entry es c.in-Some.slot _ _ c.in-Some.ensures.entry ∙ ap (λ b. cond b 1 0) none in
-    place_dead c.args.target.now es c.in-Some.slot c.len-len.ensures.unique at f
+    let q = c.args.target.now in
+    let r = c.requires in
+    let at = at_position (string_bytes q.text) es c.in-Some.slot (sym (position_as r.0 q es r.2 r.1) ∙ sym c.in-Some.ensures.index) in
+    let f = flag_entry es c.in-Some.slot _ _ c.in-Some.ensures.entry ∙ ap (λ b. cond b 1 0) (sym c.stays.ensures ∙ c.if-stays.false) in
+    place_dead r.0 (string_bytes q.text) es c.in-Some.slot r.1 c.len-len.ensures.unique at f
 
-pub returns-else-is_empty-clause-here : goal.returns-else-is_empty-clause-here
-returns-else-is_empty-clause-here c =
-    at_position c.args.target.now c.args.map.now.entries c.in-Some.slot (sym c.in-Some.ensures.index)
-
-pub returns-else-is_empty-clause-live : goal.returns-else-is_empty-clause-live
-returns-else-is_empty-clause-live c =
+pub returns-then-stays-clause-here : goal.returns-then-stays-clause-here
+returns-then-stays-clause-here c =
     let es = c.args.map.now.entries in
-    let some = empty_some c.in-Some.lines.now.items c.in-Some.lines.now.len c.in-Some.lines.now.ok.0 (sym c.is_empty.ensures ∙ c.if-is_empty.false) in
-    flag_entry es c.in-Some.slot _ _ c.in-Some.ensures.entry ∙ ap (λ b. cond b 1 0) some
+    let q = c.args.target.now in
+    let r = c.requires in
+    at_position (string_bytes q.text) es c.in-Some.slot (sym (position_as r.0 q es r.2 r.1) ∙ sym c.in-Some.ensures.index)
+
+pub returns-then-stays-clause-live : goal.returns-then-stays-clause-live
+returns-then-stays-clause-live c =
+    flag_entry c.args.map.now.entries c.in-Some.slot _ _ c.in-Some.ensures.entry ∙ ap (λ b. cond b 1 0) (sym c.stays.ensures ∙ c.if-stays.true)
 
 pub returns-in-None-clause-none : goal.returns-in-None-clause-none
-returns-in-None-clause-none c = place_absent c.args.target.now c.args.map.now.entries (lookup_absent c.args.target.now c.args.map.now.entries (ap is_some (sym c.in-None.ensures.value)))
+returns-in-None-clause-none c =
+    let es = c.args.map.now.entries in
+    let q = c.args.target.now in
+    let r = c.requires in
+    let none = ap is_some (sym (lookup_as r.0 q es r.2 r.1) ∙ sym c.in-None.ensures.value) in
+    place_absent (string_bytes q.text) es (lookup_absent (string_bytes q.text) es none)
