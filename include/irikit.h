@@ -14,9 +14,9 @@
  * nothing, and returns. (irikit_robots_rules, irikit_robots_allows and irikit_run allocate, and free all of it.) So calls may run
  * in several threads at once, each with its own `out` and `detail`.
  *
- * Stack, as measured on x86-64: a call needs at most 6 KiB; where it removes dot segments from a long path, 3 KiB more for each
- * doubling of its length: 25 KiB for a path of 64 KiB, 36 KiB for a mebibyte, 54 KiB for 64 MiB. irikit_run needs 4 KiB more than
- * that, and 124 KiB for the most deeply nested document of `docs`.
+ * Stack, as measured on x86-64: a call needs at most 6 KiB; where it removes dot segments from a long path, half a KiB more for each
+ * doubling of its length: 8 KiB for a path of 64 KiB, 10 KiB for a mebibyte, 13 KiB for 64 MiB. irikit_run needs 2 KiB more than
+ * that, 24 KiB for `docs`, and 128 KiB for its most deeply nested document.
  *
  * Numbers: those of the enums below but statuses differ from each other, so that one in the place of another, as a mode for a
  * grammar, is answered as unknown. So is every other number.
