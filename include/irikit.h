@@ -35,8 +35,8 @@
  *
  * A text that is written stands at the start of `out`, and what comes after it stays as it was. Where it is longer than
  * `size`, `out` holds its first `size` bytes, the status is IRIKIT_SHORT, and `detail` is the size that is wanted: so a call
- * with size 0 measures. At every other status `out` stays as it was. irikit_canonical_lines and irikit_run say in their comments
- * what they write of more than has room.
+ * with size 0 measures. At every other status `out` stays as it was. irikit_canonical_lines, irikit_canonical_pairs and
+ * irikit_run say in their comments what they write of more than has room.
  */
 #ifndef IRIKIT_H
 #define IRIKIT_H
@@ -514,6 +514,26 @@ uint8_t irikit_build(uint32_t grammar, uint32_t kind, const struct irikit_given 
 uint8_t irikit_canonical_lines(uint32_t grammar, uint32_t mode, const char *base, size_t base_len, const char *lines,
                                size_t lines_len, char *out, size_t size, size_t *consumed, size_t *detail);
 
+/* Many references, each against a page of its own: what irikit_canonical gives for each line, in one call. Each answer is that of its
+ * own line alone, so a list of pairs may be cut at any LF. A page that is that of the line before isn't read again.
+ *
+ * Takes: the number of a grammar and of a mode; lines, each ended by an LF: a page, which is an absolute-URI of the grammar, a tab, and a
+ * reference. A second tab is a fault of the reference. One CR before the LF isn't part of the reference; what follows the last LF is left
+ * alone. A buffer.
+ * Writes: to `out`, the answers one after the other, each with an LF, as far as there is room: `ok TEXT`; `bad WORDS` for the reference's
+ * first fault; `base WORDS` for the page's, which is judged first; `bad line` where there is no tab. To `*detail`, how many bytes the
+ * answers have that stand there whole; to `*consumed`, how many bytes of `lines` these answer, LFs among them. So the next call goes on
+ * with `lines + *consumed`.
+ * Returns: IRIKIT_OK: all lines are answered; IRIKIT_SHORT: the next answer has no room (one has at most the line's length + 6 bytes, or
+ * 64); IRIKIT_UNKNOWN: grammar or mode, and `*consumed` is 0.
+ * Time: as of irikit_canonical_lines, with dot segments of the page's path.
+ *
+ *   const char *pairs = "http://a/b\tc\nhttp://h/\t%\n";
+ *   irikit_canonical_pairs(IRIKIT_URI, IRIKIT_NORMAL, pairs, strlen(pairs), out, sizeof out, &consumed, &detail);
+ *   fwrite(out, 1, detail, stdout);  // "ok http://a/c\nbad invalid path\n" */
+uint8_t irikit_canonical_pairs(uint32_t grammar, uint32_t mode, const char *lines, size_t lines_len, char *out, size_t size,
+                               size_t *consumed, size_t *detail);
+
 /* ---- Robots files ---- */
 
 /* The rules of a robots file for one crawler (RFC 9309 section 2.2), as lines that irikit_robots_allows reads: so a file is read once,
@@ -548,7 +568,8 @@ uint8_t irikit_robots_allows(uint32_t grammar, const char *rules, size_t rules_l
 
 /* The statuses of a run of the program. */
 enum irikit_run_status {
-    IRIKIT_RUN_OK = 0,            /* the input was read to its end, and no answer is bad (`bad`, or of `expand` and `docs` `template`) */
+    IRIKIT_RUN_OK = 0,            /* the input was read to its end, and no answer is bad (`bad`, of `parts` `{"bad"`, of `pairs` also
+                                   * `base`, of `expand` and `docs` also `template`) */
     IRIKIT_RUN_BAD_ANSWER = 1,    /* the input was read to its end, and an answer is bad */
     IRIKIT_RUN_NO_COMMAND = 2,    /* the words are no command */
     IRIKIT_RUN_BAD_BASE = 3,      /* the base, or what stands in its place, is refused */
@@ -558,8 +579,8 @@ enum irikit_run_status {
     IRIKIT_RUN_LONG_INPUT = 8     /* the input has more than 1,073,741,824 bytes */
 };
 
-/* What the program `irikit` does with words and an input: canon, expand, register, links, docs, robots, gen, `--help`,
- * `--version`. It allocates, and has freed all of it when it returns. It looks at the words first: for those that are no command, for
+/* What the program `irikit` does with words and an input: canon, pairs, parts, expand, register, links, docs, robots, gen,
+ * `--help`, `--version`. It allocates, and has freed all of it when it returns. It looks at the words first: for those that are no command, for
  * `--help` and `--version` it allocates nothing.
  *
  * Takes: the words with one space between each two; the input; a buffer.

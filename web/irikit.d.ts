@@ -119,6 +119,13 @@ export class Kit {
   canonicalLines(base: Text, lines: Text, grammar?: Grammar, mode?: Mode): string;
 
   /**
+   * What is answered to each of many lines, a page, a tab and a link on it, in one call: `ok TEXT` by the link's canonical text, `bad
+   * WORDS` for its first fault, `base WORDS` for the page's, `bad line` where there is no tab, and an LF. Each answer is that of its own
+   * line alone, so lists of pairs may be cut at any LF. What is a line is said at `canonicalLines`.
+   */
+  pairs(lines: Text, grammar?: Grammar, mode?: Mode): string;
+
+  /**
    * The target of a reference against a base (RFC 3986 section 5.2.2), with its dot segments.
    * @throws {Refused} for the first fault of the base, and then of the reference
    */

@@ -302,12 +302,22 @@ class Kit {
     const numbers = [GRAMMARS.numberOf(grammar), RESOLVING.numberOf(mode)];
     this.#room(bytesOf(base, this.#baseRoom), bytesOf(lines, this.#textRoom - 1) + 1);
     this.#keep(base);
+    return this.#answerLines(this.#calls.irikit_canonical_lines, lines, ...numbers, this.#baseAt, this.#baseLen);
+  }
+
+  pairs(lines, grammar = "uri", mode = "normal") {
+    const numbers = [GRAMMARS.numberOf(grammar), RESOLVING.numberOf(mode)];
+    this.#room(0, bytesOf(lines, this.#textRoom - 1) + 1);
+    return this.#answerLines(this.#calls.irikit_canonical_pairs, lines, ...numbers);
+  }
+
+  // The answers of a call to lines that have room as a text: what stands before the lines comes first.
+  #answerLines(call, lines, ...before) {
     let len = put(lines, this.#textBytes);
     if (len > 0 && this.#textBytes[len - 1] !== LF) this.#textBytes[len++] = LF;
     let left = BigInt(len), at = this.#textAt, answers = "";
     for (;;) {
-      const status = this.#calls.irikit_canonical_lines(
-        ...numbers, this.#baseAt, this.#baseLen, at, left, this.#outAt, this.#outSize, this.#slots, this.#detail);
+      const status = call(...before, at, left, this.#outAt, this.#outSize, this.#slots, this.#detail);
       if (status !== OK && status !== SHORT) throw this.#refusal(status);
       answers += this.#read(this.#out, this.#words[0]);
       if (status === OK) return answers;

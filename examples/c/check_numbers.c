@@ -4,10 +4,11 @@
 
 #define ROOM 64
 
-/* The two calls that tell one number more. */
+/* The calls that tell one number more. */
 #define LINES 1
 #define EXPAND 18
-#define CALLS 19
+#define PAIRS 19
+#define CALLS 20
 
 static char out[ROOM];
 static size_t detail, place, consumed;
@@ -35,6 +36,7 @@ static uint8_t call(int number, uint32_t grammar, uint32_t other) {
     case 15: return irikit_set_fragment(grammar, "a#b", 3, "c", 1, out, ROOM, &detail);
     case 16: return irikit_replace_host(grammar, "//a", 3, "b", 1, out, ROOM, &detail);
     case 17: return irikit_replace_reg_name(grammar, "//a", 3, "b", 1, out, ROOM, &detail);
+    case PAIRS: return irikit_canonical_pairs(grammar, other, "a:\tb\n", 5, out, ROOM, &consumed, &detail);
     default: return irikit_expand(grammar, "a", 1, NULL, 0, out, ROOM, &detail, &place);
     }
 }
@@ -47,7 +49,7 @@ static const struct {
     {IRIKIT_NORMAL, IRIKIT_PRESERVING}, {IRIKIT_NORMAL, IRIKIT_PRESERVING}, {IRIKIT_REFERENCE, IRIKIT_RELATIVE},
     {IRIKIT_REFERENCE, IRIKIT_RELATIVE}, {IRIKIT_IN_REG_NAME, IRIKIT_IN_REFERENCE}, {0, UINT32_MAX}, {0, UINT32_MAX}, {0, UINT32_MAX},
     {0, UINT32_MAX}, {0, UINT32_MAX}, {0, UINT32_MAX}, {0, UINT32_MAX}, {0, UINT32_MAX}, {0, UINT32_MAX}, {0, UINT32_MAX},
-    {0, UINT32_MAX},
+    {0, UINT32_MAX}, {IRIKIT_NORMAL, IRIKIT_BY_SCHEME},
 };
 
 static int is_one_of(uint32_t number, uint32_t first, uint32_t last) {
@@ -64,7 +66,7 @@ static size_t check_call(int number, uint32_t grammar, uint32_t other, const cha
     if (is_one_of(grammar, IRIKIT_URI, IRIKIT_IRI) && is_one_of(other, others[number].first, others[number].last))
         return wrong(status != IRIKIT_UNKNOWN, name);
     int stays = is_over(out, 0, "", 0, ROOM) && !memcmp(&parts, &before, sizeof parts);
-    return wrong(status == IRIKIT_UNKNOWN && !detail && consumed == (number == LINES ? 0 : 9) && place == (number == EXPAND ? 0 : 9)
+    return wrong(status == IRIKIT_UNKNOWN && !detail && consumed == (number == LINES || number == PAIRS ? 0 : 9) && place == (number == EXPAND ? 0 : 9)
                      && stays, name);
 }
 

@@ -141,6 +141,18 @@ static void lines(uint32_t grammar, uint32_t mode) {
     free(out), free(given);
 }
 
+static void pairs(uint32_t grammar, uint32_t mode) {
+    size_t size = 64 * (texts[0].len + 1);
+    char *out = malloc(size), *given = malloc(texts[0].len + 1);
+    size_t len = texts[0].len;
+    memcpy(given, texts[0].bytes, len);
+    if (len != 0 && given[len - 1] != '\n') given[len++] = '\n';
+    uint8_t status = irikit_canonical_pairs(grammar, mode, given, len, out, size, &consumed, &detail);
+    if (status == IRIKIT_OK) printf("ok"), hex(out, detail);
+    else refused(status);
+    free(out), free(given);
+}
+
 /* Each of several references; `~` for one that is refused. */
 static void many(uint32_t grammar, uint32_t mode) {
     size_t size = texts[0].len + 3, longest = 0;
@@ -185,6 +197,7 @@ static void answer(void) {
     else if (IS("expand")) expand(grammar, words[2]);
     else if (IS("names")) names();
     else if (IS("lines")) lines(grammar, mode);
+    else if (IS("pairs")) pairs(grammar, mode);
     else if (IS("many")) many(grammar, mode);
     else if (IS("normal")) {
         uint8_t status = irikit_is_normalized(grammar, mode, ONE(0), &detail);

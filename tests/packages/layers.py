@@ -74,6 +74,7 @@ CALLS = {
     "name": lambda t, o, g: irikit.with_host(t[0], t[1], True, g),
     "build": lambda t, o, g: irikit.build(**{name: part for name, part in zip(PARTS, t) if part is not None}, kind=KINDS[o], grammar=g),
     "expand": lambda t, o, g: irikit.expand(t[0], {"v": variable(o, t[1:])}, grammar=g),
+    "pairs": lambda t, o, g: irikit.pairs(t[0], g, MODES[o]),
     "lines": lambda t, o, g: links(t[0], g).answers(t[1], MODES[o]),
 }
 

@@ -71,6 +71,8 @@ fn written(call: &str, grammar: Grammar, option: &str, t: &[Option<&str>]) -> Re
     let (one, two) = (t[0].unwrap_or_default(), t.get(1).copied().flatten());
     let other = two.unwrap_or_default();
     Ok(hex(match call {
+        "pairs" if option == "scheme" => grammar.pairs_by_scheme(one),
+        "pairs" => grammar.pairs(one),
         "canonical" => base(grammar, one, option)?.canonical(other)?,
         "resolve" => grammar.base(one)?.resolve(other)?,
         "target" => grammar.base(one)?.target(other)?,

@@ -207,7 +207,7 @@ test("values of variables, names and refusals of templates", () => {
 
 test("what is no text", () => {
   for (const text of [undefined, null, 7, {}, ["a"]]) {
-    for (const call of [kit.split, kit.decode, kit.mapToUri]) assert.throws(() => call.call(kit, text), TypeError);
+    for (const call of [kit.split, kit.decode, kit.mapToUri, kit.pairs]) assert.throws(() => call.call(kit, text), TypeError);
     assert.throws(() => kit.canonical(text, "a"), TypeError);
     assert.throws(() => kit.canonical("http://a/", text), TypeError);
   }
@@ -228,6 +228,28 @@ test("many lines in one call", () => {
   assert.deepEqual(refusal(() => kit.canonicalLines("http://a/#f", "b\n")), ["base", "unexpected-fragment", "unexpected fragment"]);
   const base = `http://h/${"a/".repeat(5000)}`;
   assert.equal(kit.canonicalLines(base, "b\n".repeat(100)), `ok ${base}b\n`.repeat(100));
+});
+
+test("many pages and links in one call", () => {
+  for (const grammar of ["uri", "iri"]) {
+    const all = rows("rows.txt").filter((row) => row[0] === grammar && !row[1].includes("\t") && !row[1].endsWith("\r"));
+    const lines = all.map((row) => `${row[1]}\t${row[2]}\n`).join(""), answers = all.map((row) => `${row[3]}\n`).join("");
+    assert.ok(all.length > 40);
+    assert.equal(kit.pairs(lines, grammar), answers);
+    assert.equal(kit.pairs(lines.repeat(500), grammar), answers.repeat(500));
+  }
+  const ends = { "": "", "\n": "bad line\n", "a:": "bad line\n", "a:\t": "ok a:\n", "a:\t\r": "ok a:\n", "a:\tb\tc": "bad invalid path\n" };
+  for (const [text, wanted] of Object.entries(ends)) {
+    assert.equal(kit.pairs(text), wanted);
+    assert.equal(kit.pairs(Buffer.from(text)), wanted);
+  }
+  assert.equal(kit.pairs("//a\tb\nhttp://a:80\t\n", "uri", "scheme"), "base expected an absolute IRI but got a relative IRI\nok http://a/\n");
+  assert.equal(kit.pairs("\n".repeat(1e5)), "bad line\n".repeat(1e5));
+  assert.equal(kit.pairs("\t\n".repeat(1e4)), "base expected an absolute IRI but got a relative IRI\n".repeat(1e4));
+  // A base that was kept before stays that of the calls that take one.
+  assert.equal(kit.canonical("http://a/", "g"), "http://a/g");
+  kit.pairs(`http://h/\t${"a".repeat(1e5)}`);
+  assert.equal(kit.canonical("http://a/", "g"), "http://a/g");
 });
 
 test("a base stays between calls, and another takes its place", () => {

@@ -48,6 +48,7 @@ test("of texts of all sizes each is answered as in a large memory, or has no roo
     split: (one, text) => one.split(text).path,
     build: (one, text) => one.build({ path: text, query: text }),
     lines: (one, text) => one.canonicalLines("http://h/", text.replaceAll("aaaaaaaa", "aaaaaaa\n")),
+    pairs: (one, text) => one.pairs(`http://h/\t${text.replaceAll("aaaaaaaa", "aaaaaaa\n")}`),
     many: (one, text) => one.canonicalMany("http://h/", ["b", text, "c"]),
   };
   const one = await small();

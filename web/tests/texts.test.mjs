@@ -32,6 +32,7 @@ test("U+FEFF stays at the start of each text and part", () => {
   assert.deepEqual(kit.faultPart(`${mark} `, "invalid-path"), { place: 0, part: `${mark} ` });
   assert.deepEqual([...kit.decode(mark)], [0xef, 0xbb, 0xbf]);
   assert.equal(kit.canonicalLines("a:/", `${mark}\n`, "iri"), `ok a:/${mark}\n`);
+  assert.equal(kit.pairs(`a:/\t${mark}`, "iri"), `ok a:/${mark}\n`);
 });
 
 // RFC 3987 section 2.2: `ucschar`, the characters past ASCII of IRIs, and `iprivate`, those which a query alone may have.
@@ -90,6 +91,7 @@ test("a string with a lone surrogate is refused", () => {
       assert.equal(one((text) => kit.validate(text, "reference", grammar)), "invalid-utf8");
       const lines = kit.canonicalLines("a:/", `b\n${lone}\nc`, grammar);
       assert.equal(lines, "ok a:/b\nbad invalid utf-8 bytes\nok a:/c\n");
+      assert.equal(kit.pairs(`a:/\t${lone}\n${lone}\tb\n${lone}`, grammar), "bad invalid utf-8 bytes\nbase invalid utf-8 bytes\nbad line\n");
       assert.deepEqual(kit.canonicalMany("a:/", ["b", lone, "c"], grammar), ["a:/b", null, "a:/c"]);
     }
     assert.deepEqual(fault(() => kit.mapToUri(lone)), ["text", "invalid-utf8"]);
@@ -157,7 +159,7 @@ test("names of grammars, modes, kinds, places and faults", () => {
     0, 1, 100, 200, 257, null, true, "", "URI", "uri ", "constructor", "__proto__", ["uri"], new String("uri"), {}, Symbol("uri")];
   const calls = {
     uri: [
-      (name) => kit.canonical("a:", "", name), (name) => kit.canonicalLines("a:", "", name),
+      (name) => kit.canonical("a:", "", name), (name) => kit.canonicalLines("a:", "", name), (name) => kit.pairs("", name),
       (name) => kit.canonicalMany("a:", [], name), (name) => kit.target("a:", "", name), (name) => kit.resolve("a:", "", name),
       (name) => kit.normalize("a:", name),
       (name) => kit.steps("a:", name), (name) => kit.isNormalized("a:", name), (name) => kit.validate("a:", "reference", name),
@@ -167,7 +169,7 @@ test("names of grammars, modes, kinds, places and faults", () => {
       (name) => kit.replaceRegName("//a", "b", name), (name) => kit.encode("", "path", name), (name) => kit.expand("", {}, name),
     ],
     scheme: [
-      (name) => kit.canonical("a:", "", "uri", name), (name) => kit.canonicalLines("a:", "", "uri", name),
+      (name) => kit.canonical("a:", "", "uri", name), (name) => kit.canonicalLines("a:", "", "uri", name), (name) => kit.pairs("", "uri", name),
       (name) => kit.canonicalMany("a:", [], "uri", name), (name) => kit.normalize("a:", "uri", name),
       (name) => kit.steps("a:", "uri", name), (name) => kit.isNormalized("a:", "uri", name),
     ],
@@ -189,6 +191,7 @@ test("names of grammars, modes, kinds, places and faults", () => {
   }
   const refused = { name: "TypeError", message: '"preserving" is no mode, which is one of normal, scheme' };
   for (const call of ["canonical", "canonicalLines"]) assert.throws(() => kit[call]("a:", "", "uri", "preserving"), refused);
+  assert.throws(() => kit.pairs("", "uri", "preserving"), refused);
   assert.throws(() => kit.steps("a:", "uri", "preserving"), refused);
 });
 
@@ -210,6 +213,7 @@ test("a string is answered as the bytes of its UTF-8 are, and by a kit that was 
   ];
   const calls = [
     (one, s, t, g) => one.canonical(s, t, g), (one, s, t, g) => one.canonicalLines("a:/b", t, g, "scheme"),
+    (one, s, t, g) => one.pairs(t, g, "scheme"),
     (one, s, t, g) => one.canonicalMany("x:/y", [s, t], g), (one, s, t, g) => one.target("http://a/b", t, g),
     (one, s, t, g) => one.split(t, g), (one, s, t, g) => one.steps(t, g), (one, s, t, g) => one.validate(t, "relative", g),
     (one, s, t) => one.faultPart(t, "invalid-path"), (one, s, t, g) => one.build({ host: s, path: t }, "reference", g),

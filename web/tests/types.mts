@@ -16,6 +16,7 @@ const built: string = kit.build({ ...parts, query: kit.expand("{a}{?b}", values)
 const names: string[] = kit.templateVariables(kit.replacePassword(built, kit.encode("p", "user")));
 const last: TemplateFault = "unsupported-operator";
 const many: (string | null)[] = kit.canonicalMany("http://a/", new Set([text, path]), "iri");
+export const answers: string = kit.pairs("a:\tb", "iri", "scheme");
 export const all = [
   steps, names, many, kit.expand("{a}", new Map([["a", 1]])), kit.normalize(text, "uri", "preserving"), kit.templateFaultWords(last),
   await open(new Uint8Array()), await open(Promise.resolve({ arrayBuffer: async () => new ArrayBuffer(8) })),

@@ -1,5 +1,5 @@
 // Calls on references against a base, one or many.
-ghost use Rattle.iri_calls.specs.Lines.{Batched};
+ghost use Rattle.iri_calls.specs.Lines.{Batched, PairsBatched};
 ghost use Rattle.iri_calls.specs.Outcome.{Answered};
 ghost use Rattle.iri_calls.specs.Outcomes.{canonical_outcome, in_grammar};
 ghost use Rattle.iri_calls.specs.Resolutions.{resolved_in, target_in};
@@ -63,4 +63,19 @@ pub extern "C" fn irikit_canonical_lines(
     ensures { Batched grammar mode base.now lines.now out.old out.new consumed.new detail.new result }
 {
     lines::irikit_canonical_lines(grammar, mode, base, lines, out, consumed, detail)
+}
+
+/// The answers to the lines of a text, each a page, a tab and a link on it, as `irikit pairs` writes them.
+#[unsafe(no_mangle)]
+pub extern "C" fn irikit_canonical_pairs(
+    grammar: u32,
+    mode: u32,
+    lines: &[u8],
+    out: &mut [u8],
+    consumed: &mut usize,
+    detail: &mut usize,
+) -> u8
+    ensures { PairsBatched grammar mode lines.now out.old out.new consumed.new detail.new result }
+{
+    lines::irikit_canonical_pairs(grammar, mode, lines, out, consumed, detail)
 }

@@ -10,7 +10,10 @@ use Rattle.std.proofs.Common.{nat_eq, nat_lt, max}
 use Rattle.std.specs.Char.{encode_utf8}
 use Rattle.std.specs.Str.{chars, encode_utf8_all}
 use Rattle.std.proofs.lemmas.Str.{encodes-chars}
+use Rattle.iri_calls.proofs.Common.{before, delimited}
+use Rattle.iri_grammar.proofs.splits.CutLaws.{joined}
 use Rattle.iri_grammar.specs.Classes.{uri_tests}
+use Rattle.iri_grammar.specs.Cut.{after}
 use Rattle.iri_grammar.specs.ErrorTexts.{description}
 use Rattle.iri_grammar.specs.declared.error.ErrorKind.TheVariants.{InvalidRegName, InvalidPort}
 use Rattle.iri_grammar.specs.inside.Laws.{uri_is_spec, iri_is_spec}
@@ -27,6 +30,8 @@ use Rattle.iri_text.proofs.LinesLemmas.{no_cr-shorter}
 use Rattle.iri_calls.specs.Bounds.{HasAtMost}
 use Rattle.iri_calls.specs.Encodings.{place_numbered}
 use Rattle.iri_calls.specs.Outcomes.{where_known, against_base}
+use Rattle.iri_calls.specs.Lines.{pair_answer}
+use Rattle.iri_calls.specs.Pairs.{answer_on, pairs_answer, tab, unless_page}
 use Rattle.iri_calls.specs.Resolutions.{resolved, target_text}
 use Rattle.iri_calls.specs.declared.grammar.TheConstants.{URI, IRI}
 
@@ -123,7 +128,7 @@ short_encoding s place t e =
     (λ p. short_encoded (keeps s p) t (IsUtf8-from_is_utf8 t (is_valid (is_utf8 t) None e)))
 
 -- ---- the answer of a line
-short_words : (kind : ErrorKind) → length (description kind) ≤ 59
+short_words : (kind : ErrorKind) → length (description kind) ≤ 58
 short_words InvalidScheme = omega arith
 short_words InvalidUserInfo = omega arith
 short_words InvalidHost = omega arith
@@ -148,3 +153,28 @@ short_answer s m base line k b =
     let answer = short_answer_by (bytes_fault (reference_fault s) (no_cr line)) (canonical_in s m base (no_cr line))
     (length base + length (no_cr line)) (short_canonical s m base (no_cr line) k b) in
     omega arith
+
+-- ---- the answer of a page and a link
+short_on_page : (o : Option ErrorKind) (answer : List ℕ) (n : ℕ) → (o ≡ None → length answer ≤ max n 64) → length (unless_page o answer) ≤ max n 64
+short_on_page None answer n h = h refl
+short_on_page (Some kind) answer n h = omega (arith, short_words kind, length-append (description kind) (10 ∷ []))
+
+short_on : (s : Tests) (m : CanonMode) (page : List ℕ) (link : Option (List ℕ)) (n : ℕ) → IsSpec s → length page + length (delimited tab link) ≤ n
+    → length (answer_on s m page link) ≤ max (n + 6) 64
+unfolding answer_in
+short_on s m page None n k h = omega arith
+short_on s m page (Some link) n k h =
+    let none = bytes_fault (absolute_fault s) page in
+    short_on_page none (answer_in s m page link) (n + 6) (λ b.
+    let answer = short_answer_by (bytes_fault (reference_fault s) link) (canonical_in s m page link) (length page + length link)
+    (short_canonical s m page link k b) in
+    omega (arith, answer, h))
+
+pub short_pair : (s : Tests) (m : CanonMode) (line : List ℕ) → IsSpec s → length (pair_answer s m line) ≤ max (length line + 6) 64
+unfolding pairs_answer
+short_pair s m line k =
+    let l = no_cr line in
+    let shorter = no_cr-shorter line in
+    let parts = length-append (before tab l) (delimited tab (after tab l)) in
+    let answer = short_on s m (before tab l) (after tab l) (length l) k (omega (arith, parts, ap length (joined tab l))) in
+    omega (arith, shorter, answer)

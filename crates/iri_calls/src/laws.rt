@@ -10,7 +10,7 @@ ghost use Rattle.iri_percent.specs.declared.canon_mode.CanonMode.{CanonMode};
 ghost use Rattle.iri_calls.specs.Bounds.{HasAtMost};
 ghost use Rattle.iri_calls.specs.Encodings.{encoded_outcome};
 ghost use Rattle.iri_calls.specs.FaultParts.{IsFaulty, faulty_slot};
-ghost use Rattle.iri_calls.specs.Lines.{line_answer};
+ghost use Rattle.iri_calls.specs.Lines.{line_answer, pair_answer};
 ghost use Rattle.iri_calls.specs.Outcomes.{canonical_outcome, in_grammar, mapped_outcome};
 ghost use Rattle.iri_calls.specs.Resolutions.{normalized_outcome, resolved_in, target_in};
 
@@ -58,6 +58,11 @@ pub fn decoded_bytes_are_few()
 pub fn answers_are_short<S: Spec>()
     ensures { (mode : CanonMode) (base line : List ℕ) → bytes_fault (absolute_fault S.tests) base ≡ None
         → length (line_answer S.tests mode base line) ≤ max (length base + length line + 7) 64 }
+{}
+
+/// An answer that `irikit_canonical_pairs` writes has at most 6 bytes more than its line, or 64.
+pub fn pair_answers_are_short<S: Spec>()
+    ensures { (mode : CanonMode) (line : List ℕ) → length (pair_answer S.tests mode line) ≤ max (length line + 6) 64 }
 {}
 
 /// The part that `irikit_fault_part` tells of the first fault of a text stands in the text, and what stands there isn't what the kind of

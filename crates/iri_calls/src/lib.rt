@@ -9,6 +9,7 @@
 //! below. Of many lines those count whose answers have room together (`Batched`).
 #![tactic(auto)]
 
+mod answering;
 pub mod buffer;
 pub mod building;
 pub mod canonical;

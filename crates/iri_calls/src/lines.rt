@@ -1,22 +1,21 @@
 // Many references in one call.
-ghost use Rattle.std.specs.Prelude.{◌≡◌, ◌≢◌, ◌≤◌, ◌+◌, ◌∷◌, [], length, MatchOption};
+ghost use Rattle.std.specs.Prelude.{◌≡◌, ◌+◌, ◌∷◌, [], length, MatchOption};
 ghost use Rattle.std.specs.List.{flat_map};
-ghost use Rattle.iri_text.specs.Lines.{no_cr};
-ghost use Rattle.iri_normal.specs.Resolver.{base_text};
-ghost use Rattle.iri_calls.specs.Buffers.{over};
 ghost use Rattle.iri_text.specs.Lines.{ended};
-ghost use Rattle.iri_calls.specs.Lines.{batch, line_answer, BatchedIn, Batched};
+ghost use Rattle.iri_calls.specs.Buffers.{over};
+ghost use Rattle.iri_calls.specs.Outcome.{Returned};
+ghost use Rattle.iri_calls.specs.Outcome.Outcome.{plain};
+ghost use Rattle.iri_calls.specs.Lines.{Batched, BatchedIn, IsBatch, PairsBatched, answer_against, batch, pair_answer};
 
+use crate::answering::{Bases, Held, put_answer};
 use crate::buffer::BufferSink;
-use crate::canonical::Canonical;
 use crate::fault::{answer, answer_fault};
 use crate::grammar::{IRI, URI, mode_of};
 use crate::status::{BAD_BASE, OK, SHORT, UNKNOWN};
 use iri_grammar::spec::{IriSpec, Spec, UriSpec};
 use iri_normal::mode::CanonMode;
 use iri_normal::resolver::FixedBaseResolver;
-use iri_text::{Show, Stop, TextSink, show_three};
-use iri_types::kind::{Absolute, Reference};
+use iri_types::kind::Absolute;
 use iri_types::split::SplitView;
 use memchr::memchr;
 
@@ -27,45 +26,6 @@ pub(crate) struct Batch {
     consumed: usize,
     written: usize,
     status: u8,
-}
-
-// The answer to a line, with its LF.
-#[derive(Drop)]
-struct LineAnswer<'r, 'a, S: Spec> {
-    mode: CanonMode,
-    resolver: &'r FixedBaseResolver<'a, S>,
-    line: &'r [u8],
-}
-
-impl<S: Spec> Show for LineAnswer<'_, '_, S> {
-    ghost use Rattle.iri_normal.specs.Resolver.{base_text};
-    ghost use Rattle.iri_normal.specs.Answers.{answer_in};
-
-    ghost text = { λ a. answer_in S.tests a.mode (base_text a.resolver.now) a.line.now };
-
-    fn show<W: TextSink>(&self, sink: &mut W) -> Result<(), Stop> {
-        match SplitView::<S, Reference>::try_from_bytes(self.line) {
-            Ok(reference) => {
-                let canonical = Canonical {
-                    mode: self.mode,
-                    resolver: self.resolver,
-                    reference: &reference,
-                };
-                show_three(sink, &"ok ", &canonical, &"\n")
-            }
-            Err(error) => show_three(sink, &"bad ", &error.kind().description(), &"\n"),
-        }
-    }
-}
-
-// A line without the CR at its end, where it has one.
-fn without_cr(raw: &[u8]) -> &[u8]
-    ensures { result.now ≡ no_cr raw.now }
-{
-    match raw.strip_suffix(b"\r") {
-        Some(line) => line,
-        None => raw,
-    }
 }
 
 // The first line that an LF ends, and what follows the LF.
@@ -80,19 +40,19 @@ fn cut_line(text: &[u8]) -> Option<(&[u8], &[u8])>
 }
 
 // Answers lines into a sink that has nothing yet.
-fn answer_lines<S: Spec>(
+fn answer_lines<'i, S: Spec>(
     mode: CanonMode,
-    resolver: &FixedBaseResolver<'_, S>,
-    input: &[u8],
+    bases: &mut Bases<FixedBaseResolver<'i, S>, Held<'i, S>>,
+    input: &'i [u8],
     room: usize,
     sink: &mut BufferSink<'_>,
 ) -> Batch
     requires room { length sink.old.buf.now ≡ room }
     requires empty { sink.old.len ≡ 0 }
     ensures same { sink.new.buf.ghost_name ≡ sink.old.buf.ghost_name }
-    ensures batch { result ≡ batch (line_answer S.tests mode (base_text resolver.now)) room (ended input.now) }
+    ensures batch { result ≡ batch (answer_against S.tests mode bases.old) room (ended input.now) }
     ensures bytes { sink.new.buf.now
-        ≡ over (flat_map (line_answer S.tests mode (base_text resolver.now)) (ended input.now)) sink.old.buf.now }
+        ≡ over (flat_map (answer_against S.tests mode bases.old) (ended input.now)) sink.old.buf.now }
 {
     let mut rest = input;
     let mut written = 0;
@@ -105,18 +65,12 @@ fn answer_lines<S: Spec>(
                 status: OK,
             };
         };
-        let line = without_cr(raw);
-        let answer = LineAnswer {
-            mode,
-            resolver,
-            line,
-        };
         let short = Batch {
             consumed,
             written,
             status: SHORT,
         };
-        match answer.show(sink) {
+        match put_answer(mode, bases, raw, sink) {
             Ok(()) => (),
             Err(_) => return short,
         }
@@ -130,19 +84,45 @@ fn answer_lines<S: Spec>(
 }
 
 // Answers lines over the start of a buffer, as far as there is room.
-fn answer_all<S: Spec>(
+fn answer_all<'i, S: Spec>(
     mode: CanonMode,
-    resolver: &FixedBaseResolver<'_, S>,
-    input: &[u8],
+    bases: &mut Bases<FixedBaseResolver<'i, S>, Held<'i, S>>,
+    input: &'i [u8],
     out: &mut [u8],
 ) -> Batch
-    ensures batch { result ≡ batch (line_answer S.tests mode (base_text resolver.now)) (length out.old) (ended input.now) }
+    ensures batch { result ≡ batch (answer_against S.tests mode bases.old) (length out.old) (ended input.now) }
     ensures bytes { out.new
-        ≡ over (flat_map (line_answer S.tests mode (base_text resolver.now)) (ended input.now)) out.old }
+        ≡ over (flat_map (answer_against S.tests mode bases.old) (ended input.now)) out.old }
 {
     let room = out.len();
     let mut sink = BufferSink::new(out);
-    answer_lines(mode, resolver, input, room, &mut sink)
+    answer_lines(mode, bases, input, room, &mut sink)
+}
+
+// Answers lines over the start of a buffer, and tells how far.
+fn answer_batch<'i, S: Spec>(
+    mode: CanonMode,
+    mut bases: Bases<FixedBaseResolver<'i, S>, Held<'i, S>>,
+    input: &'i [u8],
+    out: &mut [u8],
+    consumed: &mut usize,
+    detail: &mut usize,
+) -> u8
+    ensures { IsBatch (answer_against S.tests mode bases.entry) input.now out.old out.new consumed.new detail.new result }
+{
+    let done = answer_all(mode, &mut bases, input, out);
+    *consumed = done.consumed;
+    *detail = done.written;
+    done.status
+}
+
+// Answers nothing, since a number stands for nothing.
+fn answer_unknown(consumed: &mut usize, detail: &mut usize) -> u8
+    ensures consumed { consumed.new ≡ 0 }
+    ensures unknown { Returned (plain UNKNOWN) detail.new result }
+{
+    *consumed = 0;
+    answer(UNKNOWN, detail)
 }
 
 // The answers to lines in one grammar.
@@ -158,10 +138,8 @@ fn batch_in<S: Spec>(
 {
     match SplitView::<S, Absolute>::absolute_from_bytes(base) {
         Ok(base) => {
-            let done = answer_all(mode, &FixedBaseResolver::of_split(base), input, out);
-            *consumed = done.consumed;
-            *detail = done.written;
-            done.status
+            let bases = Bases::One(FixedBaseResolver::of_split(base));
+            answer_batch(mode, bases, input, out, consumed, detail)
         }
         Err(error) => {
             *consumed = 0;
@@ -185,9 +163,38 @@ pub fn irikit_canonical_lines(
     match (grammar, mode_of(mode)) {
         (URI, Some(mode)) => batch_in::<UriSpec>(mode, base, lines, out, consumed, detail),
         (IRI, Some(mode)) => batch_in::<IriSpec>(mode, base, lines, out, consumed, detail),
-        _ => {
-            *consumed = 0;
-            answer(UNKNOWN, detail)
-        }
+        _ => answer_unknown(consumed, detail),
+    }
+}
+
+// The answers to pages and links in one grammar.
+fn pairs_in<S: Spec>(
+    mode: CanonMode,
+    input: &[u8],
+    out: &mut [u8],
+    consumed: &mut usize,
+    detail: &mut usize,
+) -> u8
+    ensures { IsBatch (pair_answer S.tests mode) input.now out.old out.new consumed.new detail.new result }
+{
+    let bases = Bases::Pages(Held::<S> { page: None });
+    answer_batch(mode, bases, input, out, consumed, detail)
+}
+
+/// The answers to the lines of a text, each a page, a tab and a link on it, as `irikit pairs` writes them.
+pub fn irikit_canonical_pairs(
+    grammar: u32,
+    mode: u32,
+    lines: &[u8],
+    out: &mut [u8],
+    consumed: &mut usize,
+    detail: &mut usize,
+) -> u8
+    ensures { PairsBatched grammar mode lines.now out.old out.new consumed.new detail.new result }
+{
+    match (grammar, mode_of(mode)) {
+        (URI, Some(mode)) => pairs_in::<UriSpec>(mode, lines, out, consumed, detail),
+        (IRI, Some(mode)) => pairs_in::<IriSpec>(mode, lines, out, consumed, detail),
+        _ => answer_unknown(consumed, detail),
     }
 }

@@ -14,7 +14,7 @@ use iri_calls::fault::{
 use iri_calls::fault_part::irikit_fault_part;
 use iri_calls::grammar::{BY_SCHEME, IRI, NORMAL, PRESERVING, URI};
 use iri_calls::hosts::{irikit_replace_host, irikit_replace_reg_name};
-use iri_calls::lines::irikit_canonical_lines;
+use iri_calls::lines::{irikit_canonical_lines, irikit_canonical_pairs};
 use iri_calls::mapping::irikit_map_to_uri;
 use iri_calls::names::irikit_template_variables;
 use iri_calls::normal::{irikit_is_normalized, irikit_normalize};
@@ -312,6 +312,78 @@ fn lines(rt: HostRuntime) {
         &mut detail,
     );
     assert!(rt; status == 6 && consumed == 0 && detail == 0);
+}
+
+// Examples of RFC 3986 section 5.4 on two pages by turns, lines that are refused, and one that no LF ends.
+const PAIRS: &[u8] =
+    b"http://a/b/c/d;p?q\t../g\nhttp://a/b/c/d;p?q\t?y\nhttp://A\tg\t\nhttp://A\t%7Eu\r\n\
+    //a\tg\nhttp://a\nhttp://A\t//h:80\nno end";
+
+const PAIRS_ANSWERED: &[u8] =
+    b"ok http://a/b/g\nok http://a/b/c/d;p?y\nbad invalid path\nok http://a/~u\n\
+    base expected an absolute IRI but got a relative IRI\nbad line\nok http://h:80\n";
+
+#[test]
+fn pairs(rt: HostRuntime) {
+    let mut out = [b'.'; 192];
+    let (mut consumed, mut detail) = (9, 9);
+    let status = irikit_canonical_pairs(URI, NORMAL, PAIRS, &mut out, &mut consumed, &mut detail);
+    assert!(rt; status == 0 && consumed == PAIRS.len() - 6 && detail == PAIRS_ANSWERED.len());
+    assert!(rt; out.starts_with(PAIRS_ANSWERED) && out[detail] == b'.');
+    let status = irikit_canonical_pairs(
+        URI,
+        BY_SCHEME,
+        &PAIRS[88..],
+        &mut out,
+        &mut consumed,
+        &mut detail,
+    );
+    assert!(rt; status == 0 && out.starts_with(b"ok http://h/\n"));
+    let status = irikit_canonical_pairs(
+        URI,
+        PRESERVING,
+        PAIRS,
+        &mut out,
+        &mut consumed,
+        &mut detail,
+    );
+    assert!(rt; status == 6 && consumed == 0 && detail == 0);
+    let status = irikit_canonical_pairs(
+        NORMAL,
+        NORMAL,
+        PAIRS,
+        &mut out,
+        &mut consumed,
+        &mut detail,
+    );
+    assert!(rt; status == 6 && consumed == 0 && detail == 0);
+}
+
+// Room for each number of bytes: answers that have none are asked for again, and come out the same.
+#[test]
+fn pairs_by_parts(rt: HostRuntime) {
+    for size in 64..128usize {
+        let mut out = [b'.'; 128];
+        let mut whole = PAIRS_ANSWERED;
+        let mut rest = PAIRS;
+        for _ in 0..7u8 {
+            let (mut consumed, mut detail) = (9, 9);
+            let room = &mut out[..size];
+            let status = irikit_canonical_pairs(
+                URI,
+                NORMAL,
+                rest,
+                room,
+                &mut consumed,
+                &mut detail,
+            );
+            assert!(rt; out.starts_with(&whole[..detail]));
+            assert!(rt; status == if detail < whole.len() { 1 } else { 0 });
+            whole = &whole[detail..];
+            rest = &rest[consumed..];
+        }
+        assert!(rt; whole.is_empty() && rest == b"no end".as_slice());
+    }
 }
 
 // Examples of RFC 6570 section 3.2.

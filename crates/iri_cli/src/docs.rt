@@ -75,7 +75,7 @@ impl<S: Spec> Answers<S> for Docs {
                 &mut self.output,
                 &mut self.expansion,
                 self.mode,
-                *resolver,
+                resolver,
                 document.context(),
                 document.template().as_bytes(),
             ),

@@ -52,25 +52,25 @@ fn put_expansion<S: Spec, O: Sink>(
     output: &mut Vec<u8>,
     expansion: &mut [u8],
     mode: CanonMode,
-    resolver: FixedBaseResolver<'_, S>,
+    resolver: &FixedBaseResolver<'_, S>,
     expanded: &Expanded<'_, S, SimpleContext>,
 ) -> Result<bool, AnswerError>
-    requires base { refusal S.tests (base_text resolver) ≡ None }
-    requires short { length (base_text resolver) ≤ longest_line }
+    requires base { refusal S.tests (base_text resolver.now) ≡ None }
+    requires short { length (base_text resolver.now) ≤ longest_line }
     requires room { length expansion.old ≡ expansion_limit }
     requires output_room { answer_room ≤ vec_capacity output.old }
     ensures puts { let state = sink_state O.written O.faults O.room_left in
         PutsAnswer is_ok (state sink.old) (state sink.new) false (expansion_answer S.tests mode
-        (base_text resolver.entry) (within_limit (expanded_text S.tests value_in expanded.now)))
+        (base_text resolver.now) (within_limit (expanded_text S.tests value_in expanded.now)))
         result }
     ensures room { KeepsRoom (O.room_left sink.old) (O.room_left sink.new)
-        (expansion_answer S.tests mode (base_text resolver.entry)
+        (expansion_answer S.tests mode (base_text resolver.now)
         (within_limit (expanded_text S.tests value_in expanded.now)))
         (result ≢ Err SinkFailed) }
     ensures capacity { vec_capacity output.old ≤ vec_capacity output.new }
 {
     match write_to_slice(expansion, expanded) {
-        Ok(text) => put_answer::<S, O>(sink, output, mode, &resolver, text.as_bytes()),
+        Ok(text) => put_answer::<S, O>(sink, output, mode, resolver, text.as_bytes()),
         Err(CapacityOverflowError) => say_good(false, sink.put_all(b"bad expansion too long\n")),
     }
 }
@@ -81,19 +81,19 @@ pub(crate) fn put_template<'a, S: Spec, O: Sink>(
     output: &mut Vec<u8>,
     expansion: &mut [u8],
     mode: CanonMode,
-    resolver: FixedBaseResolver<'_, S>,
+    resolver: &FixedBaseResolver<'_, S>,
     values: &'a SimpleContext,
     template: &'a [u8],
 ) -> Result<bool, AnswerError>
-    requires base { refusal S.tests (base_text resolver) ≡ None }
-    requires short { length (base_text resolver) ≤ longest_line }
+    requires base { refusal S.tests (base_text resolver.now) ≡ None }
+    requires short { length (base_text resolver.now) ≤ longest_line }
     requires room { length expansion.old ≡ expansion_limit }
     requires output_room { answer_room ≤ vec_capacity output.old }
     ensures puts { let state = sink_state O.written O.faults O.room_left in
         PutsAnswer is_ok (state sink.old) (state sink.new) false (template_answer S.tests mode
-        (base_text resolver.entry) (value_in values.now) template.now) result }
+        (base_text resolver.now) (value_in values.now) template.now) result }
     ensures room { KeepsRoom (O.room_left sink.old) (O.room_left sink.new)
-        (template_answer S.tests mode (base_text resolver.entry) (value_in values.now) template.now)
+        (template_answer S.tests mode (base_text resolver.now) (value_in values.now) template.now)
         (result ≢ Err SinkFailed) }
     ensures capacity { vec_capacity output.old ≤ vec_capacity output.new }
 {
@@ -161,7 +161,7 @@ impl<S: Spec> Answers<S> for Expand {
                 &mut self.output,
                 &mut self.expansion,
                 self.mode,
-                *resolver,
+                resolver,
                 &self.values,
                 template,
             ),

@@ -32,7 +32,7 @@ stop_after s a y x h e k =
 abbrev pub with_params : List LinkParam → Reading → Reading
 with_params ps r = of_params (ps ++ r.params) r.links
 
-param-named : (s : Tests) (c : ℕ) (cs y z : List ℕ) (v : Option (List ℕ)) → is_token (c ∷ cs) ≡ true → first_passes is_token_char y ≡ false
+pub param-named : (s : Tests) (c : ℕ) (cs y z : List ℕ) (v : Option (List ℕ)) → is_token (c ∷ cs) ≡ true → first_passes is_token_char y ≡ false
     → outcome s after_name y ≡ giving (of_value v) (outcome s after_param z)
     → outcome s after_semicolon ((c ∷ cs) ++ y) ≡ giving (with_params (record { name = str_to_ascii_lowercase (c ∷ cs); value = v } ∷ [])) (outcome s after_param z)
 param-named s c cs y z v h e k =

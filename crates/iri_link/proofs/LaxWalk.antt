@@ -26,7 +26,7 @@ abbrev left_of : List LinkParam → Reading → Left
 left_of ps r = record { params = ps; links = map with_writable r.links }
 
 -- what is left, after a target or a parameter
-abbrev left_inside : Reading → Left
+abbrev pub left_inside : Reading → Left
 left_inside r = left_of (filter is_writable r.params) r
 
 -- ---- before a link-value, over blanks

@@ -19,4 +19,5 @@ pub mod LaxLemmas
 pub mod LaxParams
 pub mod LaxWalk
 pub mod LaxLaws
+pub mod PlainLemmas
 pub mod ShownLemmas

@@ -1,5 +1,5 @@
 -- A run at the start of a text.
-use Rattle.iri_link.proofs.Common.{◌==◌, ◌≤◌, ◌-◌, ◌∙◌, ◌++◌, ◌&&◌, not, sym, length, is_pair_char, inl, inr, by_test, first_passes, ◌≡◌, ℕ, zero, suc, ◌<◌, Bool, true, false, cond, List, [], ◌∷◌, take, drop, refl, ap, arith, slice_index}
+use Rattle.iri_link.proofs.Common.{◌==◌, ◌≤◌, ◌-◌, ◌∙◌, ◌++◌, ◌&&◌, not, sym, length, is_pair_char, is_plain_char, inl, inr, by_test, first_passes, ◌≡◌, ℕ, zero, suc, ◌<◌, Bool, true, false, cond, List, [], ◌∷◌, take, drop, refl, ap, arith, slice_index}
 use Rattle.iri_link.proofs.Common.{list_all, IsUtf8, IsCharBoundary, nat_tests, run_of, both, is_blank, is_token_char, run_test, IsRun}
 use Rattle.std.proofs.lemmas.Str.{IsUtf8-from_ascii, IsCharBoundary-from_take}
 use Rattle.std.proofs.Common.{◌⊎◌}
@@ -8,7 +8,8 @@ use Rattle.iri_grammar.specs.Parts.{is_empty}
 use Rattle.iri_link.specs.LaxReadings.{is_name_char, is_value_char}
 use Rattle.iri_link.specs.inside.LaxPieces.{without_end}
 use Rattle.iri_link.specs.declared.runs.Run.{Run}
-use Rattle.iri_link.specs.declared.runs.Run.TheVariants.{Blank, Token, Name, Value, Pair}
+use Rattle.iri_link.specs.declared.runs.Run.TheVariants.{Blank, Token, Name, Value, Pair, Plain, Lower}
+use Rattle.std.specs.Char.{is_ascii_lowercase}
 
 pub when : (b : Bool) (P : Type 0) → (b ≡ true → P) → (b ≡ false → P) → P
 when b P on off = elim b as (λ v. b ≡ v → P) [ true ↦ on | false ↦ off ] refl
@@ -57,12 +58,20 @@ value-low c h = grind (arith, nat_tests)
 pair-low : (c : ℕ) → is_pair_char c ≡ false → c < 128
 pair-low c h = grind (arith, nat_tests)
 
+plain-low : (c : ℕ) → is_plain_char c ≡ false → c < 128
+plain-low c h = grind (arith, nat_tests)
+
+lower-low : (c : ℕ) → is_ascii_lowercase c ≡ true → c < 128
+lower-low c h = grind (arith, nat_tests)
+
 pub run-boundary : (k : Run) (t : List ℕ) → IsUtf8 t → IsCharBoundary t (run_of (run_test k) t)
 run-boundary Blank t u = low-boundary is_blank blank-low t u
 run-boundary Token t u = low-boundary is_token_char token-low t u
 run-boundary Name t u = stop-boundary is_name_char name-low t
 run-boundary Value t u = stop-boundary is_value_char value-low t
 run-boundary Pair t u = stop-boundary is_pair_char pair-low t
+run-boundary Plain t u = stop-boundary is_plain_char plain-low t
+run-boundary Lower t u = low-boundary is_ascii_lowercase lower-low t u
 
 -- ---- blanks at the end
 not_empty : (xs : List ℕ) (c : ℕ) → is_empty (xs ++ c ∷ []) ≡ false

@@ -15,6 +15,8 @@ use Rattle.iri_link.specs.declared.shown_text.Place.{Place}
 use Rattle.iri_link.specs.declared.shown_text.Place.TheVariants.{First, Later, Within}
 use Rattle.iri_link.specs.inside.LaxPieces.{LaxComes, LaxEnds, between_at, lax_left, passed_at, piece_text, place_past, target_text}
 use Rattle.iri_link.specs.inside.Pieces.{Left, param_said, stands, with_piece}
+use Rattle.iri_link.specs.inside.PlainParams.{ArePlain, params_text, with_params}
+use Rattle.std.proofs.lemmas.Grind.{flat_map-append}
 use Rattle.iri_link.proofs.RunLemmas.{when}
 use Rattle.iri_link.proofs.QuotedLemmas.{after_pair, unquoted-chunk, after_pair-plain, after-shorter}
 use Rattle.iri_link.proofs.Utf8Lemmas.{escaped-append}
@@ -118,9 +120,26 @@ module _ (s : Tests) (mode : CanonMode) (base : List ℕ) where
   piece-written Later Comma l = refl
   piece-written Within Comma l = refl
 
+  params-written : (place : Place) (w : List ℕ) (ps : List LinkParam) (l : Left) → flat_map written_param ps ≡ w
+      → written_left place (with_params ps l) ≡ params_text place w ++ written_left place l
+  unfolding written_left
+  params-written First w ps l h = refl
+  params-written Later w ps l h = refl
+  params-written Within w ps l h =
+      let L = left_text (44 ∷ 32 ∷ []) (links_left l.links) in
+      ap (λ z. z ++ L) (flat_map-append written_param ps l.params ∙ ap (λ z. z ++ flat_map written_param l.params) h)
+      ∙ append_assoc w (flat_map written_param l.params) L
+
   pub to_show : (text : List ℕ) → written (map (resolved_in s mode base) (lax_links_in s text)) ≡ [] ++ written_left First (lax_left false text)
   unfolding written_left links_left
   to_show text = all_left (map (resolved_in s mode base) (lax_links_in s text))
+
+  -- what is left past parameters in their written form
+  left_plain : (all done : List ℕ) (place : Place) (inside : Bool) (t w rest : List ℕ) → all ≡ done ++ written_left place (lax_left inside t) → ArePlain inside t w rest
+      → all ≡ (done ++ params_text place w) ++ written_left place (lax_left inside rest)
+  left_plain all done place inside t w rest same h =
+      same ∙ (ap (λ z. done ++ z) (ap (written_left place) h.reads ∙ params-written place w h.params (lax_left inside rest) h.said)
+      ∙ sym (append_assoc done (params_text place w) (written_left place (lax_left inside rest))))
 
   module _ (all done : List ℕ) (place : Place) (inside : Bool) (t : List ℕ) (same : all ≡ done ++ written_left place (lax_left inside t)) where
     -- nothing is left at the end
@@ -136,3 +155,9 @@ module _ (s : Tests) (mode : CanonMode) (base : List ℕ) where
     left_past rest x c =
         same ∙ (ap (λ z. done ++ z) (ap (written_left place) c.same ∙ piece-written place x (lax_left (stands x) rest))
         ∙ sym (append_assoc done (piece_text s mode base place x) (written_left (place_past s place x) (lax_left (stands x) rest))))
+
+    -- and past such parameters after it
+    pub left_later : (rest : List ℕ) (x : Piece) → LaxComes inside t x rest → (q : Place) (b : Bool) → q ≡ place_past s place x → b ≡ stands x
+        → (w left : List ℕ) → ArePlain b rest w left → all ≡ ((done ++ piece_text s mode base place x) ++ params_text q w) ++ written_left q (lax_left b left)
+    left_later rest x c q b e f w left h =
+        left_plain all (done ++ piece_text s mode base place x) q b rest w left (rw (e, f) (left_past rest x c)) h

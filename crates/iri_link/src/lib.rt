@@ -34,6 +34,7 @@ mod link;
 mod param;
 mod param_text;
 mod piece;
+mod plain;
 mod quoted;
 mod runs;
 mod set;

@@ -1,7 +1,7 @@
 // Quoted strings (RFC 9110 section 5.6.4).
 ghost use Rattle.std.specs.Prelude.{◌≡◌, ◌&&◌, ◌==◌, not, false, true, MatchOption, IfOk, string_bytes};
 ghost use Rattle.iri_link.specs.Fault.{closes_from};
-ghost use Rattle.iri_link.specs.Token.{is_pair_char};
+ghost use Rattle.iri_link.specs.Token.{is_pair_char, is_plain_char};
 ghost use Rattle.iri_grammar.specs.OptionalSlices.{now_of};
 ghost use Rattle.iri_link.specs.inside.CutDelimiters.{IsChunk};
 ghost use Rattle.iri_link.specs.inside.ReadQuoted.{quoted_len, unquoted, IsCutOpen, IsCutQuoted};
@@ -15,6 +15,17 @@ pub(crate) fn is_pair_char(b: u8) -> bool
     ensures { result ≡ is_pair_char b }
 {
     b == b'\t' || (32..=126).contains(&b) || b > 127
+}
+
+// One of them but `"` and `\`.
+pub(crate) fn is_plain_char(b: u8) -> bool
+    ensures { result ≡ is_plain_char b }
+{
+    if b > b'\\' {
+        b != 127
+    } else {
+        (b' '..b'\\').contains(&b) && b != b'"' || b == b'\t'
+    }
 }
 
 // Whether the byte is the delimiter, and no `\` comes before it.

@@ -7,7 +7,7 @@ ghost use Rattle.iri_grammar.specs.inside.Runs.{first_passes};
 ghost use Rattle.iri_link.specs.inside.LaxPieces.{without_end};
 ghost use Rattle.iri_link.specs.inside.Runs.{run_test, IsRun};
 
-use crate::quoted::is_pair_char;
+use crate::quoted::{is_pair_char, is_plain_char};
 use iri_grammar::cutting;
 
 // What a run is of.
@@ -23,6 +23,10 @@ pub(crate) enum Run {
     Value,
     // Characters that may stand after a `\` in a quoted string.
     Pair,
+    // Those that stand there for themselves.
+    Plain,
+    // Small letters.
+    Lower,
 }
 
 impl Run {
@@ -54,6 +58,8 @@ impl Run {
             Run::Name => !matches!(b, b' ' | b'\t' | b'=' | b';' | b','),
             Run::Value => !matches!(b, b';' | b','),
             Run::Pair => is_pair_char(b),
+            Run::Plain => is_plain_char(b),
+            Run::Lower => b.is_ascii_lowercase(),
         }
     }
 }

@@ -6,6 +6,7 @@ ghost use Rattle.iri_grammar.specs.WholeFault.{reference_fault};
 ghost use Rattle.iri_types.specs.SplitText.{split_text};
 ghost use Rattle.iri_text.specs.Shown.{Shows};
 ghost use Rattle.iri_normal.specs.Resolver.{base_text};
+ghost use Rattle.iri_link.specs.Characters.{less_than_sign};
 ghost use Rattle.iri_link.specs.LaxReadings.{lax_links_in};
 ghost use Rattle.iri_link.specs.Resolved.{resolved_in};
 ghost use Rattle.iri_link.specs.Token.{is_token_char};
@@ -13,11 +14,13 @@ ghost use Rattle.iri_link.specs.Written.{escaped, written, written_param};
 ghost use Rattle.iri_link.specs.inside.LaxPieces.{between_at, passed_at, piece_text, place_past, target_text};
 ghost use Rattle.iri_link.specs.declared.shown_text.Place.TheVariants.{Within};
 ghost use Rattle.iri_link.specs.inside.Pieces.{IsNamed, param_said};
+ghost use Rattle.iri_link.specs.inside.PlainParams.{params_text};
 ghost use Rattle.iri_link.specs.inside.ReadQuoted.{said, unquoted};
 
 use crate::lax::next_lax_piece;
 use crate::param_text::ParamText;
 use crate::piece::Piece;
+use crate::plain::cut_plain;
 use crate::quoted::cut_chunk;
 use crate::walk::is_inside;
 use crate::written::{Escaped, show_escaped};
@@ -127,13 +130,13 @@ pub(crate) enum Place {
     Within,
 }
 
-// What comes before the next target.
-fn between_at(place: Place) -> &'static str
-    ensures { result.now ≡ between_at place }
+// What comes before the next target, and the `<` before it.
+fn opening_at(place: Place) -> &'static str
+    ensures { result.now ≡ between_at place ++ less_than_sign ∷ [] }
 {
     match place {
-        Place::First => "",
-        Place::Later | Place::Within => ", ",
+        Place::First => "<",
+        Place::Later | Place::Within => ", <",
     }
 }
 
@@ -158,7 +161,7 @@ fn show_reference<S: Spec, W: TextSink>(
     ensures { Shows W.puts W.halts W.stops sink.old
         (target_text S.tests mode (base_text resolver.now) place (split_text reference.now)) sink.new result }
 {
-    show_two(sink, &between_at(place), &"<")?;
+    sink.put(opening_at(place))?;
     show_canonical_in(sink, mode, resolver, reference)?;
     sink.put(">")
 }
@@ -209,6 +212,16 @@ fn show_piece<S: Spec, W: TextSink>(
     }
 }
 
+// Shows parameters in their written form, within a link-value that is shown.
+fn show_plain<W: TextSink>(sink: &mut W, place: Place, params: &str) -> Result<(), Stop>
+    ensures { Shows W.puts W.halts W.stops sink.old (params_text place params.now) sink.new result }
+{
+    match place {
+        Place::Within => sink.put(params),
+        Place::First | Place::Later => Ok(()),
+    }
+}
+
 // Shows the link-values of a text that is read laxly.
 pub(crate) fn show_text<S: Spec, W: TextSink>(
     sink: &mut W,
@@ -227,7 +240,9 @@ pub(crate) fn show_text<S: Spec, W: TextSink>(
             Some((piece, after)) => {
                 show_piece(sink, mode, resolver, &mut place, piece)?;
                 inside = is_inside(piece);
-                rest = after;
+                let (params, left) = cut_plain(inside, after);
+                show_plain(sink, place, params)?;
+                rest = left;
             }
             None => return Ok(()),
         }

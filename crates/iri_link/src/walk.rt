@@ -13,6 +13,7 @@ use crate::error::LinkKind;
 use crate::halt::Halt;
 use crate::param::cut_param;
 use crate::piece::Piece;
+use crate::plain::past_plain;
 use crate::runs::{Run, begins_token, cut_run, past};
 use iri_grammar::cutting::cut;
 use iri_grammar::spec::Spec;
@@ -142,7 +143,7 @@ pub(crate) fn check_text<'a, S: Spec>(text: &'a str) -> Result<(), Halt<'a>>
             Ok(Some((piece, after))) => {
                 check_piece::<S>(piece)?;
                 inside = is_inside(piece);
-                rest = after;
+                rest = past_plain(inside, after);
             }
             Ok(None) => return Ok(()),
             Err(halt) => return Err(halt),

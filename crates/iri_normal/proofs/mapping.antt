@@ -1,3 +1,4 @@
 -- Normal forms and the mapping to URIs.
 pub mod MappedPaths
 pub mod MappedForms
+pub mod MappedCanonical

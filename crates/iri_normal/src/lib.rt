@@ -6,7 +6,8 @@
 //! in normal form, in the normal form that preserves relative paths, or in normal form by scheme rules, where default ports go and
 //! empty paths become `/`. It also gives the reference's [`Target`](owned_target::Target), owned, with its dots kept. `views` has the
 //! same for views: `normalize` and `resolve_against`.
-//! [`canonicalize`](canonical::canonicalize) answers the canonical text of two texts of bytes, and
+//! [`canonicalize`](canonical::canonicalize) answers the canonical text of two texts of bytes,
+//! [`canonicalize_to_uri`](to_uri::canonicalize_to_uri) the same mapped to a URI, and
 //! [`show_canonical`](canonical::show_canonical) shows that of a reference against a resolver's base, and
 //! [`show_target`](target_text::show_target) its target.
 //! [`IsNormalized`](is_normalized::IsNormalized) tells whether a text is in normal form. The calls that end with `_in` take a
@@ -55,6 +56,7 @@ pub mod resolver;
 mod scheme_rules;
 mod target;
 pub mod target_text;
+pub mod to_uri;
 mod unchanged;
 pub mod unresolvable;
 pub mod views;

@@ -7,6 +7,8 @@ ghost use Rattle.iri_percent.specs.Mapping.{mapped};
 ghost use Rattle.iri_normal.specs.NormalForm.{canonical};
 
 use crate::canonical::canonicalize;
+use crate::mode::CanonMode;
+use crate::to_uri::canonicalize_to_uri;
 use iri_grammar::spec::{Spec, UriSpec};
 use iri_owned::owned::UriString;
 use iri_percent::MappedToUri;
@@ -25,8 +27,9 @@ fn canonical_mapped<S: Spec>(
     ensures reference { reference_fault S.tests (text reference.entry) ≡ None }
 {
     let (base, reference) = (base.as_str(), reference.as_str());
-    match canonicalize::<S>(alloc, base.as_bytes(), reference.as_bytes()) {
-        Ok(iri) => MappedToUri::of(iri.as_slice()).try_to_dedicated_string(alloc),
+    let mode = CanonMode::Default;
+    match canonicalize_to_uri::<S>(alloc, mode, base.as_bytes(), reference.as_bytes()) {
+        Ok(uri) => Ok(uri),
         Err(_) => Err(AllocError),
     }
 }

@@ -26,7 +26,7 @@ ghost use Rattle.iri_normal.specs.Target.{ends_at_slash};
 ghost use Rattle.iri_normal.specs.inside.Written.{popped_times, written};
 ghost use Rattle.iri_text.specs.Shown.{Shows};
 
-use self::output_buffer::{SHORT, put_kept, put_path};
+use self::output_buffer::{SHORT, lacks_percent, put_kept, put_path};
 use self::segments::{cut_eighth, cut_first, without_first_dots};
 use crate::dots::has_dot_segment;
 use crate::merged_path::MergedPath;
@@ -96,7 +96,8 @@ fn show_short<S: Spec, W: TextSink>(
         path.reference.as_bytes(),
         path.plain,
     );
-    show_part::<S, W>(sink, text_of(&buf, 0, len), normal)
+    let bare = lacks_percent(&buf);
+    show_part::<S, W>(sink, text_of(&buf, 0, len), normal & !bare)
 }
 
 // What stays of a short part after a slash, where `count` segments are taken away after it.

@@ -1,5 +1,6 @@
 use crate::same::same;
-use iri_grammar::spec::UriSpec;
+use iri_grammar::spec::{IriSpec, UriSpec};
+use iri_normal::to_uri::canonicalize_to_uri;
 use iri_resolve::canonical::{CanonError, canonicalize, canonicalize_in};
 use iri_resolve::mapping_laws::canonicalize_commutes_with_mapping;
 use iri_resolve::mode::CanonMode;
@@ -42,6 +43,37 @@ fn canonical_texts(rt: HostRuntime) -> Result<(), Fail> {
     let both = canonicalize_commutes_with_mapping(rt.alloc(), base, reference)?;
     same(&rt, both.0.as_str(), "http://a/%C3%A9");
     same(&rt, both.1.as_str(), "http://a/%C3%A9");
+    Ok(())
+}
+
+// Examples of RFC 3987 section 3.1, and octets that were sent as octets.
+#[test]
+fn canonical_texts_mapped(rt: HostRuntime) -> Result<(), Fail> {
+    let base = b"http://example.org/a/";
+    for &(reference, wanted) in &[
+        (
+            "http://r\u{e9}sum\u{e9}.example.org",
+            "http://r%C3%A9sum%C3%A9.example.org",
+        ),
+        (
+            "../red%09ros\u{e9}#red",
+            "http://example.org/red%09ros%C3%A9#red",
+        ),
+        (
+            "r%C3%A9sum%c3%a9.html",
+            "http://example.org/a/r%C3%A9sum%C3%A9.html",
+        ),
+    ] {
+        let uri = canonicalize_to_uri::<IriSpec>(
+            rt.alloc(),
+            CanonMode::Default,
+            base,
+            reference.as_bytes(),
+        )?;
+        same(&rt, uri.as_str(), wanted);
+    }
+    let refused = canonicalize_to_uri::<IriSpec>(rt.alloc(), CanonMode::Scheme, base, b"%");
+    assert!(rt; matches!(refused, Err(CanonError::BadReference(_))));
     Ok(())
 }
 

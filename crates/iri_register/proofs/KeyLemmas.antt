@@ -6,12 +6,13 @@ use Rattle.iri_register.proofs.Common.{is_text, IsAt, flag_at, gaps, Moves, IsKe
 use Rattle.std.proofs.Common.{not, take, Bool, cond, nat_lt, slice_set, ⊎_elim, lt-ltb}
 use Rattle.std.specs.Prelude.{slice_index_or, OnOk, Result, Err}
 use Rattle.std.proofs.lemmas.Bool.{cases_lt}
+use Rattle.std.proofs.lemmas.List.{length-append, length-map, length-set}
 use Rattle.std.proofs.lemmas.Option.{none-some}
 use Rattle.std.specs.List.{position_or_len, swap_remove}
 use Rattle.std.specs.declared.hash.DefaultHasher.{DefaultHasher}
 use Rattle.indexmap.specs.IndexMap.{insert_entry, swap_remove_entry}
 use Rattle.iri_register.proofs.GroupLemmas.{same}
-use Rattle.iri_register.proofs.HashLemmas.{hashed_last, position_as}
+use Rattle.iri_register.proofs.HashLemmas.{hashed_last, hashed_slot, position_as}
 use Rattle.iri_register.proofs.MapLemmas.{less_none}
 use Rattle.iri_register.proofs.SlotLemmas.{at_within, apart_text, flag_false, flag_small, place_live, live_within}
 use Rattle.iri_register.proofs.SlotLemmas.{insert_last, kept_as}
@@ -77,24 +78,15 @@ or_len_at t (e ∷ es) zero h = ap (λ b. cond (not b) (1 + position_or_len (is_
 or_len_at t (e ∷ es) (suc i) h =
     ap (λ b. cond (not b) (1 + position_or_len (is_text t) (keys_of es)) 0) h.0 ∙ (ap (λ n. 1 + n) (or_len_at t es i h.1) ∙ omega arith)
 
-length_keys : (es : List (Key × Lines)) → length (keys_of es) ≡ length es
-length_keys [] = refl
-length_keys (e ∷ es) = ap suc (length_keys es)
-
 pub position_at : (t : List ℕ) (es : List (Key × Lines)) (i : ℕ) → IsAt t es i → position (is_text t) (keys_of es) ≡ Some i
 position_at t es i h =
     let o = or_len_at t es i h in
     let w = at_within t es i h in
-    let l = length_keys es in
+    let l = length-map es (λ (e : Key × Lines). e.0) in
     ap (λ k. cond (nat_lt k (length (keys_of es))) (Some k) None) o ∙ ap (λ b. cond b (Some i) None) (lt-ltb i (length (keys_of es)) (omega arith))
 
 length_more : {X : Type 0} (xs : List X) (x : X) → length (xs ++ x ∷ []) - 1 ≡ length xs
-length_more [] x = refl
-length_more (y ∷ xs) x = let l = length_more xs x in omega (arith, l, longer xs x)
-  where
-    longer : {X : Type 0} (xs : List X) (x : X) → length (xs ++ x ∷ []) ≡ length xs + 1
-    longer [] x = refl
-    longer (y ∷ xs) x = let l = longer xs x in omega arith
+length_more xs x = let l = length-append xs (x ∷ []) in omega (arith, l)
 
 last_one : {X : Type 0} (xs : List X) (x d : X) → slice_index_or (xs ++ x ∷ []) (length xs) d ≡ x
 last_one [] x d = refl
@@ -131,11 +123,6 @@ slot_given h q key w es more less i hq hk hs at absent m l =
 
 -- ---- an entry without lines in a slot that was given up changes nothing
 
-pub length_slot : (es : List (Key × Lines)) (i : ℕ) (x : Key × Lines) → length (slice_set es i x) ≡ length es
-length_slot [] i x = refl
-length_slot (e ∷ es) zero x = refl
-length_slot (e ∷ es) (suc i) x = ap suc (length_slot es i x)
-
 pub entries_dead : (es : List (Key × Lines)) (i : ℕ) (x : Key × Lines) → flag_at es i ≡ 0 → is_live x ≡ false
     → entries_of (slice_set es i x) ≡ entries_of es
 entries_dead [] i x f n = refl
@@ -156,9 +143,9 @@ gaps_dead (e ∷ es) zero (suc k) x f n = rw (n, flag_false e f) refl
 gaps_dead (e ∷ es) (suc i) zero x f n = refl
 gaps_dead (e ∷ es) (suc i) (suc k) x f n = ap (λ m. cond (is_live e) 0 1 + m) (gaps_dead es i k x f n)
 
-pub kept_dead : {es : List (Key × Lines)} {m : Moves} {live : ℕ} → IsKept es m live → (i : ℕ) (x : Key × Lines)
-    → flag_at es i ≡ 0 → is_live x ≡ false → IsKept (slice_set es i x) m live
-kept_dead {es} kept i x f n = kept_as kept (slice_set es i x) (length_slot es i x) (λ k. gaps_dead es i k x f n)
+pub kept_dead : {h : DefaultHasher} {es : List (Key × Lines)} {m : Moves} {live : ℕ} → IsKept h es m live → (i : ℕ) (x : Key × Lines)
+    → IsHashed h x.0 → flag_at es i ≡ 0 → is_live x ≡ false → IsKept h (slice_set es i x) m live
+kept_dead {h} {es} kept i x a f n = kept_as kept (slice_set es i x) (hashed_slot h es i x kept.hashed a) (length-set es i x) (λ k. gaps_dead es i k x f n)
 
 pub on_ok : {A E : Type 0} {P Q : Type 0} (r : Result A E) → OnOk r P → (P → Q) → OnOk r Q
 on_ok (Ok a) h f = f h

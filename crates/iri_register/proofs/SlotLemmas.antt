@@ -5,6 +5,7 @@ use Rattle.std.proofs.Common.{bytes_eq, ◌≡◌, ◌≢◌, ℕ, zero, suc, �
 use Rattle.std.proofs.Common.{slice_get, true, false, cond, true≢false, Some, None, is_some, option_map, ◌&&◌, string_bytes}
 use Rattle.std.proofs.Common.{refl, sym, ◌∙◌, ap, subst, arith, ⊎_elim}
 use Rattle.std.proofs.lemmas.Bool.{cases_lt}
+use Rattle.std.proofs.lemmas.List.{length-append}
 use Rattle.std.proofs.lemmas.Option.{none-some, same_Some}
 use Rattle.std.specs.Map.{values_of}
 use Rattle.std.specs.Prelude.{nat_eq}
@@ -13,7 +14,7 @@ use Rattle.indexmap.specs.IndexMap.{set_value_at, insert_entry}
 use Rattle.iri_register.specs.Entries.{with_line}
 use Rattle.iri_register.specs.inside.Slots.{flag}
 use Rattle.iri_register.proofs.GroupLemmas.{is_same}
-use Rattle.iri_register.proofs.HashLemmas.{and_false, as_texts}
+use Rattle.iri_register.proofs.HashLemmas.{and_false, as_texts, hashed_last, hashed_live, hashed_set}
 use Rattle.iri_register.proofs.MapLemmas.{less_none}
 
 -- ---- gaps
@@ -217,16 +218,17 @@ place_dead h t (e ∷ es) (suc i) hs d a f =
 -- ---- together with the moves
 
 -- a slot of the entries has not moved up by more than its number
-pub moved_is : {es : List (Key × Lines)} {m : Moves} {live : ℕ} → IsKept es m live → (i : ℕ) → i < length es
+pub moved_is : {h : DefaultHasher} {es : List (Key × Lines)} {m : Moves} {live : ℕ} → IsKept h es m live → (i : ℕ) → i < length es
     → moved m i ≡ gaps es i
 moved_is kept i h = kept.moves i (omega (arith, h, kept.within))
 
 -- one is taken out
-pub kept_less : {es : List (Key × Lines)} {m : Moves} {live : ℕ} → IsKept es m live → (i : ℕ) (w : Lines) (n : Moves)
+pub kept_less : {k : DefaultHasher} {es : List (Key × Lines)} {m : Moves} {live : ℕ} → IsKept k es m live → (i : ℕ) (w : Lines) (n : Moves)
     → i < length es → flag_at es i ≡ 1 → has_lines (numbers_in w) ≡ false → IsBlocked n → length n.slots.items ≡ length m.slots.items
     → ((k : ℕ) → k ≤ i → moved n k ≡ moved m k) → ((k : ℕ) → i < k → k < length m.slots.items → moved n k ≡ moved m k + 1)
-    → IsKept (set_value_at es i w) n (live - 1)
-kept_less {es} {m} {live} kept i w n h f z blocked same before after = record {
+    → IsKept k (set_value_at es i w) n (live - 1)
+kept_less {k} {es} {m} {live} kept i w n h f z blocked same before after = record {
+  hashed = hashed_set k es i w kept.hashed;
   blocked = blocked;
   within = let l = length_set es i w in omega (arith, l, same, kept.within);
   moves = λ k b. ⊎_elim
@@ -344,9 +346,10 @@ gaps_same (e ∷ es) zero (suc k) w f n = rw (n, flag_true e f) refl
 gaps_same (e ∷ es) (suc i) (suc k) w f n = ap (λ m. cond (is_live e) 0 1 + m) (gaps_same es i k w f n)
 
 -- as many slots, with as many gaps before each
-pub kept_as : {es : List (Key × Lines)} {m : Moves} {live : ℕ} → IsKept es m live → (ds : List (Key × Lines))
-    → length ds ≡ length es → ((k : ℕ) → gaps ds k ≡ gaps es k) → IsKept ds m live
-kept_as {es} kept ds l same = record {
+pub kept_as : {h : DefaultHasher} {es : List (Key × Lines)} {m : Moves} {live : ℕ} → IsKept h es m live → (ds : List (Key × Lines))
+    → AreHashed h ds → length ds ≡ length es → ((k : ℕ) → gaps ds k ≡ gaps es k) → IsKept h ds m live
+kept_as {h} {es} kept ds a l same = record {
+  hashed = a;
   blocked = kept.blocked;
   within = omega (arith, l, kept.within);
   moves = λ k b. kept.moves k b ∙ sym (same k);
@@ -357,9 +360,9 @@ kept_as {es} kept ds l same = record {
       omega (arith, a, b, l, g, kept.living);
 }
 
-pub kept_same : {es : List (Key × Lines)} {m : Moves} {live : ℕ} → IsKept es m live → (i : ℕ) (w : Lines) → flag_at es i ≡ 1
-    → has_lines (numbers_in w) ≡ true → IsKept (set_value_at es i w) m live
-kept_same {es} kept i w f n = kept_as kept (set_value_at es i w) (length_set es i w) (λ k. gaps_same es i k w f n)
+pub kept_same : {h : DefaultHasher} {es : List (Key × Lines)} {m : Moves} {live : ℕ} → IsKept h es m live → (i : ℕ) (w : Lines) → flag_at es i ≡ 1
+    → has_lines (numbers_in w) ≡ true → IsKept h (set_value_at es i w) m live
+kept_same {h} {es} kept i w f n = kept_as kept (set_value_at es i w) (hashed_set h es i w kept.hashed) (length_set es i w) (λ k. gaps_same es i k w f n)
 
 -- ---- slots are freed
 
@@ -389,9 +392,10 @@ packed_gaps (e ∷ es) k =
     first e es zero m r = refl
     first e es (suc k) m r = let z = r k in rw m (omega (arith, z))
 
-pub kept_packed : (es : List (Key × Lines)) (m : Moves) (live : ℕ) → live ≡ length (filter is_live es) → IsBlocked m
-    → live < length m.slots.items → ((k : ℕ) → moved m k ≡ 0) → IsKept (filter is_live es) m live
-kept_packed es m live e blocked w none = record {
+pub kept_packed : (h : DefaultHasher) (es : List (Key × Lines)) (m : Moves) (live : ℕ) → AreHashed h es → live ≡ length (filter is_live es) → IsBlocked m
+    → live < length m.slots.items → ((k : ℕ) → moved m k ≡ 0) → IsKept h (filter is_live es) m live
+kept_packed h es m live a e blocked w none = record {
+  hashed = hashed_live h es a;
   blocked = blocked;
   within = omega (arith, e, w);
   moves = λ k b. none k ∙ sym (packed_gaps es k);
@@ -430,10 +434,6 @@ added_last (e ∷ es) t n h =
       | false ↦ λ m. ap (λ l. e ∷ l) (added_last es t n (less_none (place es t) m))
     ] h
 
-length_last : (es : List (Key × Lines)) (x : Key × Lines) → length (es ++ x ∷ []) ≡ length es + 1
-length_last [] x = omega arith
-length_last (e ∷ es) x = let rest = length_last es x in omega (arith, rest)
-
 more_gaps : (es : List (Key × Lines)) (x : Key × Lines) (k : ℕ) → is_live x ≡ true → gaps (es ++ x ∷ []) k ≡ gaps es k
 more_gaps [] x zero h = refl
 more_gaps [] x (suc k) h = rw h refl
@@ -450,23 +450,20 @@ added_new n k w es h e =
     ∙ sym (added_last (entries_of es) (string_bytes k.text) n (place_absent (string_bytes k.text) es (lookup_absent (string_bytes k.text) es h)))
 
 -- an entry more in the slot after the entries
-pub kept_more : {es : List (Key × Lines)} {m : Moves} {live : ℕ} → IsKept es m live → (x : Key × Lines)
-    → length es < length m.slots.items → is_live x ≡ true → IsKept (es ++ x ∷ []) m (live + 1)
-kept_more {es} kept x h n = record {
+pub kept_more : {k : DefaultHasher} {es : List (Key × Lines)} {m : Moves} {live : ℕ} → IsKept k es m live → (x : Key × Lines) → IsHashed k x.0
+    → length es < length m.slots.items → is_live x ≡ true → IsKept k (es ++ x ∷ []) m (live + 1)
+kept_more {k} {es} kept x a h n = record {
+  hashed = hashed_last k es x kept.hashed a;
   blocked = kept.blocked;
-  within = let l = length_last es x in omega (arith, l, h);
+  within = let l = length-append es (x ∷ []) in omega (arith, l, h);
   moves = λ k b. kept.moves k b ∙ sym (more_gaps es x k n);
   living =
-      let l = length_last es x in
+      let l = length-append es (x ∷ []) in
       let a = gaps_all es (length es + 1) (omega arith) in
       let b = gaps_all (es ++ x ∷ []) (length es + 1) (omega (arith, l)) in
       let g = more_gaps es x (length es + 1) n in
       omega (arith, a, b, l, g, kept.living);
 }
 
-longer : (es : List Entry) (e : Entry) → length (es ++ e ∷ []) ≡ length es + 1
-longer [] e = omega arith
-longer (x ∷ es) e = let rest = longer es e in omega (arith, rest)
-
 pub added_longer : (es : List Entry) (t : List ℕ) (n : ℕ) → place es t ≡ None → length (added es t n) ≡ length es + 1
-added_longer es t n h = ap length (added_last es t n h) ∙ longer es (record { target = t; lines = n ∷ [] })
+added_longer es t n h = ap length (added_last es t n h) ∙ length-append es ((record { target = t; lines = n ∷ [] }) ∷ [])

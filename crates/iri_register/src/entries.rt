@@ -9,7 +9,7 @@ ghost use Rattle.std.specs.Str.{bytes_eq};
 ghost use Rattle.iri_register.specs.Entries.{added, removed, place, line_count, entry_at, IsAdded};
 ghost use Rattle.iri_register.specs.Listed.{entries_of, entry_of, has_lines, is_live, numbers_in};
 ghost use Rattle.iri_register.specs.declared.moves.Moves.{Moves};
-ghost use Rattle.iri_register.specs.inside.Keys.{AreHashed, IsAskedOf, IsHashed};
+ghost use Rattle.iri_register.specs.inside.Keys.{IsAskedOf, IsHashed};
 ghost use Rattle.iri_register.specs.inside.Moved.{IsBlocked, moved};
 ghost use Rattle.iri_register.specs.inside.Places.{IsAt, is_text};
 ghost use Rattle.iri_register.specs.inside.Slots.{flag_at, gaps, IsKept};
@@ -39,14 +39,13 @@ impl Model for Entries {
     ghost use Rattle.std.specs.Prelude.{List};
     ghost use Rattle.iri_register.specs.Entries.{Entry};
     ghost use Rattle.iri_register.specs.Listed.{entries_of};
-    ghost use Rattle.iri_register.specs.inside.Keys.{AreHashed};
     ghost use Rattle.iri_register.specs.inside.Slots.{IsKept};
 
     ghost Value = { List Entry };
 
     ghost view = { λ r. entries_of r.map.entries };
 
-    ghost invariant = { λ r. IsKept r.map.entries r.moves r.live × AreHashed r.hasher r.map.entries };
+    ghost invariant = { λ r. IsKept r.hasher r.map.entries r.moves r.live };
 }
 
 // No entries, in a map whose hashes have this key.
@@ -133,9 +132,8 @@ fn add_line(
     requires within { slot < index_map_len map.old }
     ensures lines { entries_of map.new.entries
         ≡ (if is_ok result then added (entries_of map.old.entries) (string_bytes target.now.text) line else entries_of map.old.entries) }
-    ensures kept { (moves : Moves) → (live : ℕ) → IsKept map.old.entries moves live
-        → IsKept map.new.entries moves live }
-    ensures hashed { (h : DefaultHasher) → AreHashed h map.old.entries → AreHashed h map.new.entries }
+    ensures kept { (h : DefaultHasher) → (moves : Moves) → (live : ℕ) → IsKept h map.old.entries moves live
+        → IsKept h map.new.entries moves live }
 {
     let lines = &mut map[slot];
     match lines::push(alloc, lines, line) {
@@ -145,10 +143,15 @@ fn add_line(
 }
 
 // Frees the slots of the entries that were taken out, and makes room for as many entries again.
-fn pack(alloc: Global, map: &mut Map, live: usize, moves: &mut Moves) -> Result<(), AllocError>
-    requires kept { IsKept map.old.entries moves.old live }
-    ensures kept { IsKept map.new.entries moves.new live }
-    ensures hashed { (h : DefaultHasher) → AreHashed h map.old.entries → AreHashed h map.new.entries }
+fn pack(
+    alloc: Global,
+    hasher: &DefaultHasher,
+    map: &mut Map,
+    live: usize,
+    moves: &mut Moves,
+) -> Result<(), AllocError>
+    requires kept { IsKept hasher.now map.old.entries moves.old live }
+    ensures kept { IsKept hasher.now map.new.entries moves.new live }
     ensures same { entries_of map.new.entries ≡ entries_of map.old.entries }
     ensures packed { OnOk result (map.new.entries ≡ filter is_live map.old.entries) }
     ensures room { OnOk result (index_map_len map.new < length moves.new.slots.items) }
@@ -175,13 +178,11 @@ fn free_key(
     live: usize,
     target: &Key,
 ) -> Result<(), AllocError>
-    requires kept { IsKept map.old.entries moves.old live }
-    requires hashed { AreHashed hasher.now map.old.entries }
+    requires kept { IsKept hasher.now map.old.entries moves.old live }
     requires asked { IsHashed hasher.now target.now }
     requires room { index_map_len map.old < length moves.old.slots.items }
     requires gone { place (entries_of map.old.entries) (string_bytes target.now.text) ≡ None }
-    ensures kept { IsKept map.new.entries moves.new live }
-    ensures hashed { AreHashed hasher.now map.new.entries }
+    ensures kept { IsKept hasher.now map.new.entries moves.new live }
     ensures same { entries_of map.new.entries ≡ entries_of map.old.entries }
     ensures room { OnOk result (index_map_len map.new < length moves.new.slots.items) }
     ensures absent { OnOk result (is_some (lookup (is_text (string_bytes target.now.text)) map.new.entries) ≡ false) }
@@ -198,44 +199,14 @@ fn free_key(
             };
             key::take_hash(hasher, &mut key);
             if map.contains_key(&key) {
-                return pack(alloc, map, live, moves);
+                return pack(alloc, hasher, map, live, moves);
             }
-            map.insert(key, lines::none(alloc))?;
+            map.insert(key, Lines::More(Vec::new(alloc)))?;
             map.swap_remove(target);
             Ok(())
         }
         None => Ok(()),
     }
-}
-
-// Puts an entry of a target that is no key in the next slot.
-fn put_last(
-    alloc: Global,
-    map: &mut Map,
-    live: usize,
-    target: &Key,
-    line: u64,
-) -> Result<usize, AllocError>
-    requires living { live ≡ length (filter is_live map.old.entries) }
-    requires absent { is_some (lookup (is_text (string_bytes target.now.text)) map.old.entries) ≡ false }
-    ensures kept { (moves : Moves) → IsKept map.old.entries moves live
-        → index_map_len map.old < length moves.slots.items
-        → IsKept map.new.entries moves (if is_ok result then live + 1 else live) }
-    ensures entries { entries_of map.new.entries
-        ≡ (if is_ok result then added (entries_of map.old.entries) (string_bytes target.now.text) line else entries_of map.old.entries) }
-    ensures hashed { (h : DefaultHasher) → IsHashed h target.now → AreHashed h map.old.entries
-        → AreHashed h map.new.entries }
-    ensures live { IfOk result (λ n. n ≡ live + 1) }
-{
-    // `len` is called for its clause that the number of entries fits.
-    let _len = map.len();
-    let text = String::from_str(alloc, target.text.as_str())?;
-    let key = Key {
-        hash: target.hash,
-        text,
-    };
-    map.insert(key, Lines::One([line]))?;
-    Ok(live + 1)
 }
 
 // Puts an entry of a target that has none last, and tells how many there are then.
@@ -248,21 +219,27 @@ fn add_entry(
     target: &Key,
     line: u64,
 ) -> Result<usize, AllocError>
-    requires kept { IsKept map.old.entries moves.old live }
-    requires hashed { AreHashed hasher.now map.old.entries }
+    requires kept { IsKept hasher.now map.old.entries moves.old live }
     requires asked { IsHashed hasher.now target.now }
     requires gone { place (entries_of map.old.entries) (string_bytes target.now.text) ≡ None }
-    ensures kept { IsKept map.new.entries moves.new (if is_ok result then live + 1 else live) }
-    ensures hashed { AreHashed hasher.now map.new.entries }
+    ensures kept { IsKept hasher.now map.new.entries moves.new (if is_ok result then live + 1 else live) }
     ensures entries { entries_of map.new.entries
         ≡ (if is_ok result then added (entries_of map.old.entries) (string_bytes target.now.text) line else entries_of map.old.entries) }
     ensures live { IfOk result (λ n. n ≡ live + 1) }
 {
     if map.len() >= moves.slots.len() {
-        pack(alloc, map, live, moves)?;
+        pack(alloc, hasher, map, live, moves)?;
     }
     free_key(alloc, hasher, map, moves, live, target)?;
-    put_last(alloc, map, live, target, line)
+    // `len` is called for its clause that the number of entries fits.
+    let _len = map.len();
+    let text = String::from_str(alloc, target.text.as_str())?;
+    let key = Key {
+        hash: target.hash,
+        text,
+    };
+    map.insert(key, Lines::One([line]))?;
+    Ok(live + 1)
 }
 
 // Takes the entry that has this target out, and tells how many lines it had. It takes no memory.
@@ -274,7 +251,7 @@ pub(crate) fn remove(alloc: Global, entries: &mut Entries, target: &mut Key) -> 
     match slot_of(&entries.map, target) {
         Some(slot) => {
             let count = lines::as_slice(&entries.map[slot]).len();
-            entries.map[slot] = lines::none(alloc);
+            entries.map[slot] = Lines::More(Vec::new(alloc));
             moves::close(&mut entries.moves, slot);
             entries.live -= 1;
             Some(count)
@@ -318,7 +295,7 @@ pub(crate) fn add(
 // The slot of the entry that stands after so many others: that many, and as many more as entries before it were taken
 // out.
 fn slot_after(map: &Map, moves: &Moves, live: usize, count: usize) -> usize
-    requires kept { IsKept map.now.entries moves.now live }
+    requires kept { (h : DefaultHasher) × IsKept h map.now.entries moves.now live }
     requires within { count < live }
     ensures within { result < index_map_len map.now }
     ensures live { flag_at map.now.entries result ≡ 1 }
@@ -339,7 +316,7 @@ fn slot_after(map: &Map, moves: &Moves, live: usize, count: usize) -> usize
 
 // The slot of the entry at a place from 1.
 fn slot_at(map: &Map, moves: &Moves, live: usize, place: usize) -> Option<usize>
-    requires { IsKept map.now.entries moves.now live }
+    requires { (h : DefaultHasher) × IsKept h map.now.entries moves.now live }
     ensures some { IfSome result (λ s. entry_at (entries_of map.now.entries) place
         ≡ option_map entry_of (slice_get map.now.entries s)) }
     ensures none { IfNone result (entry_at (entries_of map.now.entries) place ≡ None) }

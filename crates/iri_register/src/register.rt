@@ -103,34 +103,6 @@ fn none_there<S: Spec>(reference: &[u8]) -> Result<Option<usize>, RegisterError>
 }
 
 impl Links {
-    // The place of the entry that has the reference's target.
-    fn find<S: Spec>(
-        &self,
-        resolver: &FixedBaseResolver<'_, S>,
-        reference: &[u8],
-    ) -> Result<Option<usize>, RegisterError>
-        ensures joined { IfOk result (FindsJoined S.tests self.now.mode (base_text resolver.now) self.now.entries reference.now) }
-        ensures causes { RefusedFor S.tests reference.now result }
-        ensures answer { FindsPlace S.tests self.now.mode (base_text resolver.now) self.now.entries reference.now result }
-        ensures memory { self.now.entries ≡ [] → result ≢ Err RegisterError.Memory }
-    {
-        if entries::len(&self.entries) == 0 {
-            return none_there::<S>(reference);
-        }
-        // The last line's target has had room for each that is there, so one found allocates once.
-        let mut target = key::none(self.alloc);
-        match write_target(
-            &mut target.text,
-            self.target.text.capacity(),
-            self.mode,
-            resolver,
-            reference,
-        ) {
-            Ok(()) => Ok(entries::find(&self.entries, &mut target)),
-            Err(error) => Err(error),
-        }
-    }
-
     // Puts a line of a reference.
     fn add<S: Spec>(
         &mut self,
@@ -278,7 +250,7 @@ impl<S: Spec> Register<S> {
         ensures memory { self.now.entries ≡ [] → result ≢ Err RegisterError.Memory }
     {
         let page = FixedBaseResolver::new(self.base.as_slice());
-        self.links.find(&page, reference)
+        self.find_against(&page, reference)
     }
 
     /// The same for a reference against a resolver's base, whatever the register's is. A program that asks for many
@@ -297,7 +269,22 @@ impl<S: Spec> Register<S> {
         ensures answer { FindsPlace S.tests self.now.mode (base_text resolver.now) self.now.entries reference.now result }
         ensures memory { self.now.entries ≡ [] → result ≢ Err RegisterError.Memory }
     {
-        self.links.find(resolver, reference)
+        if self.len() == 0 {
+            return none_there::<S>(reference);
+        }
+        let links = &self.links;
+        // The last line's target has had room for each that is there, so one found allocates once.
+        let mut target = key::none(links.alloc);
+        match write_target(
+            &mut target.text,
+            links.target.text.capacity(),
+            links.mode,
+            resolver,
+            reference,
+        ) {
+            Ok(()) => Ok(entries::find(&links.entries, &mut target)),
+            Err(error) => Err(error),
+        }
     }
 
     /// Puts a line: at the end of the lines of the entry that has the reference's canonical target, or into a new entry

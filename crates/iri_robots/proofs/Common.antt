@@ -23,4 +23,4 @@ pub use Rattle.iri_robots.specs.Stored.{record_texts}
 pub use Rattle.iri_robots.specs.inside.BestRule.{IsBestOf}
 pub use Rattle.iri_robots.specs.inside.Fits.{Fits}
 pub use Rattle.iri_robots.specs.inside.Prefixes.{IsPrefix, stays}
-pub use Rattle.iri_robots.specs.inside.RulesLeft.{rules_left}
+pub use Rattle.iri_robots.specs.inside.Groups.{rules_in_groups}

@@ -9,7 +9,11 @@ use Rattle.std.specs.Char.{is_ascii_hexdigit, encode_utf8}
 use Rattle.std.proofs.Math.Bool.{and-false, or-false}
 use Rattle.std.proofs.Math.Utf8.{low_scalar}
 use Rattle.std.proofs.lemmas.Bool.{le-ltb, lt-ltb}
-use Rattle.iri_grammar.specs.Classes.{uri_tests, unreserved, is_ascii_unreserved}
+use Rattle.iri_grammar.specs.Classes.{uri_tests, unreserved, is_ascii_unreserved, is_ascii_query, is_ascii_pchar, is_ascii_reg_name, is_sub_delim}
+use Rattle.iri_grammar.specs.ClassTests.{ascii_test}
+use Rattle.iri_grammar.specs.declared.class.Class.TheVariants.{Query}
+use Rattle.iri_grammar.proofs.splits.CutLaws.{test_apart}
+use Rattle.iri_grammar.proofs.units.ClassLaws.{ascii_test_below}
 use Rattle.iri_grammar.proofs.units.FirstUnits.{run_of_le}
 use Rattle.iri_percent.specs.Units.{octet, octets, two_digits}
 use Rattle.iri_percent.specs.Triplets.{normal, as_it_is}
@@ -234,6 +238,21 @@ stray_second [] h = refl
 stray_second (x ∷ []) h = refl
 stray_second (x ∷ a ∷ []) h = refl
 stray_second (x ∷ a ∷ b ∷ xs) h = second_other a b xs h
+
+-- ---- a part that stays
+no_percent : ascii_test Query 37 ≡ false
+unfolding is_ascii_query is_ascii_pchar is_ascii_reg_name is_ascii_unreserved is_sub_delim
+no_percent = refl
+
+pub compared_plain : (t : List ℕ) → drop (run_of (ascii_test Query) t) t ≡ [] → compared t ≡ t
+compared_plain [] h = compared_nil
+compared_plain (x ∷ t) h =
+    elim (ascii_test Query x) as (λ b. ascii_test Query x ≡ b → drop (cond b (suc (run_of (ascii_test Query) t)) 0) (x ∷ t) ≡ []
+    → compared (x ∷ t) ≡ x ∷ t) [
+      | true ↦ λ e k. compared_low x t (ascii_test_below Query x e) (test_apart (ascii_test Query) 37 x no_percent e)
+          ∙ ap (λ l. x ∷ l) (compared_plain t k)
+      | false ↦ λ e k. cc
+    ] refl h
 
 -- ---- the text so far, and what is left
 pub form_ends : (prior form t rest : List ℕ) → prior ++ compared t ≡ form ++ compared rest → length rest ≡ 0 → form ≡ prior ++ compared t

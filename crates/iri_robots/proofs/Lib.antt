@@ -5,6 +5,8 @@ pub mod Parts
 pub mod Anchors
 pub mod Verdicts
 pub mod Runs
+pub mod GroupLemmas
+pub mod Apart
 pub mod Lines
 pub mod Forms
 pub mod Agents

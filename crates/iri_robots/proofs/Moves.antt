@@ -80,7 +80,7 @@ pub one_special : (l m n : ℕ) → IsEscape l m → IsEscape l n → m ≡ n
 one_special l m n star_escape star_escape = refl
 one_special l m n dollar_escape dollar_escape = refl
 
-plain_prefix : (a : Bool) (c : ℕ) (q s : List ℕ) → c ≢ 42 → c ≢ 37 → Fits a (c ∷ q) s → (t : List ℕ) × (s ≡ c ∷ t) × Fits a q t
+pub plain_prefix : (a : Bool) (c : ℕ) (q s : List ℕ) → c ≢ 42 → c ≢ 37 → Fits a (c ∷ q) s → (t : List ℕ) × (s ≡ c ∷ t) × Fits a q t
 plain_prefix a c q s n k f = elim (fits_prefix a c q s n f) [
   | by_same t e g ↦ (t, e, g)
   | by_escape l m q' t e p _ _ _ ↦ absurd (k p)

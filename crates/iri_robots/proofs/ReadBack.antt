@@ -23,7 +23,7 @@ use Rattle.iri_robots.specs.FileLines.{without_byte_order_mark, without_end, wit
 use Rattle.iri_robots.specs.Files.{file_lines, file_records, is_byte, is_in_line}
 use Rattle.iri_robots.specs.Records.{FileRule, FileRecord, UserAgent, Judged, line_records, groups, is_named, rules_of, rules_for}
 use Rattle.iri_robots.specs.RuleLines.{line_rules, rule_line, rule_lines, rule_word, rules_in}
-use Rattle.iri_robots.specs.inside.RulesLeft.{rules_from}
+use Rattle.iri_robots.specs.inside.Groups.{rules_from}
 use Rattle.iri_robots.proofs.Forms.{compared_nil, compared_low, compared_decoded, compared_kept, compared_past, compared_stray, second_other}
 use Rattle.iri_robots.proofs.Runs.{at_start}
 

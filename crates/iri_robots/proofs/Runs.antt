@@ -4,7 +4,7 @@ use Rattle.iri_robots.proofs.Common.{append_assoc, append-nil, str_eq_ignore_asc
 use Rattle.std.proofs.Math.Bool.{or-false}
 use Rattle.iri_robots.specs.declared.rule.Best.{Best}
 use Rattle.iri_robots.specs.Allowed.{IsAmong, first, later}
-use Rattle.iri_robots.specs.inside.RulesLeft.{rules_from}
+use Rattle.iri_robots.specs.inside.Groups.{rules_from}
 use Rattle.iri_robots.specs.Records.{UserAgent, Judged, Group, leading_rules, with_agent, groups, has_agent, rules_of}
 
 -- the same of groups, where the first one has the name already

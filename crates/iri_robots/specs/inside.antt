@@ -6,7 +6,8 @@ pub mod ReadLines
 pub mod BestRule
 pub mod Prefixes
 pub mod EscapeScans
-pub mod RulesLeft
+pub mod Groups
 pub mod Periods
 pub mod Escaped
 pub mod Ends
+pub mod SecondBytes

@@ -33,6 +33,7 @@
 mod compared;
 mod escape;
 mod escaped;
+mod groups;
 pub mod laws;
 mod line;
 mod needle;

@@ -1,14 +1,17 @@
 // The rules for one crawler.
-ghost use Rattle.std.specs.Prelude.{◌≡◌, ◌↔◌, ◌<◌, ◌≤◌, ◌++◌, ◌∷◌, [], MatchResult, IfErr, IfOk, OnOk, true, false, string_bytes};
+ghost use Rattle.std.specs.Prelude.{◌≡◌, ◌↔◌, ◌<◌, ◌≤◌, ◌++◌, ◌∷◌, [], MatchOption, MatchResult, IfErr, IfOk, OnOk, true, false, string_bytes};
 ghost use Rattle.iri_robots.specs.FileLines.{is_token, line_of};
 ghost use Rattle.iri_robots.specs.Records.{rules_for, line_records, records_escapes};
 ghost use Rattle.iri_robots.specs.Allowed.{IsAllowed};
 ghost use Rattle.iri_robots.specs.Files.{file_records};
 ghost use Rattle.iri_robots.specs.RuleLines.{rule_lines};
 ghost use Rattle.iri_robots.specs.Stored.{record_texts, optional_record};
+ghost use Rattle.iri_robots.specs.inside.Groups.{IsOf, IsRead};
 
+use crate::groups::{Groups, Reading, past};
 use crate::line::{cut_line, token_len};
-use crate::record::{Record, is_allowed, line_has_more_escapes, line_record, rules_for};
+use crate::record::{Record, best_of, line_has_more_escapes, line_record};
+use crate::rule::decides;
 use crate::rules_text::push_rules;
 use iri_text::Text;
 use std::alloc::{AllocError, Global};
@@ -87,6 +90,9 @@ pub struct Robots {
     token: String,
     #[derive_where(skip(Debug))]
     records: Vec<Record>,
+    #[derive_where(skip(Debug))]
+    reading: Reading,
+    ghost read: { ∥ IsRead (string_bytes token) records.items reading ∥₁ },
 }
 
 /// Whether a text is a product token (RFC 9309 section 2.2.1): one or more ASCII letters, `_` and `-`.
@@ -123,6 +129,14 @@ impl Robots {
                 alloc,
                 token,
                 records: Vec::new(alloc),
+                reading: Reading {
+                    named: false,
+                    in_run: false,
+                    groups: Groups {
+                        own: false,
+                        any: false,
+                    },
+                },
             }),
             Err(e) => Err(RobotsError::Memory(e)),
         }
@@ -130,6 +144,7 @@ impl Robots {
 
     // Stores a record, where there is one; after an allocation failure nothing has changed.
     fn store(&mut self, added: Option<Record>) -> Result<(), AllocError>
+        requires { MatchOption added (Unit {0}) (λ x. IsOf self.old.reading.groups x) }
         ensures token { string_bytes self.new.token ≡ string_bytes self.old.token }
         ensures records { MatchResult result (λ _. record_texts self.new.records.items
             ≡ record_texts self.old.records.items ++ optional_record added)
@@ -138,7 +153,9 @@ impl Robots {
     {
         match added {
             Some(record) => {
+                let reading = past(self.reading, self.token.as_str(), &record);
                 self.records.push(record)?;
+                self.reading = reading;
                 Ok(())
             }
             None => Ok(()),
@@ -166,7 +183,7 @@ impl Robots {
             (λ _. record_texts self.new.records.items ≡ record_texts self.old.records.items) }
         ensures none { line_records (line_of line.now) ≡ [] → result ≡ Ok tt }
     {
-        self.store(line_record(self.alloc, line)?)
+        self.store(line_record(self.alloc, self.reading.groups, line)?)
     }
 
     // Stores the records of a robots file. A CR or an LF ends a line of it.
@@ -192,10 +209,7 @@ impl Robots {
             ≡ rule_lines (rules_for (string_bytes self.now.token) (record_texts self.now.records.items))) }
     {
         let mut lines = String::new(self.alloc);
-        push_rules(
-            &mut lines,
-            rules_for(self.token.as_str(), self.records.as_slice()),
-        )?;
+        push_rules(&mut lines, self.records.as_slice(), self.reading.named)?;
         Ok(Text::from_string(lines))
     }
 
@@ -242,11 +256,9 @@ impl Robots {
         ensures { (result ≡ Verdict.Allow)
             ↔ IsAllowed (rules_for (string_bytes self.now.token) (record_texts self.now.records.items)) subject.now }
     {
-        if is_allowed(
-            self.token.as_str(),
-            self.records.as_slice(),
-            subject.as_bytes(),
-        ) {
+        let text = subject.as_bytes();
+        let best = best_of(self.records.as_slice(), self.reading.named, text);
+        if decides(best, text) {
             Verdict::Allow
         } else {
             Verdict::Disallow

@@ -7,12 +7,13 @@ ghost use Rattle.iri_robots.specs.Records.{FileRule, rules_for};
 ghost use Rattle.iri_robots.specs.RuleLines.{line_rules, rule_line, rule_lines, rule_word, rules_in};
 ghost use Rattle.iri_robots.specs.Stored.{rule_text};
 ghost use Rattle.iri_robots.specs.inside.BestRule.{IsBestOf};
-ghost use Rattle.iri_robots.specs.inside.RulesLeft.{rules_left};
+ghost use Rattle.iri_robots.specs.inside.Groups.{rules_in_groups};
+ghost use Rattle.iri_robots.specs.inside.SecondBytes.{second_of};
 
 use crate::line::cut;
-use crate::record::{RulesLeft, next_rule};
+use crate::record::Record;
 use crate::robots::{Robots, RobotsError, Verdict};
-use crate::rule::{Best, Rule, decides, judge};
+use crate::rule::{Best, Rule, decides, is_apart, judge, second_of};
 use iri_text::Text;
 use std::alloc::{AllocError, Global};
 
@@ -32,14 +33,20 @@ fn push_rule(lines: &mut String, rule: &Rule) -> Result<(), AllocError>
     lines.push('\n')
 }
 
-// Writes rules, a line each.
-pub(crate) fn push_rules(lines: &mut String, rules: RulesLeft<'_>) -> Result<(), AllocError>
-    ensures { OnOk result (string_bytes lines.new ≡ string_bytes lines.old ++ rule_lines (rules_left rules.entry)) }
+// Writes the rules of the crawler's own groups, or of those that have `*`, a line each.
+pub(crate) fn push_rules(
+    lines: &mut String,
+    records: &[Record],
+    own: bool,
+) -> Result<(), AllocError>
+    ensures { OnOk result (string_bytes lines.new ≡ string_bytes lines.old ++ rule_lines (rules_in_groups own records.now)) }
 {
-    let mut left = rules;
-    'rules: while let Some((rule, after)) = next_rule(left) {
-        push_rule(lines, rule)?;
-        left = after;
+    for record in records {
+        if let Record::Judged(rule) = record {
+            if rule.groups.has(own) {
+                push_rule(lines, rule)?;
+            }
+        }
     }
     Ok(())
 }
@@ -106,11 +113,17 @@ fn read_rule(line: &[u8]) -> Option<LineRule<'_>>
 }
 
 // What decides with the rule of one line more.
-fn judge_line(best: Option<Best>, line: &[u8], text: &[u8]) -> Option<Best>
+fn judge_line(best: Option<Best>, line: &[u8], second: u8, text: &[u8]) -> Option<Best>
+    requires { second ≡ second_of text.now }
     ensures { (rules : List FileRule) → IsBestOf rules text.now best → IsBestOf (rules ++ line_rules line.now) text.now result }
 {
     match read_rule(line) {
-        Some(rule) => judge(best, rule.allows, rule.pattern, text),
+        Some(rule) => {
+            if is_apart(rule.pattern, second) {
+                return best;
+            }
+            judge(best, rule.allows, rule.pattern, text)
+        }
         None => best,
     }
 }
@@ -119,11 +132,12 @@ fn judge_line(best: Option<Best>, line: &[u8], text: &[u8]) -> Option<Best>
 fn best_in(lines: &[u8], text: &[u8]) -> Option<Best>
     ensures { IsBestOf (rules_in lines.now) text.now result }
 {
+    let second = second_of(text);
     let mut best = None;
     let mut rest = lines;
     'lines: loop {
         let (line, after) = cut(rest, b'\n');
-        best = judge_line(best, line, text);
+        best = judge_line(best, line, second, text);
         match after {
             Some(after) => rest = after,
             None => return best,

@@ -159,9 +159,6 @@ need_octet a b h k =
     ∙ ap (λ p. cond (nat_lt v 12) 1 (cond (nat_lt v 14) 2 (cond p 3 4))) (scaled v w 15 low)
     ∙ sym (digits a h).width_is
 
-some_width : (a : ℕ) → 0 < width a
-some_width a = grind (arith, nat_tests)
-
 most_width : (a : ℕ) → width a ≤ 4
 most_width a = grind (arith, nat_tests)
 
@@ -409,11 +406,6 @@ begun_more (x ∷ y ∷ z ∷ t) m a b h some p q c =
     let f : 3 * width y ≡ length (t ++ 37 ∷ a ∷ b ∷ []) + 3 * (m - 1 + 1) = omega (arith, e, some, length-append t (37 ∷ a ∷ b ∷ [])) in
     rw (k.0, continue_more t a b l.0 p q c, eq-eqb (3 * width y) (length (t ++ 37 ∷ a ∷ b ∷ []) + 3 * (m - 1 + 1)) f) refl
 
-pub begun_first : (a b : ℕ) → is_ascii_hexdigit a ≡ true → is_ascii_hexdigit b ≡ true → are_begun (37 ∷ a ∷ b ∷ []) (width a - 1) ≡ true
-begun_first a b p q =
-    let f : 3 * width a ≡ 0 + 3 * (width a - 1 + 1) = omega (arith, some_width a) in
-    rw (p, q, eq-eqb (3 * width a) (0 + 3 * (width a - 1 + 1)) f) refl
-
 -- they have room
 pub begun_short : (t : List ℕ) (missing : ℕ) → are_begun t missing ≡ true → length t + 3 * missing ≤ 12
 begun_short [] m h = let z = eqb-true m 0 h in omega arith
@@ -546,7 +538,3 @@ none_of_none s (Some (suc n)) = refl
 pub nothing_units : (t : List ℕ) (b : Begun) → t ≡ [] → b ≡ Nothing → octet_units t ++ begun_units b ≡ []
 nothing_units t b e f = ap (λ l. octet_units l ++ begun_units b) e ∙ ap (λ x. octet_units [] ++ begun_units x) f
     ∙ ap (λ o. units_of_char [] o ++ []) no_char
-
-pub fewer_both : (left : Option ℕ) (n m k : ℕ) → k ≡ n + m → fewer (fewer left n) m ≡ fewer left k
-fewer_both None n m k e = refl
-fewer_both (Some l) n m k e = let same : l - n - m ≡ l - k = omega arith in ap Some same

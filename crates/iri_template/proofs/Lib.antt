@@ -16,3 +16,4 @@ pub mod VarSpecPortions
 pub mod PartWalk
 pub mod FixedLemmas
 pub mod PlacedNames
+pub mod NoPrefixes

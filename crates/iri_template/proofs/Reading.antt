@@ -157,12 +157,6 @@ module _ {W : Type 0} (s : Tests) {puts halts : W → List ℕ → W → Type 0}
     goes_on = on_ok x (nothing_held s b (fewer a.left (length cs)) t' f' l);
   }
 
-  -- what is read of one state, as what is read of another
-  pub reads_as : {a m b : Reading} {w v : W} {x : Result (Unit {0}) Stop} (cs ds : List ℕ)
-      → ((r : List ℕ) → kept_rest s a (cs ++ r) ≡ kept_rest s m (ds ++ r))
-      → Reads (kept_rest s) puts halts stops m w ds b v x → Reads (kept_rest s) puts halts stops a w cs b v x
-  reads_as cs ds e q = record { text = q.text; rest = q.rest; shows = q.shows; split = λ r. e r ∙ q.split r; goes_on = q.goes_on }
-
   -- characters each of which is encoded for itself
   pub reads_chars : {a b : Reading} {w v : W} {x : Result (Unit {0}) Stop} (cs : List ℕ)
       → Shows puts halts stops w (written_chars s false a.left cs) v x → b.left ≡ fewer a.left (length cs)

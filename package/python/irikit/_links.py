@@ -4,9 +4,10 @@ from __future__ import annotations
 import re
 from typing import Iterable
 
-from ._library import address, declared, room, size_t
-from ._numbers import ABSOLUTE, BAD_BASE, NORMAL, OK, SHORT, URI, Grammar, Mode
 from ._forms import fault
+from ._library import declared, room, size_t
+from ._lines import answered
+from ._numbers import ABSOLUTE, BAD_BASE, NORMAL, OK, URI, Grammar, Mode
 from ._refused import Refused, refusal
 from ._texts import Immutable, Text, bytes_of, of_kind, several, writing
 
@@ -15,9 +16,8 @@ _target = writing("target", 1, 2)
 _canonical = declared("canonical", "number number text text text sizes")
 _canonical_lines = declared("canonical_lines", "number number text many text sizes sizes")
 
-# Room for answers to many lines, at first, and how many references of a list go into one call: so that all of it stays in the
-# processor's cache.
-_ANSWERS, _AT_ONCE = 1 << 17, 4096
+# How many references of a list go into one call: so that all of it stays in the processor's cache.
+_AT_ONCE = 4096
 # An answer, with the text of one that is `ok`.
 _ANSWER = re.compile("ok (.*)|bad .*")
 
@@ -113,22 +113,7 @@ class Links(Immutable):
         b'ok http://a/c\\nbad invalid path\\nok http://a/d\\n'
         """
         base, grammar = self._made_of
-        lines, mode = bytes_of(lines), of_kind(mode, Mode)
-        if lines and not lines.endswith(b"\n"):
-            lines += b"\n"
-        start, end = address(lines), len(lines)
-        at, pieces, out, used, detail, status = 0, [], room(min(_ANSWERS, 64 + 4 * (len(base) + end))), size_t(), size_t(), int(SHORT)
-        while status == SHORT:
-            status = _canonical_lines(
-                grammar, mode, base, len(base), start + at, end - at, out, len(out), used, detail
-            )
-            if status not in (OK, SHORT):
-                raise refusal(status, detail.value)
-            pieces.append(out[: detail.value])
-            at += used.value
-            if not used.value:
-                out = room(2 * len(out))
-        return b"".join(pieces)
+        return answered(_canonical_lines, lines, grammar, of_kind(mode, Mode), base, len(base), wide=len(base))
 
     def canonical_many(self, references: Iterable[Text], mode: Mode = NORMAL) -> list[str | None]:
         """The canonical texts of references, in their order; None for each that is refused.

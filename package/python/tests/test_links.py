@@ -175,5 +175,46 @@ class Many(unittest.TestCase):
         self.assertEqual(links.answers(b"e" * MEBIBYTE), b"ok http://a/" + b"e" * MEBIBYTE + b"\n")
 
 
+class Pairs(unittest.TestCase):
+    def test_resolved(self):
+        """RFC 3986 section 5.4: the page of the examples on each line, and another page on every second one."""
+        lines = "".join(f"{BASE}\t{reference}\nhttp://A/\t//h\n" for reference, _ in RESOLVED)
+        self.assertEqual(irikit.pairs(lines).decode(), "".join(f"ok {text}\nok http://h\n" for _, text in RESOLVED))
+
+    def test_rows(self):
+        for grammar in ("uri", "iri"):
+            found = [row for row in rows("rows.txt") if row[0] == grammar and "\t" not in row[1] and not row[1].endswith("\r")]
+            self.assertGreater(len(found), 40)
+            lines = "".join(f"{base}\t{reference}\n" for _, base, reference, _ in found)
+            self.assertEqual(irikit.pairs(lines, irikit.Grammar[grammar.upper()]).decode(), "".join(text + "\n" for *_, text in found))
+
+    def test_lines(self):
+        """docs/COMMANDS.md, `pairs`: what a line is. Each answer is the program's."""
+        base = b"base expected an absolute IRI but got a relative IRI\n"
+        for lines, wanted in (
+            (b"", b""), (b"\n", b"bad line\n"), (b"a:", b"bad line\n"), (b"a:\t", b"ok a:\n"), (b"a:\t\r", b"ok a:\n"),
+            (b"\t", base), (b"\tb", base), (b"http://a\tb\tc", b"bad invalid path\n"), (b"http://a\t\t", b"bad invalid path\n"),
+            (b"http://a\tb\r\r", b"bad invalid path\n"), (b"http://a\r\tb", b"base invalid host\n"), (b"a:#\tb", b"base unexpected fragment\n"),
+            ("\ud800\tb", b"base invalid utf-8 bytes\n"), ("a:\t\udfff", b"bad invalid utf-8 bytes\n"), (b"a:\t\xff", b"bad invalid utf-8 bytes\n"),
+            ("\ufeffa:\tb", b"base invalid scheme\n"), ("a:\t\ufeffb", b"bad invalid path\n"), (b"a:\tb\na:\tc", b"ok a:b\nok a:c\n"),
+            (b"//a\tb\nhttp://a\tb\nhttp://a\tc\n", base + b"ok http://a/b\nok http://a/c\n"),
+        ):
+            self.assertEqual(irikit.pairs(lines), wanted, lines)
+            program = lines if isinstance(lines, bytes) else lines.encode(errors="surrogatepass")
+            self.assertEqual(irikit.run("pairs uri", program)[0], wanted, lines)
+        self.assertEqual(irikit.pairs("http://a/\t\ufeff\u00e9", IRI), "ok http://a/\ufeff\u00e9\n".encode())
+        self.assertEqual(irikit.pairs("http://a:80\t\n", mode=BY_SCHEME), b"ok http://a/\n")
+        with self.assertRaisesRegex(Refused, "PRESERVING"):
+            irikit.pairs(b"", mode=PRESERVING)
+
+    def test_lengths(self):
+        long = b"http://a/" + b"e" * MEBIBYTE
+        self.assertEqual(irikit.pairs(long + b"\t?f"), b"ok " + long + b"?f\n")
+        self.assertEqual(irikit.pairs(b"http://a/\t" + b"e" * MEBIBYTE), b"ok " + long + b"\n")
+        for count in (1, 2, 999, 100_000):
+            self.assertEqual(irikit.pairs(b"\n" * count), b"bad line\n" * count)
+            self.assertEqual(irikit.pairs(b"\tb\na:\tb\n" * count).count(b"\nok a:b\n"), count)
+
+
 if __name__ == "__main__":
     unittest.main()

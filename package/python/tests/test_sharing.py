@@ -28,6 +28,7 @@ def ask(thread, times):
         for got, wanted in (
             (LINKS.canonical(path), "http://a" + path), (IRIS.resolve(path), "http://\u00e9" + path),
             (LINKS.answers("\n".join(many)), "".join(f"ok http://a{one}\n" for one in many).encode()),
+            (irikit.pairs("\n".join(f"http://{thread}\t{one}" for one in many)), "".join(f"ok http://{thread}{one}\n" for one in many).encode()),
             (LINKS.canonical_many([*many, "%"]), [*(f"http://a{one}" for one in many), None]),
             (TEMPLATE.expand(q=thread, n=[n, path[:9]]), f"/s?q={thread}&n={n}&n={path[:9].replace('/', '%2F')}"),
             (str(URI_.join(path)), "http://u:p@a" + path), (URI_.with_fragment(path).fragment, path),

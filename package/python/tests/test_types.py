@@ -9,7 +9,7 @@ from irikit import ABSOLUTE, BY_SCHEME, IN_PATH, IRI, NORMAL, REFERENCE, Links, 
 LINKS = Links("http://a/b")
 # Calls by a text.
 TEXTS = [
-    Links, LINKS.canonical, LINKS.canonical_bytes, LINKS.resolve, LINKS.target, LINKS.answers, lambda text: LINKS.canonical_many([text]),
+    Links, LINKS.canonical, LINKS.canonical_bytes, LINKS.resolve, LINKS.target, LINKS.answers, lambda text: LINKS.canonical_many([text]), irikit.pairs,
     irikit.fault, irikit.faulty_part, irikit.normalize, irikit.is_normalized, irikit.steps, irikit.map_to_uri, irikit.encode, irikit.decode,
     irikit.mask_password, irikit.without_password, lambda text: irikit.with_password("a", text), irikit.split, irikit.variables,
     lambda text: irikit.with_fragment(text, None), lambda text: irikit.with_fragment("a", text) if text is not None else irikit.split(None),
@@ -30,7 +30,7 @@ GRAMMARS = [
     lambda number: irikit.mask_password("a", number), lambda number: irikit.without_password("a", number),
     lambda number: irikit.with_password("a", "b", number), lambda number: irikit.with_fragment("a", "b", number),
     lambda number: irikit.with_fragment("a", None, number), lambda number: irikit.with_host("//a", "b", grammar=number),
-    lambda number: irikit.links("", "a:", number), lambda number: Robots("", "bot", None, number),
+    lambda number: irikit.links("", "a:", number), lambda number: Robots("", "bot", None, number), lambda number: irikit.pairs(b"", number),
 ]
 MODES = [
     lambda number: irikit.links("", "a:", mode=number), lambda number: Robots("", "bot", mode=number),
@@ -38,6 +38,7 @@ MODES = [
     lambda number: LINKS.answers(b"", number), lambda number: LINKS.canonical_many(["a"], number), lambda number: irikit.normalize("a:", number),
     lambda number: LINKS.canonical_many([], number), lambda number: irikit.canonical_many("a:", [], mode=number),
     lambda number: irikit.is_normalized("a:", number), lambda number: irikit.steps("a:", number), lambda number: Uri("a:").canonical(number),
+    lambda number: irikit.pairs(b"a:\tb\n", mode=number), lambda number: irikit.pairs(b"", mode=number),
 ]
 KINDS = [lambda number: irikit.fault("a", number), lambda number: irikit.faulty_part("a", number), lambda number: irikit.build(kind=number)]
 PLACES = [lambda number: irikit.encode("a", number)]

@@ -6,6 +6,7 @@ import irikit
 links: irikit.Links = irikit.Links(b"http://a/", irikit.IRI)
 text: str = links.canonical("b", irikit.BY_SCHEME)
 many: list[str | None] = irikit.canonical_many("http://a/", ["b", b"c"], irikit.Grammar.IRI, irikit.Mode.NORMAL)
+answers: bytes = irikit.pairs(b"a:\tb", irikit.IRI, irikit.BY_SCHEME)
 parts = irikit.split(text)
 host: str | None = parts.hostname
 port: int | None = parts.port

@@ -1,6 +1,6 @@
 //! References against a base.
 use crate::grammar::at;
-use crate::written::{into, owned};
+use crate::written::{answer_lines, into, owned};
 use crate::{ffi, Error, Grammar, Mode};
 use std::os::raw::c_char;
 use std::str;
@@ -151,32 +151,11 @@ impl Base {
     /// # Ok::<(), irikit::Error>(())
     /// ```
     pub fn canonical_lines<'b>(&self, lines: &str, buffer: &'b mut Vec<u8>) -> Lines<'b> {
-        let (ended, last) = lines.split_at(lines.rfind('\n').map_or(0, |lf| lf + 1));
-        buffer.resize(buffer.capacity().max(4096), 0);
-        let mut len = self.answer_ended(ended, 0, buffer);
-        if !last.is_empty() {
-            len = self.answer_ended(&format!("{last}\n"), len, buffer);
-        }
+        let len = answer_lines(lines, buffer, |lines, out| self.answer(lines, out));
         Lines {
             answers: str::from_utf8(&buffer[..len])
                 .expect("irikit writes UTF-8")
                 .split_terminator('\n'),
-        }
-    }
-
-    /// Writes the answers to lines, each ended by an LF, after the first `len` bytes of the buffer, and gives the length of all.
-    fn answer_ended(&self, lines: &str, mut len: usize, buffer: &mut Vec<u8>) -> usize {
-        let mut at = 0;
-        loop {
-            let (status, consumed, detail) = self.answer(&lines[at..], &mut buffer[len..]);
-            (at, len) = (at + consumed, len + detail);
-            match status {
-                ffi::IRIKIT_OK => return len,
-                ffi::IRIKIT_SHORT => {
-                    buffer.resize(2 * buffer.len() + self.text.len() + lines.len() - at, 0);
-                }
-                _ => unreachable!("the base is valid: {status}"),
-            }
         }
     }
 

@@ -74,6 +74,8 @@ calls! {
         out: *mut c_char, size: usize, detail: *mut usize);
     irikit_canonical_lines(grammar: u32, mode: u32, base: *const c_char, base_len: usize, lines: *const c_char, lines_len: usize,
         out: *mut c_char, size: usize, consumed: *mut usize, detail: *mut usize);
+    irikit_canonical_pairs(grammar: u32, mode: u32, lines: *const c_char, lines_len: usize, out: *mut c_char, size: usize,
+        consumed: *mut usize, detail: *mut usize);
     irikit_validate(grammar: u32, kind: u32, text: *const c_char, len: usize, detail: *mut usize);
     irikit_fault_part(kind: u32, fault: usize, text: *const c_char, len: usize, part: *mut Slot, detail: *mut usize);
     irikit_split(grammar: u32, text: *const c_char, len: usize, parts: *mut Slots, detail: *mut usize);

@@ -1,6 +1,6 @@
 //! The grammars, and what is asked in one without a base.
 use crate::template::{refuse, Array};
-use crate::written::{bytes, into, owned};
+use crate::written::{answer_lines, bytes, into, owned};
 use crate::{ffi, Base, Error, Fault, Parts, Value};
 use std::os::raw::c_char;
 
@@ -197,6 +197,51 @@ impl Grammar {
             let (text, len) = at(text);
             unsafe { ffi::irikit_normalize(self as u32, mode as u32, text, len, out, size, detail) }
         }
+    }
+
+    /// The answers to lines, each a page, a tab and a link on it: `ok TEXT` by the link's canonical text, `bad WORDS` for its first
+    /// fault, `base WORDS` for the page's, `bad line` where there is no tab. Each is that of its own line alone, so lists of pairs may be
+    /// cut at any LF.
+    ///
+    /// ```
+    /// let answers = irikit::Grammar::Uri.pairs("http://a/b\tc\nhttp://h/\t%4\nhttp://h/");
+    /// assert_eq!(answers, "ok http://a/c\nbad invalid path\nbad line\n");
+    /// ```
+    pub fn pairs(self, lines: &str) -> String {
+        self.pairs_in(lines, Mode::Normal)
+    }
+
+    /// [`pairs`](Self::pairs) by the rules of http, https, ws, wss and ftp too (RFC 3986 section 6.2.3).
+    ///
+    /// ```
+    /// assert_eq!(irikit::Grammar::Uri.pairs_by_scheme("http://a/b\t//h:80"), "ok http://h/\n");
+    /// ```
+    pub fn pairs_by_scheme(self, lines: &str) -> String {
+        self.pairs_in(lines, Mode::ByScheme)
+    }
+
+    fn pairs_in(self, lines: &str, mode: Mode) -> String {
+        let mut buffer = Vec::new();
+        let len = answer_lines(lines, &mut buffer, |lines, out| {
+            let ((lines, len), (mut consumed, mut detail)) = (at(lines), (0, 0));
+            let (size, out) = (out.len(), out.as_mut_ptr().cast());
+            let (grammar, mode) = (self as u32, mode as u32);
+            let status = unsafe {
+                ffi::irikit_canonical_pairs(
+                    grammar,
+                    mode,
+                    lines,
+                    len,
+                    out,
+                    size,
+                    &mut consumed,
+                    &mut detail,
+                )
+            };
+            (status, consumed, detail)
+        });
+        buffer.truncate(len);
+        String::from_utf8(buffer).expect("irikit writes UTF-8")
     }
 
     /// The steps that lead a text with a scheme to its normal form (RFC 3986 section 6.2.2), in words and from left to right. A

@@ -1,5 +1,5 @@
 //! What calls write: to a buffer of the caller's, or to a string of their own.
-use crate::ffi::IRIKIT_OK;
+use crate::ffi::{IRIKIT_OK, IRIKIT_SHORT};
 use crate::Error;
 use std::os::raw::c_char;
 use std::str;
@@ -46,5 +46,37 @@ where
     match call(out.as_mut_ptr().cast(), out.len(), &mut detail) {
         IRIKIT_OK => str::from_utf8(&out[..detail]).expect(UTF8),
         _ => "another fault",
+    }
+}
+
+/// What a call answers to lines, the last of which an LF may end, at the start of a buffer: the length of all answers. The call tells
+/// its status, how many bytes of lines are answered, and how many bytes the answers have.
+pub(crate) fn answer_lines<C>(lines: &str, buffer: &mut Vec<u8>, call: C) -> usize
+where
+    C: Fn(&str, &mut [u8]) -> (u8, usize, usize),
+{
+    let (ended, last) = lines.split_at(lines.rfind('\n').map_or(0, |lf| lf + 1));
+    buffer.resize(buffer.capacity().max(4096), 0);
+    let len = answer_ended(ended, 0, buffer, &call);
+    if last.is_empty() {
+        return len;
+    }
+    answer_ended(&format!("{last}\n"), len, buffer, &call)
+}
+
+/// The same of lines each ended by an LF, after the first `len` bytes of the buffer.
+fn answer_ended<C>(lines: &str, mut len: usize, buffer: &mut Vec<u8>, call: &C) -> usize
+where
+    C: Fn(&str, &mut [u8]) -> (u8, usize, usize),
+{
+    let mut at = 0;
+    loop {
+        let (status, consumed, detail) = call(&lines[at..], &mut buffer[len..]);
+        (at, len) = (at + consumed, len + detail);
+        match status {
+            IRIKIT_OK => return len,
+            IRIKIT_SHORT => buffer.resize(2 * buffer.len() + lines.len() - at, 0),
+            _ => unreachable!("what stands for all lines is valid: {status}"),
+        }
     }
 }

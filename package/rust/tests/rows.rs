@@ -78,6 +78,37 @@ fn lines_in_one_call_and_in_many() {
         .eq([Ok(&*format!("http://a/b/c/{long}")), Err("invalid path")]));
 }
 
+/// The examples of RFC 3986 section 5.4 on their page and on another by turns; and docs/COMMANDS.md, `pairs`.
+#[test]
+fn pages_and_links() {
+    let lines: String = RESOLVED
+        .iter()
+        .map(|row| format!("http://a/b/c/d;p?q\t{}\r\nhttp://A/\t//h\n", row.0))
+        .collect();
+    let wanted: String = RESOLVED
+        .iter()
+        .map(|row| format!("ok {}\nok http://h\n", row.1))
+        .collect();
+    assert_eq!(Uri.pairs(&lines.repeat(500)), wanted.repeat(500));
+    let rows = [
+        ("", ""),
+        ("\n", "bad line\n"),
+        ("a:", "bad line\n"),
+        ("a:\t\r", "ok a:\n"),
+        ("a:\tb\tc", "bad invalid path\n"),
+        ("a:#\tb\na:\tb", "base unexpected fragment\nok a:b\n"),
+        ("\u{feff}a:\tb", "base invalid scheme\n"),
+    ];
+    for (lines, wanted) in rows {
+        assert_eq!(Uri.pairs(lines), wanted, "{lines:?}");
+    }
+    let long = "x".repeat(1 << 20);
+    assert_eq!(
+        Iri.pairs(&format!("a:/\t{long}")),
+        format!("ok a:/{long}\n")
+    );
+}
+
 /// docs/COMMANDS.md, Input: an LF ends a line, what follows the last LF is one where it has at least a byte, and one CR before the end
 /// of a line isn't part of it.
 #[test]

@@ -6,17 +6,18 @@ ghost use Rattle.iri_cli.specs.inside.Puts.{said_good};
 ghost use Rattle.iri_cli.specs.run.Refused.{bad_line};
 
 use crate::run::answers::AnswerError;
-use iri_text::{Failed, Sink, write_to_slice};
+use crate::run::sink_text::SinkText;
+use iri_text::{Failed, Show, Sink};
 
 /// Puts a number in decimal.
 pub(crate) fn put_number<O: Sink>(sink: &mut O, number: usize) -> Result<(), Failed>
     ensures { let state = sink_state O.written O.faults O.room_left in
         PutsAll (state sink.old) (state sink.new) result (decimal number) }
 {
-    let mut digits = [0u8; 20];
-    match write_to_slice(&mut digits, &number) {
-        Ok(text) => sink.put_all(text.as_bytes()),
-        Err(_) => unreachable!(),
+    let mut to = SinkText::new(sink);
+    match number.show(&mut to) {
+        Ok(()) => Ok(()),
+        Err(_) => Err(Failed),
     }
 }
 

@@ -202,7 +202,12 @@ times-lacks : (n : ℕ) (d : List ℕ) → lacks 37 d ≡ true → lacks 37 (pop
 times-lacks zero d h = h
 times-lacks (suc n) d h = times-lacks n (popped d) (popped-lacks d h)
 
-form-bare : (s : Tests) (normal bare : Bool) (t : List ℕ) → (bare ≡ true → lacks 37 t ≡ true)
+pub lacks-take : (n : ℕ) (t : List ℕ) → lacks 37 t ≡ true → lacks 37 (take n t) ≡ true
+lacks-take zero t h = refl
+lacks-take (suc n) [] h = refl
+lacks-take (suc n) (x ∷ xs) h = let k = both (not (x == 37)) (lacks 37 xs) h in rw k.0 (lacks-take n xs k.1)
+
+pub form-bare : (s : Tests) (normal bare : Bool) (t : List ℕ) → (bare ≡ true → lacks 37 t ≡ true)
     → in_form s (normal && not bare) t ≡ in_form s normal t
 form-bare s false bare t h = refl
 form-bare s true false t h = refl

@@ -4,6 +4,8 @@ use Rattle.iri_register.specs.declared.key.Key.{Key}
 use Rattle.iri_register.specs.declared.lines.Lines.{Lines}
 use Rattle.iri_register.specs.Listed.{is_live}
 use Rattle.iri_register.specs.declared.moves.Moves.{Moves}
+use Rattle.std.specs.declared.hash.DefaultHasher.{DefaultHasher}
+use Rattle.iri_register.specs.inside.Keys.{AreHashed}
 use Rattle.iri_register.specs.inside.Moved.{moved, IsBlocked}
 
 abbrev pub flag : Key × Lines → ℕ
@@ -22,7 +24,8 @@ gaps (e ∷ es) zero = 0
 gaps (e ∷ es) (suc n) = cond (is_live e) 0 1 + gaps es n
 
 -- the moves are those of the entries
-pub record IsKept (es : List (Key × Lines)) (m : Moves) (live : ℕ) : Type 0 where
+pub record IsKept (h : DefaultHasher) (es : List (Key × Lines)) (m : Moves) (live : ℕ) : Type 0 where
+  pub hashed : AreHashed h es
   pub blocked : IsBlocked m
   pub within : length es ≤ length m.slots.items
   pub moves : (k : ℕ) → k < length m.slots.items → moved m k ≡ gaps es k

@@ -18,7 +18,7 @@ pub returns-in-Ok : goal.returns-in-Ok
 returns-in-Ok g c =
     let state = sink_state g.O.Sink.written g.O.Sink.faults g.O.Sink.room_left in
     let s = g.S.Spec.tests in
-    let base = base_text c.args.resolver in
+    let base = base_text c.args.resolver.now in
     let is = ap (answer_in s c.args.mode base) (c.as_bytes.ensures.value ∙ c.in-Ok.ensures.text)
     ∙ short_answer s c.args.mode base (expanded_text s value_in c.args.expanded.now) (within _ _ expansion_limit (c.in-Ok.ensures.exact.1) c.requires.room) in
     record {
@@ -30,7 +30,7 @@ returns-in-Ok g c =
 pub returns-in-Err : goal.returns-in-Err
 returns-in-Err g c =
     let long = (c.in-Err.ensures {u = tt}).exact.0 refl in
-    let is = long_answer g.S.Spec.tests c.args.mode (base_text c.args.resolver) (expanded_text g.S.Spec.tests value_in c.args.expanded.now)
+    let is = long_answer g.S.Spec.tests c.args.mode (base_text c.args.resolver.now) (expanded_text g.S.Spec.tests value_in c.args.expanded.now)
     (omega (arith, long, c.requires.room)) in
     record {
       puts = said_line false _ _ _ _ c.say_good.ensures refl is c.put_all.ensures;

@@ -18,7 +18,7 @@ pub returns-in-Ok : goal.returns-in-Ok
 returns-in-Ok g c =
     let state = sink_state g.O.Sink.written g.O.Sink.faults g.O.Sink.room_left in
     let e = c.in-Ok.ensures in
-    let is = expanded_is g.S.Spec.tests c.args.mode (base_text c.args.resolver) (value_in c.args.values.now) _ c.args.template.now _ e.fault
+    let is = expanded_is g.S.Spec.tests c.args.mode (base_text c.args.resolver.now) (value_in c.args.values.now) _ c.args.template.now _ e.fault
     (ap value_in e.expanded.1) e.expanded.0 in
     record {
       puts = subst (λ t. PutsAnswer is_ok (state c.args.sink.now) (state c.put_expansion.new.sink) false t c.put_expansion.result) is c.put_expansion.ensures.puts;
@@ -28,7 +28,7 @@ returns-in-Ok g c =
 
 pub returns-in-Err : goal.returns-in-Err
 returns-in-Err g c =
-    let is = template_refused g.S.Spec.tests c.args.mode (base_text c.args.resolver) (value_in c.args.values.now) c.args.template.now c.in-Err.error
+    let is = template_refused g.S.Spec.tests c.args.mode (base_text c.args.resolver.now) (value_in c.args.values.now) c.args.template.now c.in-Err.error
     c.in-Err.ensures.fault in
     record {
       puts = said_line false _ _ _ _ c.say_good.ensures refl is c.put_refusal.ensures;

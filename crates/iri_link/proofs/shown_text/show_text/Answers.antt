@@ -3,7 +3,8 @@ use Rattle.iri_text.specs.Shown.{Shows}
 use Rattle.iri_text.proofs.Compose.{shown_none, shown_exit, shown_more, shows_all}
 use Rattle.iri_link.specs.inside.LaxPieces.{lax_left, piece_text, place_past}
 use Rattle.iri_link.specs.inside.Pieces.{stands}
-use Rattle.iri_link.proofs.ShownLemmas.{to_show, left_past, all_shown, written_left}
+use Rattle.iri_link.specs.inside.PlainParams.{params_text}
+use Rattle.iri_link.proofs.ShownLemmas.{to_show, left_later, left_past, all_shown, written_left}
 use Rattle.iri_link.proofs.shown_text.show_text.Goals as goal
 
 pub pieces-init : goal.pieces-init
@@ -27,6 +28,21 @@ returns-in_err-show_piece-in-Some g c =
     (shown_exit g.met.W.TextSink.rules (written_left s mode base (place_past s c.pieces.place x) (lax_left (stands x) rest)) c.from_residual.ensures.0 i.shown
     c.in_err-show_piece-in-Some.ensures.shows)
 
+pub returns-in_err-show_plain-in-Some : goal.returns-in_err-show_plain-in-Some
+returns-in_err-show_plain-in-Some g c =
+    let s = g.S.Spec.tests in
+    let mode = c.args.mode in
+    let base = base_text c.args.resolver.now in
+    let i = c.pieces.invariant in
+    let place = c.show_piece.new.place in
+    let inside = c.is_inside-inside.result in
+    let left = c.cut_plain.result.1.now in
+    subst (λ t. Shows g.W.TextSink.puts g.W.TextSink.halts g.W.TextSink.stops c.args.sink.now t c.show_plain.new.sink c.from_residual-in_err-show_plain-in-Some.result)
+    (sym (left_later s mode base _ i.done c.pieces.place c.pieces.inside c.pieces.rest.now i.same c.in-Some.after.now c.in-Some.piece c.in-Some.ensures
+    place inside c.in_ok-show_piece-in-Some.ensures.place c.is_inside-inside.ensures c.cut_plain.result.0.now left c.cut_plain.ensures))
+    (shown_exit g.met.W.TextSink.rules (written_left s mode base place (lax_left inside left)) c.from_residual-in_err-show_plain-in-Some.ensures.0
+    (shown_more g.met.W.TextSink.rules i.shown c.in_ok-show_piece-in-Some.ensures.shows) c.in_err-show_plain-in-Some.ensures)
+
 pub pieces-preserved : goal.pieces-preserved
 pieces-preserved g c =
     let s = g.S.Spec.tests in
@@ -34,12 +50,13 @@ pieces-preserved g c =
     let base = base_text c.args.resolver.now in
     let i = c.pieces.invariant in
     let x = c.in-Some.piece in
+    let place = c.show_piece.new.place in
     record {
       utf8 = search rules;
-      done = i.done ++ piece_text s mode base c.pieces.place x;
-      shown = shown_more g.met.W.TextSink.rules i.shown c.in_ok-show_piece-in-Some.ensures.shows;
-      same = rw (c.in_ok-show_piece-in-Some.ensures.place, c.is_inside-inside.ensures)
-          (left_past s mode base _ i.done c.pieces.place c.pieces.inside c.pieces.rest.now i.same c.in-Some.after.now x c.in-Some.ensures);
+      done = (i.done ++ piece_text s mode base c.pieces.place x) ++ params_text place c.cut_plain.result.0.now;
+      shown = shown_more g.met.W.TextSink.rules (shown_more g.met.W.TextSink.rules i.shown c.in_ok-show_piece-in-Some.ensures.shows) c.in_ok-show_plain-in-Some.ensures;
+      same = left_later s mode base _ i.done c.pieces.place c.pieces.inside c.pieces.rest.now i.same c.in-Some.after.now x c.in-Some.ensures
+          place c.is_inside-inside.result c.in_ok-show_piece-in-Some.ensures.place c.is_inside-inside.ensures c.cut_plain.result.0.now c.cut_plain.result.1.now c.cut_plain.ensures;
     }
 
 pub returns-in-None : goal.returns-in-None

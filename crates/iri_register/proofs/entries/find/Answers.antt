@@ -3,13 +3,13 @@ use Rattle.iri_register.proofs.SlotLemmas.{at_within, gaps_small, moved_is, plac
 use Rattle.iri_register.proofs.entries.find.Goals as goal
 
 pub slot_of-requires : goal.slot_of-requires
-slot_of-requires c = (c.entries.inside.hasher, c.entries.invariant.1, c.take_hash.ensures.hash)
+slot_of-requires c = (c.entries.inside.hasher, c.entries.invariant.hashed, c.take_hash.ensures.hash)
 
 pub place_of-requires : goal.place_of-requires
 place_of-requires c =
     let es = c.entries.inside.map.entries in
     let w = at_within (string_bytes c.take_hash.new.key.text) es c.in-Some.slot c.in-Some.ensures.here in
-    let k = c.entries.invariant.0 in
+    let k = c.entries.invariant in
     let m = moved_is k c.in-Some.slot w in
     let g = gaps_small es c.in-Some.slot in
     record {
@@ -24,7 +24,7 @@ returns-in-Some c =
     let es = c.entries.inside.map.entries in
     let t = string_bytes c.take_hash.new.key.text in
     let w = at_within t es c.in-Some.slot c.in-Some.ensures.here in
-    let m = moved_is c.entries.invariant.0 c.in-Some.slot w in
+    let m = moved_is c.entries.invariant c.in-Some.slot w in
     let g = gaps_small es c.in-Some.slot in
     let p = place_live t es c.in-Some.slot c.in-Some.ensures.here c.in-Some.ensures.live in
     ap Some (omega (arith, c.place_of.ensures, m, g)) ∙ sym p

@@ -1,6 +1,5 @@
-use Rattle.iri_register.proofs.Common.{◌≡◌, ap, sym, subst, ◌∙◌, filter, length, arith, rules, entries_of, is_live, IsKept, AreHashed}
+use Rattle.iri_register.proofs.Common.{◌≡◌, ap, sym, subst, ◌∙◌, filter, length, arith, rules, entries_of, is_live, IsKept}
 use Rattle.indexmap.proofs.CallerLemmas.{filter-RetainsPairs}
-use Rattle.iri_register.proofs.HashLemmas.{hashed_live}
 use Rattle.iri_register.proofs.SlotLemmas.{live_within, kept_packed, packed_same}
 use Rattle.iri_register.proofs.entries.pack.Goals as goal
 
@@ -19,8 +18,7 @@ returns c =
     let living = c.requires.kept.living in
     let l = ap length f in
     record {
-      kept = subst (λ ds. IsKept ds m c.args.live) (sym f) (kept_packed es m c.args.live living e.blocked (omega (arith, e.room)) e.none);
-      hashed = λ h a. subst (AreHashed h) (sym f) (hashed_live h es a);
+      kept = subst (λ ds. IsKept c.args.hasher.now ds m c.args.live) (sym f) (kept_packed c.args.hasher.now es m c.args.live c.requires.kept.hashed living e.blocked (omega (arith, e.room)) e.none);
       same = ap entries_of f ∙ packed_same es;
       packed = f;
       room = omega (arith, l, living, e.room);

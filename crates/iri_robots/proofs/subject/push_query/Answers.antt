@@ -7,14 +7,13 @@ use Rattle.iri_robots.proofs.subject.push_query.Goals as goal
 pub returns-in_ok-push-in-Some : goal.returns-in_ok-push-in-Some
 returns-in_ok-push-in-Some c =
     let form = string_bytes c.args.form.now in
-    let query = c.as_bytes.result.now in
-    subst (λ z. OnOk c.push_form.result (string_bytes c.push_form.new.form ≡ z))
+    let query = c.in-Some.query.now in
+    subst (λ z. OnOk c.push_part.result (string_bytes c.push_part.new.form ≡ z))
     (ap (λ z. z ++ compared query) (c.in_ok-push-in-Some.ensures.bytes ∙ ap (λ z. form ++ z) (encode_ascii 63 (omega arith)))
     ∙ append_assoc form (63 ∷ []) (compared query)
     ∙ ap (λ z. form ++ z) (sym (query_mark query))
-    ∙ ap (λ z. form ++ compared (63 ∷ z)) c.as_bytes.ensures.value
     ∙ ap (λ o. form ++ compared (query_text (now_of o))) (sym c.in-Some.is))
-    c.push_form.ensures
+    c.push_part.ensures
 
 pub returns-in-None : goal.returns-in-None
 returns-in-None c =

@@ -1,24 +1,17 @@
-use Rattle.iri_robots.proofs.Common.{◌≡◌, ◌↔◌, ℕ, Bool, true, List, refl, subst, record_texts, IsAllowed}
-use Rattle.iri_robots.specs.declared.record.Record.{Record}
-use Rattle.iri_robots.specs.Records.{rules_for}
+use Rattle.iri_robots.proofs.Common.{refl, string_bytes, rules_in_groups}
+use Rattle.iri_robots.proofs.GroupLemmas.{decided_read}
 use Rattle.iri_robots.proofs.robots.Robots.verdict.Goals as goal
 
-same_texts : (b : Bool) (t t' : List ℕ) (l l' : List Record) (s s' : List ℕ) → t ≡ t' → l ≡ l' → s ≡ s'
-    → (b ≡ true) ↔ IsAllowed (rules_for t (record_texts l)) s → (b ≡ true) ↔ IsAllowed (rules_for t' (record_texts l')) s'
-same_texts b t t' l l' s s' e d f h =
-    let P : List ℕ → Type 0 = λ x. (b ≡ true) ↔ IsAllowed (rules_for x (record_texts l')) s' in
-    let Q : List Record → Type 0 = λ x. (b ≡ true) ↔ IsAllowed (rules_for t (record_texts x)) s' in
-    let R : List ℕ → Type 0 = λ x. (b ≡ true) ↔ IsAllowed (rules_for t (record_texts l)) x in
-    subst P e (subst Q d (subst R f h))
+pub returns-then-decides : goal.returns-then-decides
+returns-then-decides c =
+    let self = c.args.self.now in
+    let h = decided_read (string_bytes self.token) self.records.items _ self.reading _ _ c.decides.result self.read c.as_slice.ensures.value
+    c.as_bytes-text.ensures.value (c.decides.ensures (rules_in_groups self.reading.named c.as_slice.result.now) c.best_of-best.ensures) in
+    (λ _. h.0 c.if-decides.true, λ _. refl)
 
-pub returns-then-is_allowed : goal.returns-then-is_allowed
-returns-then-is_allowed c =
-    let h = same_texts c.is_allowed.result _ _ _ _ _ _ c.as_str.ensures.value c.as_slice.ensures.value c.as_bytes.ensures.value
-    c.is_allowed.ensures in
-    (λ _. h.0 c.if-is_allowed.true, λ _. refl)
-
-pub returns-else-is_allowed : goal.returns-else-is_allowed
-returns-else-is_allowed c =
-    let h = same_texts c.is_allowed.result _ _ _ _ _ _ c.as_str.ensures.value c.as_slice.ensures.value c.as_bytes.ensures.value
-    c.is_allowed.ensures in
-    (λ e. cc, λ a. let k = h.1 a in let m = c.if-is_allowed.false in cc)
+pub returns-else-decides : goal.returns-else-decides
+returns-else-decides c =
+    let self = c.args.self.now in
+    let h = decided_read (string_bytes self.token) self.records.items _ self.reading _ _ c.decides.result self.read c.as_slice.ensures.value
+    c.as_bytes-text.ensures.value (c.decides.ensures (rules_in_groups self.reading.named c.as_slice.result.now) c.best_of-best.ensures) in
+    (λ e. cc, λ a. let k = h.1 a in let m = c.if-decides.false in cc)

@@ -1,4 +1,4 @@
-use Rattle.iri_template.proofs.Common.{true, false, sym, subst, chars, refl, Reads}
+use Rattle.iri_template.proofs.Common.{sym, subst, chars, refl, Reads}
 use Rattle.iri_template.proofs.Reading.{value_put, reads_chars}
 use Rattle.iri_template.specs.inside.Reads.{value_rest}
 use Rattle.iri_template.specs.declared.encoded_value.Reading.{Reading}
