@@ -45,6 +45,8 @@ const PARTS = ["scheme", "authority", "path", "query", "fragment", "userinfo", "
 // The offset of a part that doesn't stand has ones alone; its lower half does for a memory below 4 GiB.
 const NOWHERE = 2 ** 32 - 1;
 const PAGE = 65536, WORDS = 2 + 4 * PARTS.length, LF = 10;
+// How many references of a list go into one call.
+const AT_ONCE = 128;
 
 const encoder = new TextEncoder(), decoder = new TextDecoder("utf-8", { ignoreBOM: true });
 
@@ -265,23 +267,10 @@ class Kit {
   canonicalMany(base, references, grammar = "uri", mode = "normal") {
     if (typeof references === "string") throw new TypeError("a string is no list of references");
     this.canonical(base, "", grammar, mode);
-    const answers = [];
-    let lines = [], units = 0;
-    const answerLines = () => {
-      answers.push(...this.#answers(base, lines, grammar, mode));
-      [lines, units] = [[], 0];
-    };
-    for (const reference of references) {
-      const isLine = typeof reference === "string" && !/[\r\n]/.test(reference);
-      if (!isLine || 3 * (units + reference.length + 1) > Math.min(this.#textRoom, PAGE)) answerLines();
-      if (!isLine) {
-        answers.push(this.#answer(base, reference, grammar, mode));
-        continue;
-      }
-      lines.push(reference);
-      units += reference.length + 1;
+    const all = [...references], answers = [];
+    for (let at = 0; at < all.length; at += AT_ONCE) {
+      answers.push(...this.#answers(base, all.slice(at, at + AT_ONCE), grammar, mode));
     }
-    answerLines();
     return answers;
   }
 
@@ -295,16 +284,18 @@ class Kit {
     }
   }
 
-  // That of each of some lines, in one call where there is memory for it.
-  #answers(base, lines, grammar, mode) {
-    if (lines.length < 2) return lines.map((line) => this.#answer(base, line, grammar, mode));
-    try {
-      const answers = linesOf(this.canonicalLines(base, `${lines.join("\n")}\n`, grammar, mode));
-      return answers.map((answer) => (answer.startsWith("ok ") ? answer.slice(3) : null));
-    } catch (error) {
-      if (!(error instanceof RangeError)) throw error;
-      return lines.map((line) => this.#answer(base, line, grammar, mode));
+  // That of each of some references: in one call, where each is a line, and there is memory for all.
+  #answers(base, references, grammar, mode) {
+    const lines = references.every((reference) => typeof reference === "string") ? `${references.join("\n")}\n` : "\r";
+    if (!lines.includes("\r") && lines.length <= PAGE) {
+      try {
+        const answers = linesOf(this.canonicalLines(base, lines, grammar, mode));
+        if (answers.length === references.length) return answers.map((answer) => (answer.startsWith("ok ") ? answer.slice(3) : null));
+      } catch (error) {
+        if (!(error instanceof RangeError)) throw error;
+      }
     }
+    return references.map((reference) => this.#answer(base, reference, grammar, mode));
   }
 
   canonicalLines(base, lines, grammar = "uri", mode = "normal") {

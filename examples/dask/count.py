@@ -6,22 +6,21 @@ A line of the files is a pair: the address of a page, a tab, and a link that sta
   counts          a line for each canonical text, in the order of their bytes: the text, a tab, and how many pairs have it
 Workers need the files and OUT at the same paths, and the library that ./install builds, where IRIKIT_LIBRARY says.
 """
-import heapq
 import os
 import pathlib
 import shutil
+import subprocess
 import sys
 import tempfile
 import uuid
 import zlib
-from itertools import groupby
-from operator import itemgetter
+from collections import Counter
 
 from dask import delayed
 from distributed import Client
 from fsspec.utils import read_block
 
-SHARES = 16  # of the texts, each counted by itself
+SHARES = 8  # of the texts, each counted by itself
 
 
 def put(path, text):
@@ -31,27 +30,24 @@ def put(path, text):
     new.replace(path)
 
 
-def summed(counts):
-    """Of texts in order, each with a count, each once with the sum of its counts."""
-    return [(text, sum(count for _, count in run)) for text, run in groupby(counts, itemgetter(0))]
-
-
 def answer_part(file, start, size, grammar, path):
-    """Writes the answers to the lines of a part, and gives its counts of texts in order, share by share."""
+    """Writes the answers to the lines of a part, and gives how often it has each text, share by share."""
     import irikit
     with open(file, "rb") as opened:
-        answers, status = irikit.run(f"pairs {grammar}", read_block(opened, start, size, b"\n"))
-    if status > 1:
-        raise ValueError(f"{file}: status {status} in the part at {start}")
+        answers = irikit.pairs(read_block(opened, start, size, b"\n"), irikit.Grammar[grammar.upper()])
     put(path, answers)
-    counts = [[] for _ in range(SHARES)]
-    for text, count in summed((answer[3:], 1) for answer in sorted(answers.split(b"\n")) if answer.startswith(b"ok ")):
-        counts[zlib.crc32(text) % SHARES].append((text, count))
+    counts = [{} for _ in range(SHARES)]
+    for answer, count in Counter(answers.split(b"\n")).items():
+        if answer.startswith(b"ok "):
+            counts[zlib.crc32(answer) % SHARES][answer[3:]] = count
     return counts
 
 
 def merge_share(counts, path):
-    put(path, b"".join(b"%s\t%d\n" % each for each in summed(heapq.merge(*counts))))
+    whole = Counter()
+    for part in counts:
+        whole.update(part)
+    put(path, b"".join(b"%s\t%d\n" % (text, whole[text]) for text in sorted(whole)))
 
 
 def main(scheduler, grammar, size, out, *files):
@@ -65,8 +61,7 @@ def main(scheduler, grammar, size, out, *files):
         with tempfile.TemporaryDirectory() as folder:
             client.upload_file(shutil.make_archive(f"{folder}/irikit", "zip", top / "package/python", "irikit"))
         client.compute([delayed(merge_share)([part[share] for part in parts], path) for share, path in enumerate(merged)], sync=True)
-    with open(out / "counts", "wb") as counts:
-        counts.writelines(heapq.merge(*[open(path, "rb") for path in merged]))
+    subprocess.run(["sort", "-m", "-o", out / "counts", *merged], env={**os.environ, "LC_ALL": "C"}, check=True)
     for left in [*merged, *out.glob("**/.*")]:  # those with a dot by workers that were lost
         left.unlink()
 

@@ -110,6 +110,12 @@ test("many references, each by itself", () => {
   assert.deepEqual(kit.canonicalMany("http://a/b", []), []);
   assert.deepEqual(kit.canonicalMany("http://a/b", ["c\r", "c\n", "c\nd", "c\r\n", "\n", "", "e"]), [
     null, null, null, null, null, "http://a/b", "http://a/e"]);
+  for (const at of [0, 127, 128, 299]) {
+    for (const odd of ["c\n", "c\r", "\r\nc", "%", "\ud800", "c".repeat(70000)]) {
+      const some = Array.from({ length: 300 }, (_, i) => (i === at ? odd : "c"));
+      assert.deepEqual(kit.canonicalMany("http://a/b", some), some.map((one) => (/^c+$/.test(one) && !one.endsWith("\n") ? `http://a/${one}` : null)));
+    }
+  }
   const many = Array.from({ length: 20000 }, (_, i) => (i % 7 ? `${i}/../${"\u00e9".repeat(i % 50)}` : `${i} `));
   const wanted = many.map((reference, i) => (i % 7 ? `http://a/${"\u00e9".repeat(i % 50)}` : null));
   assert.deepEqual(kit.canonicalMany("http://a/b", many, "iri"), wanted);
