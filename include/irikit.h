@@ -297,6 +297,19 @@ uint8_t irikit_decode(const char *text, size_t len, char *out, size_t size, size
 uint8_t irikit_canonical(uint32_t grammar, uint32_t mode, const char *base, size_t base_len, const char *reference,
                          size_t reference_len, char *out, size_t size, size_t *detail);
 
+/* The canonical text of a reference of IRIs, mapped to a URI (RFC 3987 section 3.1): each character past ASCII becomes the
+ * percent-encoded octets of its UTF-8. It is what irikit_canonical by IRIKIT_IRI gives, mapped, and so the canonical text by IRIKIT_URI of
+ * base and reference, both mapped. A host past ASCII becomes percent-encoded octets too, and not Punycode (IDNA): a client that looks it up
+ * in the DNS makes Punycode of it.
+ *
+ * Takes: the number of a mode; the base, an absolute-URI of IRIs; the reference; a buffer.
+ * Writes: the URI to `out`. It has at most 3 * (base_len + reference_len + 3) bytes.
+ * Returns: as irikit_canonical; IRIKIT_UNKNOWN: mode.
+ *
+ *   irikit_canonical_to_uri(IRIKIT_NORMAL, "http://a/", 9, "\xC3\xA9", 2, out, sizeof out, &detail);  // "http://a/%C3%A9" */
+uint8_t irikit_canonical_to_uri(uint32_t mode, const char *base, size_t base_len, const char *reference, size_t reference_len,
+                                char *out, size_t size, size_t *detail);
+
 /* A reference resolved against a base (RFC 3986 section 5.2), not in normal form.
  *
  * Takes: the number of a grammar; the base, an absolute-URI of the grammar; the reference, which may be a URI; a buffer.
