@@ -31,7 +31,7 @@ use Rattle.iri_calls.specs.Bounds.{HasAtMost}
 use Rattle.iri_calls.specs.Encodings.{place_numbered}
 use Rattle.iri_calls.specs.Outcomes.{where_known, against_base}
 use Rattle.iri_calls.specs.Lines.{pair_answer}
-use Rattle.iri_calls.specs.Pairs.{answer_on, pairs_answer, tab, unless_page}
+use Rattle.iri_normal.specs.Pairs.{answer_on, pairs_answer, tab, unless_page}
 use Rattle.iri_calls.specs.Resolutions.{resolved, target_text}
 use Rattle.iri_calls.specs.declared.grammar.TheConstants.{URI, IRI}
 

@@ -5,7 +5,6 @@ pub mod Edits
 pub mod Encodings
 pub mod Examples
 pub mod Lines
-pub mod Pairs
 pub mod Names
 pub mod Numbers
 pub mod Outcome

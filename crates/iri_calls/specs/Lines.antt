@@ -11,7 +11,7 @@ use Rattle.iri_normal.specs.Resolver.{base_text}
 use Rattle.iri_normal.specs.declared.resolver.FixedBaseResolver.{FixedBaseResolver}
 use Rattle.iri_calls.specs.Buffers.{over}
 use Rattle.iri_calls.specs.Numbers.{grammar_of, mode_numbered}
-use Rattle.iri_calls.specs.Pairs.{pairs_answer}
+use Rattle.iri_normal.specs.Pairs.{pairs_answer}
 use Rattle.iri_calls.specs.declared.answering.Bases.{Bases}
 use Rattle.iri_calls.specs.declared.answering.Bases.TheVariants.{One, Pages}
 use Rattle.iri_calls.specs.declared.status.TheConstants.{OK, SHORT, BAD_BASE, UNKNOWN}

@@ -7,7 +7,7 @@ ghost use Rattle.iri_text.specs.Shown.{Shows};
 ghost use Rattle.iri_normal.specs.Answers.{answer_in};
 ghost use Rattle.iri_normal.specs.Resolver.{base_text};
 ghost use Rattle.iri_calls.specs.Lines.{answer_against};
-ghost use Rattle.iri_calls.specs.Pairs.{answer_on, pairs_answer};
+ghost use Rattle.iri_normal.specs.Pairs.{answer_on, pairs_answer};
 ghost use Rattle.iri_calls.specs.inside.BufferText.{BufferHalts, BufferPuts};
 
 use crate::buffer::BufferSink;

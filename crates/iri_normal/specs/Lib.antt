@@ -5,6 +5,7 @@ pub mod Slices
 pub mod DotRemoval
 pub mod NormalForm
 pub mod Answers
+pub mod Pairs
 pub mod Prefix
 pub mod Normalized
 pub mod NormalizedText

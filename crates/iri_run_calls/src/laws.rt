@@ -2,7 +2,7 @@
 ghost use Rattle.std.specs.Prelude.{◌≡◌, ℕ, List};
 ghost use Rattle.iri_grammar.specs.Classes.{Tests};
 ghost use Rattle.iri_percent.specs.declared.canon_mode.CanonMode.{CanonMode};
-ghost use Rattle.iri_calls.specs.Pairs.{pairs_answer};
+ghost use Rattle.iri_normal.specs.Pairs.{pairs_answer};
 ghost use Rattle.iri_cli.specs.pairs.Rules.{pairs_rules};
 
 /// What `irikit_canonical_pairs` of `iri_calls` answers to a line is what the command `pairs` answers, whatever lines stand before it.

@@ -2,7 +2,7 @@ use Rattle.iri_calls.proofs.Common.{◌≡◌, ◌+◌, ◌-◌, ◌∙◌, ℕ,
 use Rattle.iri_grammar.specs.Cut.{after}
 use Rattle.iri_percent.specs.declared.canon_mode.CanonMode.{CanonMode}
 use Rattle.iri_text.specs.Shown.{Shows}
-use Rattle.iri_calls.specs.Pairs.{answer_on, pairs_answer, tab}
+use Rattle.iri_normal.specs.Pairs.{answer_on, pairs_answer, tab}
 use Rattle.iri_calls.specs.declared.buffer.BufferSink.{BufferSink}
 use Rattle.iri_calls.specs.inside.BufferText.{BufferHalts, BufferPuts}
 use Rattle.iri_calls.proofs.answering.put_pair.Goals as goal

@@ -8,7 +8,7 @@ use Rattle.iri_grammar.specs.declared.error.ErrorKind.{ErrorKind}
 use Rattle.iri_percent.specs.declared.canon_mode.CanonMode.{CanonMode}
 use Rattle.iri_normal.specs.Answers.{answer_in}
 use Rattle.std.specs.Prelude.{option_map}
-use Rattle.iri_calls.specs.Pairs.{answer_on, pairs_answer, tab, unless_page}
+use Rattle.iri_normal.specs.Pairs.{answer_on, pairs_answer, tab, unless_page}
 use Rattle.iri_cli.specs.canon.Answers.{refusal}
 use Rattle.iri_cli.specs.pairs.Answers.{answer_on as program_on, pairs_answer as program_answer, unless_page as unless_base}
 use Rattle.iri_run_calls.proofs.laws.pairs_are_those_of_the_program.Goals as goal
