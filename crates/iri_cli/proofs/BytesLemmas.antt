@@ -22,6 +22,10 @@ pub no_fault_taken : (s : Tests) (bs : List ℕ) → bytes_fault (absolute_fault
 unfolding refusal
 no_fault_taken s bs none = ap (option_map description) none
 
+pub taken_no_fault : (s : Tests) (bs : List ℕ) → refusal s bs ≡ None → bytes_fault (absolute_fault s) bs ≡ None
+unfolding refusal
+taken_no_fault s bs taken = refused_none (bytes_fault (absolute_fault s) bs) taken
+
 pub fault_refused : (s : Tests) (bs : List ℕ) (kind : ErrorKind) → bytes_fault (absolute_fault s) bs ≡ Some kind
     → refusal s bs ≡ Some (description kind)
 unfolding refusal
@@ -29,8 +33,7 @@ fault_refused s bs kind some = ap (option_map description) some
 
 -- a base that is taken is an absolute URI of the spec
 pub base_absolute : (s : Tests) → IsSpec s → (bs : List ℕ) → refusal s bs ≡ None → IsAbsolute s bs
-unfolding refusal
-base_absolute s l bs h = (absolute-law s l bs).0 (fault_none (absolute_fault s) bs (refused_none (bytes_fault (absolute_fault s) bs) h))
+base_absolute s l bs h = (absolute-law s l bs).0 (fault_none (absolute_fault s) bs (taken_no_fault s bs h))
 
 -- a base without a fault in the grammar of URIs is taken
 pub taken_of_uris : (s : Tests) → IsSpec s → (base : List ℕ) → absolute_fault uri_tests base ≡ None → refusal s base ≡ None

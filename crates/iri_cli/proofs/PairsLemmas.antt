@@ -1,19 +1,18 @@
 -- The answers of `pairs`.
 use Rattle.iri_cli.proofs.Common.{◌≡◌, ◌≢◌, ◌∙◌, ℕ, ◌+◌, Bool, false, List, [], ◌∷◌, ◌++◌, length, Option, Some, None, Result, Err, refl, sym, ap, subst}
-use Rattle.iri_cli.proofs.Common.{arith, length-append, Tests, IsSpec, absolute_fault, before, CanonMode, refusal, answer_in, KeepsRoom, SinkState}
+use Rattle.iri_cli.proofs.Common.{arith, length-append, Tests, IsSpec, ErrorKind, absolute_fault, bytes_fault, before, CanonMode, refusal, answer_in, KeepsRoom, SinkState}
 use Rattle.iri_cli.proofs.Common.{Answering, AnswersLine, PutsAnswer, is_ok, Rules, AnswerError, SinkFailed}
 use Rattle.iri_grammar.specs.Classes.{uri_tests}
 use Rattle.iri_grammar.specs.Cut.{after, delimited}
+use Rattle.iri_grammar.specs.ErrorTexts.{description}
 use Rattle.iri_grammar.proofs.faults.Scans.{before-lacks}
 use Rattle.iri_grammar.proofs.splits.CutLaws.{joined}
 use Rattle.iri_template.proofs.Prefixes.{no_delimiter}
+use Rattle.iri_normal.specs.Pairs.{answer_on, bad_line, pairs_answer, tab, unless_page}
 use Rattle.iri_docs.specs.OnLiterals.{on_literals}
-use Rattle.iri_cli.specs.pairs.Answers.{answer_on, pairs_answer, tab, unless_page}
 use Rattle.iri_cli.specs.pairs.OfCanon.{AnswersAreOfCanon, IsPair, IsPairAnswer, no_pair, bad_page, on_page}
 use Rattle.iri_cli.specs.pairs.Rules.{no_page, pairs_rules}
-use Rattle.iri_cli.specs.run.Ending.{base_line}
-use Rattle.iri_cli.specs.run.Refused.{bad_line}
-use Rattle.iri_cli.proofs.BytesLemmas.{canonical_answers, taken_of_uris}
+use Rattle.iri_cli.proofs.BytesLemmas.{canonical_answers, fault_refused, no_fault_taken, taken_of_uris}
 use Rattle.iri_cli.proofs.CanonLemmas.{on_ok, puts_answer}
 use Rattle.iri_cli.proofs.PutLemmas.{room_text}
 
@@ -44,22 +43,24 @@ module _ (s : Tests) (m : CanonMode) where
   unfolding pairs_answer
   answer_of_none line none = ap (answer_on s m (before tab line)) (sym none)
 
-  pub on_taken : (page link : List ℕ) → refusal s page ≡ None → answer_in s m page link ≡ answer_on s m page (Some link)
-  on_taken page link taken = ap (λ (r : Option (List ℕ)). unless_page r (answer_in s m page link)) (sym taken)
-
-  pub on_refused : (page link words : List ℕ) → refusal s page ≡ Some words → base_line words ≡ answer_on s m page (Some link)
-  on_refused page link words is = ap (λ (r : Option (List ℕ)). unless_page r (answer_in s m page link)) (sym is)
+  -- the answer by the first fault of the page
+  pub on_fault : (page link : List ℕ) (fault : Option ErrorKind) → bytes_fault (absolute_fault s) page ≡ fault
+      → unless_page fault (answer_in s m page link) ≡ answer_on s m page (Some link)
+  on_fault page link fault is = ap (λ (o : Option ErrorKind). unless_page o (answer_in s m page link)) (sym is)
 
   -- ---- what is said of each line
-  by_page : (line page link : List ℕ) → IsSpec s → IsPair line page link → (r : Option (List ℕ)) → refusal s page ≡ r
-      → IsPairAnswer s m line (unless_page r (answer_in s m page link))
-  by_page line page link k pair None is = on_page page link pair is (canonical_answers s m k page link is)
-  by_page line page link k pair (Some words) is = bad_page page link words pair is
+  by_page : (line page link : List ℕ) → IsSpec s → IsPair line page link → (fault : Option ErrorKind) → bytes_fault (absolute_fault s) page ≡ fault
+      → IsPairAnswer s m line (unless_page fault (answer_in s m page link))
+  by_page line page link k pair None is =
+      let taken = no_fault_taken s page is in
+      on_page page link pair taken (canonical_answers s m k page link taken)
+  by_page line page link k pair (Some kind) is = bad_page page link (description kind) pair (fault_refused s page kind is)
 
   by_link : (line : List ℕ) → IsSpec s → (l : Option (List ℕ)) → after tab line ≡ l → IsPairAnswer s m line (answer_on s m (before tab line) l)
   by_link line k None is = no_pair (no_delimiter tab line is)
   by_link line k (Some link) is =
-      by_page line (before tab line) link k (record { split = cut_line line link is; no_tab = before-lacks tab line }) (refusal s (before tab line)) refl
+      let page = before tab line in
+      by_page line page link k (record { split = cut_line line link is; no_tab = before-lacks tab line }) (bytes_fault (absolute_fault s) page) refl
 
   pub answers_are_of_canon : IsSpec s → AnswersAreOfCanon s m
   unfolding pairs_answer

@@ -1,5 +1,4 @@
 -- The command `pairs`.
-pub mod Answers
 pub mod Rules
 pub mod OfCanon
 pub mod Examples

@@ -1,14 +1,16 @@
 // The answers of `pairs`.
 ghost use Rattle.std.specs.Prelude.{◌≡◌, ◌≢◌, ◌≤◌, ◌+◌, [], Err, IfOk, None, Some, false, length, string_bytes, string_capacity, true};
 ghost use Rattle.std.specs.Vec.{vec_capacity};
+ghost use Rattle.iri_grammar.specs.Fault.{bytes_fault};
+ghost use Rattle.iri_grammar.specs.WholeFault.{absolute_fault};
 ghost use Rattle.iri_text.specs.Sink.{KeepsRoom, sink_state};
 ghost use Rattle.iri_types.specs.Texts.{text};
+ghost use Rattle.iri_normal.specs.Pairs.{answer_on};
 ghost use Rattle.iri_cli.specs.canon.Answers.{refusal};
 ghost use Rattle.iri_cli.specs.canon.Rules.{is_ok};
 ghost use Rattle.iri_cli.specs.declared.run.answers.AnswerError.TheVariants.{SinkFailed};
 ghost use Rattle.iri_cli.specs.inside.Answering.{PutsAnswer};
 ghost use Rattle.iri_cli.specs.inside.PairsAt.{HoldsNone, HoldsPage};
-ghost use Rattle.iri_cli.specs.pairs.Answers.{answer_on};
 ghost use Rattle.iri_cli.specs.pairs.Rules.{pairs_rules};
 ghost use Rattle.iri_cli.specs.run.Limits.{answer_room, longest_line};
 ghost use Rattle.iri_cli.specs.run.Run.{RunsLines, outside_state};
@@ -73,7 +75,8 @@ fn hold(held: &mut String, page: &str)
 // The base that a page is, once that was found.
 fn base_of_page<S: Spec>(page: &str) -> RiAbsoluteStr<'_, S>
     requires { refusal S.tests page.now ≡ None }
-    ensures { text result ≡ page.now }
+    ensures text { text result ≡ page.now }
+    ensures fault { bytes_fault (absolute_fault S.tests) page.now ≡ None }
 {
     RiAbsoluteStr::from_valid(page)
 }

@@ -15,7 +15,6 @@ ghost use Rattle.iri_text.specs.SliceText.{over_start};
 ghost use Rattle.iri_grammar.specs.Blanks.{space};
 ghost use Rattle.iri_run_calls.specs.Runs.{RanOrMemory, RunAnswered, TakesMemory};
 
-pub mod laws;
 mod words;
 
 use crate::words::command_in;

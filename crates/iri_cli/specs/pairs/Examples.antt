@@ -2,9 +2,9 @@
 use Rattle.std.specs.Prelude.{◌≡◌, [], ◌∷◌, codes, refl}
 use Rattle.iri_grammar.specs.Classes.{uri_tests}
 use Rattle.iri_percent.specs.declared.canon_mode.CanonMode.TheVariants.{Default, Scheme}
+use Rattle.iri_normal.specs.Pairs.{pairs_answer}
 use Rattle.iri_docs.specs.OnLiterals.{on_literals}
 use Rattle.iri_cli.specs.canon.Answers.{refusal}
-use Rattle.iri_cli.specs.pairs.Answers.{pairs_answer}
 use Rattle.iri_cli.specs.pairs.Rules.{pairs_rules}
 use Rattle.iri_cli.specs.run.Ending.{answers, ending}
 use Rattle.iri_cli.specs.run.Words.{IsCommand}
@@ -21,12 +21,12 @@ pub answers_to_some_lines : answers (pairs_rules uri_tests Default) (codes "a:")
     ∷ codes "http://a/b" ∷ [])
     ≡ codes "ok http://a/b/c/g\n" ∷ codes "ok http://a/g\n" ∷ codes "ok http://h/g\n" ∷ codes "bad invalid path\n"
     ∷ codes "base expected an absolute IRI but got a relative IRI\n" ∷ codes "bad line\n" ∷ []
-unfolding on_literals pairs_answer refusal
+unfolding on_literals pairs_answer
 answers_to_some_lines = refl
 
 -- by scheme rules
 pub answers_by_scheme : answers (pairs_rules uri_tests Scheme) (codes "a:") (codes "http://h:80\t//i" ∷ []) ≡ codes "ok http://i/\n" ∷ []
-unfolding on_literals pairs_answer refusal
+unfolding on_literals pairs_answer
 answers_by_scheme = refl
 
 -- the first line is answered too, and a page that is refused doesn't end the run

@@ -5,12 +5,11 @@ use Rattle.iri_grammar.specs.Cut.{lacks}
 use Rattle.iri_grammar.specs.Fault.{bytes_fault}
 use Rattle.iri_grammar.specs.WholeFault.{reference_fault}
 use Rattle.iri_percent.specs.declared.canon_mode.CanonMode.{CanonMode}
+use Rattle.iri_normal.specs.Pairs.{bad_line, pairs_answer, tab}
 use Rattle.iri_cli.specs.canon.Answers.{IsCanonical, refusal}
 use Rattle.iri_cli.specs.canon.Rules.{canon_rules_in}
-use Rattle.iri_cli.specs.pairs.Answers.{pairs_answer, tab}
 use Rattle.iri_cli.specs.pairs.Rules.{pairs_rules, no_page}
 use Rattle.iri_cli.specs.run.Ending.{base_line}
-use Rattle.iri_cli.specs.run.Refused.{bad_line}
 
 -- a line is this page, a tab, and this link; a page has no tab, and a link may have some
 pub record IsPair (line page link : List ℕ) : Type 0 where

@@ -2,8 +2,8 @@
 use Rattle.std.specs.Prelude.{ℕ, codes, List, Some}
 use Rattle.iri_grammar.specs.Classes.{Tests}
 use Rattle.iri_percent.specs.declared.canon_mode.CanonMode.{CanonMode}
+use Rattle.iri_normal.specs.Pairs.{pairs_answer}
 use Rattle.iri_cli.specs.canon.Rules.{canon_rules_in}
-use Rattle.iri_cli.specs.pairs.Answers.{pairs_answer}
 use Rattle.iri_cli.specs.run.Ending.{Rules}
 
 -- the base that stands before all lines, which no answer reads

@@ -1,13 +1,10 @@
 -- Answers of tools that are refused.
-use Rattle.std.specs.Prelude.{ℕ, Bool, not, nat_eq, codes, List, [], ◌∷◌, ◌++◌, Option, None, Some}
+use Rattle.std.specs.Prelude.{ℕ, Bool, not, nat_eq, codes, List, Option, None, Some}
 use Rattle.std.specs.List.{starts_with}
 use Rattle.iri_grammar.specs.declared.error.ErrorKind.{ErrorKind}
-use Rattle.iri_text.specs.LineEnds.{line_feed}
 use Rattle.iri_normal.specs.Answers.{bad_answer}
-
--- the answer to a line that asks nothing
-abbrev pub bad_line : List ℕ
-bad_line = codes "bad line" ++ line_feed ∷ []
+-- `bad_line`, the answer to a line that asks nothing
+pub use Rattle.iri_normal.specs.Pairs.{bad_line}
 
 -- the answer to a reference, by its first fault: this one where it has none
 abbrev pub unless_bad : Option ErrorKind → List ℕ → List ℕ

@@ -1,9 +1,9 @@
 // A line that is a page and a link.
 ghost use Rattle.std.specs.Prelude.{◌≡◌, None, Some, MatchOption};
-ghost use Rattle.iri_grammar.specs.Cut.{CutAt, NoCut, after, before};
-ghost use Rattle.iri_cli.specs.pairs.Answers.{tab};
+ghost use Rattle.iri_grammar.specs.Cut.{after, before};
+ghost use Rattle.iri_normal.specs.Pairs.{tab};
 
-use memchr::memchr;
+use iri_grammar::cutting::find_byte;
 
 // A page, and a link on it.
 #[derive(Clone, Copy)]
@@ -12,19 +12,12 @@ pub(crate) struct Pair<'a> {
     pub(crate) link: &'a [u8],
 }
 
-// Where the first tab is, in bytes; none exactly where there is none.
-fn find_tab(line: &[u8]) -> Option<usize>
-    ensures { MatchOption result (NoCut tab line.now) (λ k. CutAt tab line.now k) }
-{
-    memchr(b'\t', line)
-}
-
 /// What stands before the first tab of a line, and what after it; none exactly where there is no tab.
 pub(crate) fn pair_of(line: &[u8]) -> Option<Pair<'_>>
     ensures { MatchOption result (after tab line.now ≡ None)
         (λ p. (p.page.now ≡ before tab line.now) × (after tab line.now ≡ Some p.link.now)) }
 {
-    match find_tab(line) {
+    match find_byte(line, b'\t') {
         Some(i) => Some(Pair {
             page: &line[..i],
             link: &line[i + 1..],

@@ -1,7 +1,7 @@
-use Rattle.iri_cli.proofs.Common.{◌∙◌, ◌∷◌, [], ◌++◌, Some, answer_in, ap, arith, codes, false, is_ok, refl, refusal, sink_state, subst, sym, PutsAnswer}
-use Rattle.iri_cli.proofs.BytesLemmas.{fault_refused, no_fault_taken}
+use Rattle.iri_cli.proofs.Common.{◌∙◌, ◌∷◌, [], ◌++◌, None, Some, answer_in, ap, arith, codes, false, is_ok, refl, refusal, sink_state, subst, sym, PutsAnswer}
+use Rattle.iri_cli.proofs.BytesLemmas.{no_fault_taken}
 use Rattle.iri_cli.proofs.CanonLemmas.{said_line, said_room}
-use Rattle.iri_cli.proofs.PairsLemmas.{on_refused, on_taken}
+use Rattle.iri_cli.proofs.PairsLemmas.{on_fault}
 use Rattle.iri_cli.proofs.PutLemmas.{puts_so, room_text}
 use Rattle.iri_cli.proofs.pairs.put_pair.Goals as goal
 
@@ -17,7 +17,7 @@ returns-in-Ok-clause-puts g c =
     let page = c.args.pair.page.now in
     let link = c.args.pair.link.now in
     let is = ap (λ t. answer_in s m t link) (c.of_split-resolver.ensures ∙ c.in-Ok.ensures.text)
-    ∙ on_taken s m page link (no_fault_taken s page c.in-Ok.ensures.fault) in
+    ∙ on_fault s m page link None c.in-Ok.ensures.fault in
     let state = sink_state g.O.Sink.written g.O.Sink.faults g.O.Sink.room_left in
     subst (λ t. PutsAnswer is_ok (state c.args.sink.now) (state c.put_answer-in-Ok.new.sink) false t c.put_answer-in-Ok.result) is
     c.put_answer-in-Ok.ensures.puts
@@ -29,7 +29,7 @@ returns-in-Ok-clause-room g c =
     let page = c.args.pair.page.now in
     let link = c.args.pair.link.now in
     let is = ap (λ t. answer_in s m t link) (c.of_split-resolver.ensures ∙ c.in-Ok.ensures.text)
-    ∙ on_taken s m page link (no_fault_taken s page c.in-Ok.ensures.fault) in
+    ∙ on_fault s m page link None c.in-Ok.ensures.fault in
     room_text is c.put_answer-in-Ok.ensures.room
 
 pub returns-in-Ok-clause-holds : goal.returns-in-Ok-clause-holds
@@ -46,7 +46,7 @@ returns-in-Err-clause-puts g c =
     let s = g.S.Spec.tests in
     let page = c.args.pair.page.now in
     let fault = c.in-Err.ensures.fault ∙ ap Some (sym c.kind.ensures) in
-    let is = on_refused s c.args.pairs.now.mode page c.args.pair.link.now _ (fault_refused s page _ fault) in
+    let is = on_fault s c.args.pairs.now.mode page c.args.pair.link.now _ fault in
     said_line false _ _ _ _ c.say_good.ensures refl is (puts_so (ap (λ t. codes "base " ++ (t ++ 10 ∷ [])) c.description.ensures) c.put_line.ensures)
 
 pub returns-in-Err-clause-room : goal.returns-in-Err-clause-room
@@ -54,5 +54,5 @@ returns-in-Err-clause-room g c =
     let s = g.S.Spec.tests in
     let page = c.args.pair.page.now in
     let fault = c.in-Err.ensures.fault ∙ ap Some (sym c.kind.ensures) in
-    let is = on_refused s c.args.pairs.now.mode page c.args.pair.link.now _ (fault_refused s page _ fault) in
+    let is = on_fault s c.args.pairs.now.mode page c.args.pair.link.now _ fault in
     said_room false _ _ _ _ c.say_good.ensures is (puts_so (ap (λ t. codes "base " ++ (t ++ 10 ∷ [])) c.description.ensures) c.put_line.ensures)

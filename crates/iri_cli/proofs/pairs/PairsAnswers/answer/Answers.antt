@@ -1,6 +1,6 @@
 use Rattle.iri_cli.proofs.Common.{◌≡◌, ◌∙◌, arith, ap, false, refl, sym, longest_line, Rules}
+use Rattle.iri_normal.specs.Pairs.{bad_line}
 use Rattle.iri_cli.specs.pairs.Rules.{pairs_rules}
-use Rattle.iri_cli.specs.run.Refused.{bad_line}
 use Rattle.iri_cli.proofs.CanonLemmas.{said_line, said_room}
 use Rattle.iri_cli.proofs.PairsLemmas.{answer_of_none, answer_of_pair, answers_pair, parts_short}
 use Rattle.iri_cli.proofs.pairs.PairsAnswers.answer.Goals as goal
