@@ -1,4 +1,4 @@
-// Canonical texts in a buffer.
+// Canonical texts, shown and in a buffer.
 ghost use Rattle.std.specs.Prelude.{◌≡◌, ◌≤◌, ◌+◌, length};
 ghost use Rattle.iri_types.specs.SplitText.{split_text};
 ghost use Rattle.iri_types.specs.Texts.{text};
@@ -14,12 +14,12 @@ use iri_types::kind::Reference;
 use iri_types::split::SplitView;
 use iri_types::view::RiStr;
 
-// The canonical text of a reference against a resolver's base, by the rules of a mode.
+/// The canonical text of a reference against a resolver's base, by the rules of a mode.
 #[derive(Drop)]
-struct CanonicalText<'r, 'a, S: Spec> {
-    mode: CanonMode,
-    resolver: &'r FixedBaseResolver<'a, S>,
-    reference: &'r SplitView<'a, S, Reference>,
+pub(crate) struct CanonicalText<'r, 'a, S: Spec> {
+    pub(crate) mode: CanonMode,
+    pub(crate) resolver: &'r FixedBaseResolver<'a, S>,
+    pub(crate) reference: &'r SplitView<'a, S, Reference>,
 }
 
 impl<S: Spec> Show for CanonicalText<'_, '_, S> {
