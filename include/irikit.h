@@ -14,9 +14,9 @@
  * nothing, and returns. (irikit_robots_rules, irikit_robots_allows and irikit_run allocate, and free all of it.) So calls may run
  * in several threads at once, each with its own `out` and `detail`.
  *
- * Stack, as measured on x86-64: a call needs at most 6 KiB; where it removes dot segments from a long path, 3 KiB more for each
- * doubling of its length: 25 KiB for a path of 64 KiB, 36 KiB for a mebibyte, 54 KiB for 64 MiB. irikit_run needs 4 KiB more than
- * that, and 124 KiB for the most deeply nested document of `docs`.
+ * Stack, as measured on x86-64: a call needs at most 6 KiB; where it removes dot segments from a long path, half a KiB more for each
+ * doubling of its length: 8 KiB for a path of 64 KiB, 10 KiB for a mebibyte, 13 KiB for 64 MiB. irikit_run needs 2 KiB more than
+ * that, 24 KiB for `docs`, and 128 KiB for its most deeply nested document.
  *
  * Numbers: those of the enums below but statuses differ from each other, so that one in the place of another, as a mode for a
  * grammar, is answered as unknown. So is every other number.
@@ -296,6 +296,19 @@ uint8_t irikit_decode(const char *text, size_t len, char *out, size_t size, size
  *   irikit_canonical(IRIKIT_URI, IRIKIT_NORMAL, "http://A/b", 10, "%", 1, out, sizeof out, &detail);  // IRIKIT_BAD_REFERENCE */
 uint8_t irikit_canonical(uint32_t grammar, uint32_t mode, const char *base, size_t base_len, const char *reference,
                          size_t reference_len, char *out, size_t size, size_t *detail);
+
+/* The canonical text of a reference of IRIs, mapped to a URI (RFC 3987 section 3.1): each character past ASCII becomes the
+ * percent-encoded octets of its UTF-8. It is what irikit_canonical by IRIKIT_IRI gives, mapped, and so the canonical text by IRIKIT_URI of
+ * base and reference, both mapped. A host past ASCII becomes percent-encoded octets too, and not Punycode (IDNA): a client that looks it up
+ * in the DNS makes Punycode of it.
+ *
+ * Takes: the number of a mode; the base, an absolute-URI of IRIs; the reference; a buffer.
+ * Writes: the URI to `out`. It has at most 3 * (base_len + reference_len + 3) bytes.
+ * Returns: as irikit_canonical; IRIKIT_UNKNOWN: mode.
+ *
+ *   irikit_canonical_to_uri(IRIKIT_NORMAL, "http://a/", 9, "\xC3\xA9", 2, out, sizeof out, &detail);  // "http://a/%C3%A9" */
+uint8_t irikit_canonical_to_uri(uint32_t mode, const char *base, size_t base_len, const char *reference, size_t reference_len,
+                                char *out, size_t size, size_t *detail);
 
 /* A reference resolved against a base (RFC 3986 section 5.2), not in normal form.
  *

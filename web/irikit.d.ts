@@ -225,6 +225,13 @@ export class Kit {
   // Encodings.
 
   /**
+   * The canonical text of a reference of IRIs against a base, mapped to a URI (RFC 3987 section 3.1). A host past ASCII becomes
+   * percent-encoded octets too, and not Punycode.
+   * @throws {Refused} for the first fault of the base, and then of the reference
+   */
+  canonicalizeToUri(base: Text, reference: Text, mode?: Mode): string;
+
+  /**
    * A reference of IRIs, mapped to one of URIs (RFC 3987 section 3.1).
    * @throws {Refused} where it is no reference of IRIs
    */

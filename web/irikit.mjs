@@ -413,6 +413,10 @@ class Kit {
     return this.#madeOfTwo(this.#calls.irikit_replace_reg_name, text, host, GRAMMARS.numberOf(grammar));
   }
 
+  canonicalizeToUri(base, reference, mode = "normal") {
+    return this.#madeOfTwo(this.#calls.irikit_canonical_to_uri, base, reference, RESOLVING.numberOf(mode));
+  }
+
   mapToUri(text) {
     return this.#made(this.#calls.irikit_map_to_uri, text);
   }

@@ -128,6 +128,26 @@ static size_t check_empty(void) {
     return failed;
 }
 
+/* A text that is mapped, in a buffer of each size; and modes that it hasn't. */
+static size_t check_to_uri(void) {
+    static const char *wanted = "a:/%C3%A9b%C3%A9";
+    static const uint32_t others[] = {0, IRIKIT_PRESERVING, IRIKIT_IRI, IRIKIT_NORMAL + 256, IRIKIT_NORMAL + 65536};
+    char out[24];
+    size_t failed = 0, detail = 9;
+    for (size_t size = 0; size < sizeof out; size++) {
+        memset(out, '.', sizeof out);
+        uint8_t status = irikit_canonical_to_uri(IRIKIT_NORMAL, "a:/", 3, "\xC3\xA9" "b\xC3\xA9", 5, out, size, &detail);
+        failed += wrong(status == (size < 16 ? IRIKIT_SHORT : IRIKIT_OK) && detail == 16 && is_over(out, size, wanted, 16, sizeof out), "a mapped text");
+    }
+    memset(out, '.', sizeof out);
+    for (int i = 0; i < 5; i++)
+        failed += wrong(irikit_canonical_to_uri(others[i], "a:", 2, "b", 1, out, sizeof out, &detail) == IRIKIT_UNKNOWN && detail == 0
+                            && is_over(out, 0, "", 0, sizeof out), "a mode that no mapped text has");
+    failed += wrong(irikit_canonical_to_uri(IRIKIT_NORMAL, NULL, 0, "%", 1, out, sizeof out, &detail) == IRIKIT_BAD_BASE
+                        && detail == IRIKIT_UNEXPECTED_RELATIVE, "NULL as the base of a mapped text");
+    return failed;
+}
+
 /* The example of RFC 3986 section 3, whose parts stand in the order of the struct's fields below. */
 static size_t check_parts(void) {
     const char *text = "foo://u@example.com:8042/over/there?name=ferret#nose";
@@ -180,7 +200,7 @@ int main(int argc, char **argv) {
         return 2;
     read_rows(argv[1]);
     turns = argc > 2 ? strtoul(argv[2], NULL, 10) : turns;
-    failed += check_rows() + check_empty() + check_parts() + check_faulty();
+    failed += check_rows() + check_empty() + check_to_uri() + check_parts() + check_faulty();
     for (size_t i = 0; i < 3 * count; i++)
         failed += check_sizes(&rows[i / 3], i % 3);
     for (int i = 0; i < THREADS; i++)

@@ -123,6 +123,7 @@ static uint8_t lines(void)
 	return irikit_canonical_lines(grammar, IRIKIT_NORMAL, text, base_len, REST, out, ROOM, &consumed, &detail);
 }
 
+static uint8_t pairs(void) { return irikit_canonical_pairs(grammar, IRIKIT_NORMAL, text, len, out, ROOM, &consumed, &detail); }
 static uint8_t robots_rules(void) { return irikit_robots_rules(SHORT_TEXT("bot"), text, len, out, ROOM, &detail); }
 static uint8_t run(void) { return irikit_run(SHORT_TEXT("canon iri"), text, len, out, ROOM, &detail); }
 static uint8_t run_words(void) { return irikit_run(text, len, SHORT_TEXT("http://a\n"), out, ROOM, &detail); }
@@ -140,7 +141,7 @@ static const struct {
 	{"replace-reg-name-with", name_with}, {"split", split}, {"is-normalized", is_normalized}, {"validate-reference", validate_reference},
 	{"validate-scheme", validate_scheme}, {"validate-absolute", validate_absolute}, {"validate-relative", validate_relative},
 	{"fault-part", fault_part}, {"template-variables", names}, {"expand-template", expand_template}, {"expand-value", expand_value},
-	{"expand-list", expand_list}, {"expand-names", expand_names}, {"build", build}, {"build-many", build_many}, {"lines", lines},
+	{"expand-list", expand_list}, {"expand-names", expand_names}, {"build", build}, {"build-many", build_many}, {"lines", lines}, {"canonical-pairs", pairs},
 	{"robots-rules", robots_rules}, {"robots-allows", allows}, {"run", run}, {"run-words", run_words},
 };
 

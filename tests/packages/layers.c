@@ -177,6 +177,7 @@ static void answer(void) {
     const char *call = words[0];
 #define IS(name) strcmp(call, name) == 0
     if (IS("canonical")) WRITES(irikit_canonical(grammar, mode, ONE(0), ONE(1), out, size, &detail));
+    else if (IS("uri")) WRITES(irikit_canonical_to_uri(mode, ONE(0), ONE(1), out, size, &detail));
     else if (IS("resolve")) WRITES(irikit_resolve(grammar, ONE(0), ONE(1), out, size, &detail));
     else if (IS("target")) WRITES(irikit_target(grammar, ONE(0), ONE(1), out, size, &detail));
     else if (IS("normalize")) WRITES(irikit_normalize(grammar, mode, ONE(0), out, size, &detail));

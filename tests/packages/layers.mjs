@@ -50,7 +50,7 @@ const CALLS = {
   host: (t, o, g) => kit.replaceHost(t[0], t[1], g), name: (t, o, g) => kit.replaceRegName(t[0], t[1], g),
   build: (t, o, g) => kit.build(Object.fromEntries(PARTS.map((name, at) => [name, t[at]])), o, g),
   expand: (t, o, g) => kit.expand(t[0], { v: variable(o, t.slice(1)) }, g), lines: (t, o, g) => kit.canonicalLines(t[0], t[1], g, o),
-  pairs: (t, o, g) => kit.pairs(t[0], g, o),
+  pairs: (t, o, g) => kit.pairs(t[0], g, o), uri: (t, o) => kit.canonicalizeToUri(t[0], t[1], o),
 };
 const SPECIAL = {
   normal: (t, o, g) => `ok ${kit.isNormalized(t[0], g, o) ? "yes" : "no"}`,

@@ -67,6 +67,7 @@ CALLS = {
     "target": lambda t, o, g: links(t[0], g).target(t[1]),
     "normalize": lambda t, o, g: irikit.normalize(t[0], MODES[o], g),
     "steps": lambda t, o, g: "".join(step + "\n" for step in irikit.steps(t[0], MODES[o], g)),
+    "uri": lambda t, o, g: irikit.canonicalize_to_uri(t[0], t[1], MODES[o]),
     "map": lambda t, o, g: irikit.map_to_uri(t[0]), "encode": lambda t, o, g: irikit.encode(t[0], PLACES[o], g),
     "decode": lambda t, o, g: irikit.decode(t[0]), "mask": lambda t, o, g: irikit.mask_password(t[0], g),
     "remove": lambda t, o, g: irikit.without_password(t[0], g), "password": lambda t, o, g: irikit.with_password(t[0], t[1], g),

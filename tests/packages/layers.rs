@@ -74,6 +74,7 @@ fn written(call: &str, grammar: Grammar, option: &str, t: &[Option<&str>]) -> Re
         "pairs" if option == "scheme" => grammar.pairs_by_scheme(one),
         "pairs" => grammar.pairs(one),
         "canonical" => base(grammar, one, option)?.canonical(other)?,
+        "uri" => base(Grammar::Iri, one, option)?.canonical_to_uri(other)?,
         "resolve" => grammar.base(one)?.resolve(other)?,
         "target" => grammar.base(one)?.target(other)?,
         "normalize" => grammar.normalize(one, mode(option))?,

@@ -230,6 +230,17 @@ test("many lines in one call", () => {
   assert.equal(kit.canonicalLines(base, "b\n".repeat(100)), `ok ${base}b\n`.repeat(100));
 });
 
+test("canonical texts of IRIs as URIs", () => {
+  // RFC 3987 section 3.1, and octets that were sent as octets.
+  assert.equal(kit.canonicalizeToUri("http://a/", "http://r\u00e9sum\u00e9.example.org"), "http://r%C3%A9sum%C3%A9.example.org");
+  assert.equal(kit.canonicalizeToUri("http://www.example.org/", "red%09ros\u00e9#red"), "http://www.example.org/red%09ros%C3%A9#red");
+  assert.equal(kit.canonicalizeToUri("http://\u00e9:80", "", "scheme"), "http://%C3%A9/");
+  const long = "\u00e9".repeat(1e5);
+  assert.equal(kit.canonicalizeToUri("a:/", long), `a:/${"%C3%A9".repeat(1e5)}`);
+  assert.deepEqual(refusal(() => kit.canonicalizeToUri("a", "%")).slice(0, 2), ["base", "unexpected-relative"]);
+  assert.deepEqual(refusal(() => kit.canonicalizeToUri("a:", "\ud800")).slice(0, 2), ["reference", "invalid-utf8"]);
+});
+
 test("many pages and links in one call", () => {
   for (const grammar of ["uri", "iri"]) {
     const all = rows("rows.txt").filter((row) => row[0] === grammar && !row[1].includes("\t") && !row[1].endsWith("\r"));

@@ -170,6 +170,7 @@ test("names of grammars, modes, kinds, places and faults", () => {
     ],
     scheme: [
       (name) => kit.canonical("a:", "", "uri", name), (name) => kit.canonicalLines("a:", "", "uri", name), (name) => kit.pairs("", "uri", name),
+      (name) => kit.canonicalizeToUri("a:", "", name),
       (name) => kit.canonicalMany("a:", [], "uri", name), (name) => kit.normalize("a:", "uri", name),
       (name) => kit.steps("a:", "uri", name), (name) => kit.isNormalized("a:", "uri", name),
     ],
@@ -192,6 +193,7 @@ test("names of grammars, modes, kinds, places and faults", () => {
   const refused = { name: "TypeError", message: '"preserving" is no mode, which is one of normal, scheme' };
   for (const call of ["canonical", "canonicalLines"]) assert.throws(() => kit[call]("a:", "", "uri", "preserving"), refused);
   assert.throws(() => kit.pairs("", "uri", "preserving"), refused);
+  assert.throws(() => kit.canonicalizeToUri("a:", "", "preserving"), refused);
   assert.throws(() => kit.steps("a:", "uri", "preserving"), refused);
 });
 
@@ -213,7 +215,7 @@ test("a string is answered as the bytes of its UTF-8 are, and by a kit that was 
   ];
   const calls = [
     (one, s, t, g) => one.canonical(s, t, g), (one, s, t, g) => one.canonicalLines("a:/b", t, g, "scheme"),
-    (one, s, t, g) => one.pairs(t, g, "scheme"),
+    (one, s, t, g) => one.pairs(t, g, "scheme"), (one, s, t) => one.canonicalizeToUri(s, t), (one, s, t) => one.canonicalizeToUri("a:/b", t, "scheme"),
     (one, s, t, g) => one.canonicalMany("x:/y", [s, t], g), (one, s, t, g) => one.target("http://a/b", t, g),
     (one, s, t, g) => one.split(t, g), (one, s, t, g) => one.steps(t, g), (one, s, t, g) => one.validate(t, "relative", g),
     (one, s, t) => one.faultPart(t, "invalid-path"), (one, s, t, g) => one.build({ host: s, path: t }, "reference", g),

@@ -1,3 +1,3 @@
 //! IRIs mapped to URIs (RFC 3987 section 3.1).
 
-pub use iri_percent::{IntoUri, MappedKind, MappedToUri, ToUri};
+pub use iri_percent::{IntoUri, MappedKind, MappedToUri, ToUri, show_mapped_to_uri};

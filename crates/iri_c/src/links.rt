@@ -1,7 +1,7 @@
 // Calls on references against a base, one or many.
 ghost use Rattle.iri_calls.specs.Lines.{Batched, PairsBatched};
 ghost use Rattle.iri_calls.specs.Outcome.{Answered};
-ghost use Rattle.iri_calls.specs.Outcomes.{canonical_outcome, in_grammar};
+ghost use Rattle.iri_calls.specs.Outcomes.{canonical_outcome, in_grammar, uri_outcome};
 ghost use Rattle.iri_calls.specs.Resolutions.{resolved_in, target_in};
 
 use iri_calls::{canonical, lines, resolve, target};
@@ -19,6 +19,20 @@ pub extern "C" fn irikit_canonical(
     ensures { Answered (canonical_outcome grammar mode base.now reference.now) out.old out.new detail.new result }
 {
     canonical::irikit_canonical(grammar, mode, base, reference, out, detail)
+}
+
+/// The canonical text of a reference against a base, both of IRIs, mapped to a URI.
+#[unsafe(no_mangle)]
+pub extern "C" fn irikit_canonical_to_uri(
+    mode: u32,
+    base: &[u8],
+    reference: &[u8],
+    out: &mut [u8],
+    detail: &mut usize,
+) -> u8
+    ensures { Answered (uri_outcome mode base.now reference.now) out.old out.new detail.new result }
+{
+    canonical::irikit_canonical_to_uri(mode, base, reference, out, detail)
 }
 
 /// A reference resolved against a base.

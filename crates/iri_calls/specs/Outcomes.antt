@@ -51,6 +51,13 @@ abbrev pub canonical_outcome : ℕ → ℕ → List ℕ → List ℕ → Outcome
 canonical_outcome grammar mode base reference =
     where_known (mode_numbered mode) (λ m. in_grammar grammar (canonical_as m base reference))
 
+-- the same of IRIs, mapped to a URI (RFC 3987 section 3.1)
+abbrev pub uri_as : CanonMode → List ℕ → List ℕ → Outcome
+uri_as mode base reference = against_base base reference iri_tests (text (mapped (canonical_in iri_tests mode base reference)))
+
+abbrev pub uri_outcome : ℕ → List ℕ → List ℕ → Outcome
+uri_outcome mode base reference = where_known (mode_numbered mode) (λ m. uri_as m base reference)
+
 -- a reference of IRIs, mapped to one of URIs
 abbrev pub mapped_outcome : List ℕ → Outcome
 mapped_outcome t = of_reference t iri_tests (text (mapped t))

@@ -11,7 +11,7 @@ ghost use Rattle.iri_calls.specs.Bounds.{HasAtMost};
 ghost use Rattle.iri_calls.specs.Encodings.{encoded_outcome};
 ghost use Rattle.iri_calls.specs.FaultParts.{IsFaulty, faulty_slot};
 ghost use Rattle.iri_calls.specs.Lines.{line_answer, pair_answer};
-ghost use Rattle.iri_calls.specs.Outcomes.{canonical_outcome, in_grammar, mapped_outcome};
+ghost use Rattle.iri_calls.specs.Outcomes.{canonical_outcome, in_grammar, mapped_outcome, uri_outcome};
 ghost use Rattle.iri_calls.specs.Resolutions.{normalized_outcome, resolved_in, target_in};
 
 use iri_grammar::spec::Spec;
@@ -25,6 +25,12 @@ pub fn normal_forms_are_short()
 pub fn canonical_texts_are_short()
     ensures { (grammar mode : ℕ) (base reference : List ℕ)
         → HasAtMost (length base + length reference + 3) (canonical_outcome grammar mode base reference) }
+{}
+
+/// What `irikit_canonical_to_uri` writes has at most three times as many bytes as base and reference together, and 9.
+pub fn canonical_uris_are_short()
+    ensures { (mode : ℕ) (base reference : List ℕ)
+        → HasAtMost (3 * (length base + length reference + 3)) (uri_outcome mode base reference) }
 {}
 
 /// What `irikit_resolve` writes has at most 3 bytes more than base and reference together.

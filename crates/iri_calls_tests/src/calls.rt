@@ -1,6 +1,6 @@
 // What the calls answer: rows of the RFCs, room for each length, and unknown numbers.
 use iri_calls::building::{FRAGMENT, HOST, PATH, PORT, Part, QUERY, SCHEME, irikit_build};
-use iri_calls::canonical::irikit_canonical;
+use iri_calls::canonical::{irikit_canonical, irikit_canonical_to_uri};
 use iri_calls::decoding::irikit_decode;
 use iri_calls::edits::{
     irikit_mask_password, irikit_remove_fragment, irikit_remove_password, irikit_replace_password,
@@ -82,6 +82,26 @@ fn canonical_texts(rt: HostRuntime) {
     assert!(rt; irikit_canonical(NORMAL, NORMAL, base, b"", &mut out, &mut detail) == 6);
     assert!(rt; irikit_canonical(URI, PRESERVING, base, b"", &mut out, &mut detail) == 6);
     assert!(rt; detail == 0);
+}
+
+// Examples of RFC 3987 section 3.1.
+#[test]
+fn canonical_texts_mapped(rt: HostRuntime) {
+    let base = b"http://example.org/a/";
+    let mut out = [b'.'; 48];
+    let mut detail = 9;
+    let host = "http://r\u{e9}sum\u{e9}.example.org".as_bytes();
+    assert!(rt; irikit_canonical_to_uri(NORMAL, base, host, &mut out, &mut detail) == 0);
+    assert!(rt; detail == 35 && out.starts_with(b"http://r%C3%A9sum%C3%A9.example.org."));
+    let rose = "../red%09ros\u{e9}#red".as_bytes();
+    assert!(rt; irikit_canonical_to_uri(BY_SCHEME, base, rose, &mut out[..20], &mut detail) == 1);
+    assert!(rt; detail == 38 && out.starts_with(b"http://example.org/r"));
+    assert!(rt; irikit_canonical_to_uri(NORMAL, base, b"%", &mut out, &mut detail) == 5);
+    assert!(rt; detail == INVALID_PATH);
+    assert!(rt; irikit_canonical_to_uri(NORMAL, b"a", b"%", &mut out, &mut detail) == 4);
+    assert!(rt; detail == UNEXPECTED_RELATIVE);
+    assert!(rt; irikit_canonical_to_uri(PRESERVING, base, b"", &mut out, &mut detail) == 6);
+    assert!(rt; irikit_canonical_to_uri(IRI, base, b"", &mut out, &mut detail) == 6 && detail == 0);
 }
 
 // Numbers that differ from one that stands for something by what lies past 8 or 16 bits, or are those of another enum.

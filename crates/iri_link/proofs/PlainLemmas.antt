@@ -1,8 +1,9 @@
 -- Parameters in their written form: what both readings make of them.
-use Rattle.iri_link.proofs.Common.{◌≡◌, cond, ℕ, Bool, true, false, ◌&&◌, List, [], ◌∷◌, ◌++◌, Some, refl, sym, ap, ◌∙◌, arith, both, test_apart, append_assoc, append-nil, length}
-use Rattle.iri_link.proofs.Common.{nat_tests, list_all, flat_map, map, LinkParam, after_param, after_semicolon, fault_from, escaped, written_param, str_to_ascii_lowercase}
+use Rattle.iri_link.proofs.Common.{◌≡◌, ◌==◌, eqb-true, subst, cond, None, ℕ, Bool, true, false, ◌&&◌, List, [], ◌∷◌, ◌++◌, Some, refl, sym, ap, ◌∙◌, arith, both, test_apart, append_assoc, append-nil, length}
+use Rattle.iri_link.proofs.Common.{nat_tests, list_all, flat_map, map, Tests, LinkParam, after_param, after_semicolon, fault_from, escaped, written_param, str_to_ascii_lowercase}
 use Rattle.iri_link.proofs.Common.{after_equals, is_token_char, is_pair_char, is_plain_char, IsQuoted, done, plain, in_quoted}
 use Rattle.std.proofs.Common.{length-append}
+use Rattle.std.proofs.lemmas.List.{nil_from_length}
 use Rattle.std.proofs.lemmas.Grind.{flat_map-append}
 use Rattle.std.specs.Char.{is_ascii_lowercase, to_ascii_lowercase}
 use Rattle.std.specs.Prelude.{filter}
@@ -10,7 +11,8 @@ use Rattle.iri_grammar.specs.Parts.{is_empty}
 use Rattle.iri_link.specs.LaxReadings.{reads, is_name_char, is_writable, with_writable, lax_param}
 unfoldable use Rattle.iri_link.specs.LaxReadings.{lax_reading}
 use Rattle.iri_link.specs.Readings.{of_params, of_value, more}
-use Rattle.iri_link.specs.inside.LaxPieces.{lax_left}
+use Rattle.iri_link.specs.inside.LaxPieces.{LaxEnds, lax_left}
+use Rattle.iri_link.specs.inside.Pieces.{phase_at}
 use Rattle.iri_link.specs.inside.PlainParams.{ArePlain, IsPlainParam, with_params}
 use Rattle.iri_link.proofs.GrammarLemmas.{param-named}
 use Rattle.iri_link.proofs.LaxLemmas.{lax-blanks, lax-equals, lax-named, lax-open, lax-semicolon, param-bare}
@@ -99,6 +101,18 @@ one t (c ∷ cs) v rest e k l p =
 
 pub plain_one : (t rest : List ℕ) → IsPlainParam t rest → (w : List ℕ) × ArePlain true t w rest
 plain_one t rest h = (_, one t h.name h.value rest h.whole h.named h.lower h.plain)
+
+-- ---- the end
+ends : (b : Bool) → ((s : Tests) → fault_from s (phase_at b) [] ≡ None) × LaxEnds b []
+unfolding fault_from lax_reading
+ends true = (λ s. refl, refl)
+ends false = (λ s. refl, refl)
+
+pub none_wrong : (s : Tests) (b : Bool) (t : List ℕ) → (length t == 0) ≡ true → fault_from s (phase_at b) t ≡ None
+none_wrong s b t h = ap (fault_from s (phase_at b)) (nil_from_length t (eqb-true (length t) 0 h)) ∙ (ends b).0 s
+
+pub none_left : (b : Bool) (t : List ℕ) → (length t == 0) ≡ true → LaxEnds b t
+none_left b t h = subst (LaxEnds b) (sym (nil_from_length t (eqb-true (length t) 0 h))) (ends b).1
 
 -- ---- parameters
 pub plain_none : (b : Bool) (t : List ℕ) → ArePlain b t [] t

@@ -236,6 +236,9 @@ pub(crate) fn show_text<S: Spec, W: TextSink>(
     let mut inside = false;
     let mut rest = text;
     'pieces: loop {
+        if rest.is_empty() {
+            return Ok(());
+        }
         match next_lax_piece(inside, rest) {
             Some((piece, after)) => {
                 show_piece(sink, mode, resolver, &mut place, piece)?;

@@ -16,6 +16,7 @@ use crate::quoted::cut_quoted;
 use crate::runs::{Run, begins_token, cut_run, past};
 
 // A value that is a token, and what follows it.
+#[tactic(auto, using(crate::proofs::ParamLemmas::no_value, crate::proofs::ParamLemmas::token_value))]
 fn cut_token<'a>(s: &'a str) -> Result<(&'a str, &'a str), Halt<'a>>
     requires delimiter { first_passes (λ c. c == quotation_mark) s.now ≡ false }
     requires blank { first_passes is_blank s.now ≡ false }

@@ -59,6 +59,7 @@ fn param_after<'a>(whole: &'a str, following: &'a str) -> Result<(Piece<'a>, &'a
 }
 
 // What a walk after a target or a parameter comes to, and what follows it; `None` at the end.
+#[tactic(auto, using(crate::proofs::WalkLemmas::comma_inside, crate::proofs::WalkLemmas::end_inside, crate::proofs::WalkLemmas::no_param_inside, crate::proofs::WalkLemmas::fault_inside))]
 fn next_param<'a>(s: &'a str) -> Result<Option<(Piece<'a>, &'a str)>, Halt<'a>>
     ensures { MatchResult result (λ o. MatchOption o (Ends true s.now) (λ r. Comes true s.now r.0 r.1.now))
         (λ e. (t : Tests) → IsFault e (fault_from t after_param s.now)) }
@@ -139,6 +140,9 @@ pub(crate) fn check_text<'a, S: Spec>(text: &'a str) -> Result<(), Halt<'a>>
     let mut inside = false;
     let mut rest = text;
     'pieces: loop {
+        if rest.is_empty() {
+            return Ok(());
+        }
         match next_piece(inside, rest) {
             Ok(Some((piece, after))) => {
                 check_piece::<S>(piece)?;

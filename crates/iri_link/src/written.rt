@@ -11,6 +11,7 @@ use iri_text::{Show, Stop, TextSink, show_each, show_five, show_three, show_two}
 use memchr::memchr2;
 
 // Where the first `"` or `\` stands.
+#[tactic(auto, using(crate::proofs::EscapeLemmas::delimiter_found))]
 fn find_delimiter(s: &str) -> Option<usize>
     ensures { MatchOption result (escaped s.now ≡ s.now) (λ at. IsDelimiterAt s.now at) }
 {

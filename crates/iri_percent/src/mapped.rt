@@ -8,6 +8,7 @@ ghost use Rattle.iri_percent.specs.Mapping.{mapped};
 ghost use Rattle.iri_percent.specs.inside.MapRuns.{goes_on};
 
 use crate::mapped_kind::MappedKind;
+use crate::mapper::Mapper;
 use crate::spelling::put_triplets;
 use iri_grammar::spec::{Spec, UriSpec};
 use iri_owned::owned::Owned;
@@ -103,6 +104,53 @@ fn show_mapped<W: TextSink>(sink: &mut W, text: &str) -> Result<(), Stop>
         return sink.put(text);
     }
     put_runs(sink, text.as_bytes())
+}
+
+impl<'s, W: TextSink> TextSink for Mapper<'s, W> {
+    ghost use Rattle.iri_percent.specs.inside.MapperText.{MapperPuts, MapperHalts, mapper_rules};
+
+    ghost puts = { MapperPuts W.puts };
+
+    ghost halts = { MapperHalts W.halts };
+
+    ghost stops = { λ m. W.stops m.to.now };
+
+    ghost rules = { mapper_rules W.rules };
+
+    fn put(&mut self, piece: &str) -> Result<(), Stop> {
+        show_mapped(&mut *self.to, piece)
+    }
+}
+
+// Shows a value to the sink of a mapper.
+fn show_to<T: Show, W: TextSink>(mapper: &mut Mapper<W>, value: &T) -> Result<(), Stop>
+    ensures shows { Shows W.puts W.halts W.stops mapper.old.to.now (mapped (T.text value.now)) mapper.new.to.now result }
+    ensures same { mapper.new.to.ghost_name ≡ mapper.old.to.ghost_name }
+{
+    value.show(mapper)
+}
+
+/// Shows a value mapped to a URI (RFC 3987 section 3.1): each character past ASCII is written as the percent-encoded octets of its
+/// UTF-8; the rest stays. Allocates nothing.
+///
+/// # Errors
+///
+/// Only where the sink's count of stops rises; the sink has stopped within the mapped text then.
+///
+/// ```
+/// use iri::convert::show_mapped_to_uri;
+/// use iri::format::SliceSink;
+/// use iri::prelude::Normalize;
+/// use iri::types::IriStr;
+/// let mut buffer = [0; 32];
+/// let mut sink = SliceSink::new(&mut buffer);
+/// assert!(rt; show_mapped_to_uri(&mut sink, &IriStr::new("http://a/b/../rosé")?.normalize()).is_ok());
+/// assert_eq!(rt; sink.as_str(), "http://a/ros%C3%A9");
+/// ```
+pub fn show_mapped_to_uri<T: Show, W: TextSink>(sink: &mut W, value: &T) -> Result<(), Stop>
+    ensures { Shows W.puts W.halts W.stops sink.old (mapped (T.text value.now)) sink.new result }
+{
+    show_to(&mut Mapper::new(sink), value)
 }
 
 impl<'a, S: Spec, K: MappedKind> Show for MappedToUri<'a, View<'a, S, K>> {

@@ -21,7 +21,7 @@ No call and no object keeps anything that another one writes, so any number of t
 """
 from ._edits import mask_password, with_fragment, with_host, with_password, without_password
 from ._fields import links
-from ._forms import decode, encode, fault, faulty_part, is_normalized, map_to_uri, normalize, steps
+from ._forms import canonicalize_to_uri, decode, encode, fault, faulty_part, is_normalized, map_to_uri, normalize, steps
 from ._lines import pairs
 from ._links import Links, canonical_many, resolve
 from ._numbers import (
@@ -39,8 +39,9 @@ __all__ = [
     "ABSOLUTE", "ANYWHERE", "BY_SCHEME", "Fault", "Grammar", "IN_FRAGMENT", "IN_PATH", "IN_QUERY", "IN_REFERENCE", "IN_REG_NAME",
     "IN_SEGMENT", "IN_USER", "IRI", "Iri", "Kind", "Links", "Mode", "NORMAL", "PRESERVING", "Place", "REFERENCE", "RELATIVE", "Refused",
     "Robots", "SplitResult", "Status", "Template", "TemplateFault", "URI", "Uri", "WITH_SCHEME", "__version__", "build", "canonical_many",
-    "decode", "encode", "expand", "fault", "faulty_part", "is_normalized", "links", "map_to_uri", "mask_password", "normalize", "pairs",
-    "resolve", "run", "split", "steps", "variables", "with_fragment", "with_host", "with_password", "without_password",
+    "canonicalize_to_uri", "decode", "encode", "expand", "fault", "faulty_part", "is_normalized", "links", "map_to_uri", "mask_password",
+    "normalize", "pairs", "resolve", "run", "split", "steps", "variables", "with_fragment", "with_host", "with_password",
+    "without_password",
 ]
 
 # The package has its version from the program in the library, and Python's form of one that isn't released.

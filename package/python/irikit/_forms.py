@@ -13,6 +13,7 @@ _fault_part = declared("fault_part", "number size text sizes sizes")
 _is_normalized = declared("is_normalized", "number number text sizes")
 _normalize = writing("normalize", 2)
 _steps = writing("steps", 2)
+_canonical_to_uri = writing("canonical_to_uri", 1, 2)
 _map_to_uri = writing("map_to_uri", 0)
 _encode = writing("encode", 2)
 _decode = writing("decode", 0)
@@ -86,6 +87,18 @@ def steps(text: Text, mode: Mode = NORMAL, grammar: Grammar = URI) -> list[str]:
     Raises `Refused` where the text is no URI of the grammar.
     """
     return _steps(of_kind(grammar, Grammar), of_kind(mode, Mode), text).decode().split("\n")[:-1]
+
+
+def canonicalize_to_uri(base: Text, reference: Text, mode: Mode = NORMAL) -> str:
+    """The canonical text of a reference of IRIs against a base, mapped to a URI (RFC 3987 section 3.1). A host past ASCII becomes
+    percent-encoded octets too, and not Punycode.
+
+    >>> canonicalize_to_uri("http://a/b/", "../r\u00e9sum\u00e9")
+    'http://a/r%C3%A9sum%C3%A9'
+
+    Raises `Refused` where the base is no IRI without a fragment, or the reference is none.
+    """
+    return _canonical_to_uri(of_kind(mode, Mode), base, reference).decode()
 
 
 def map_to_uri(text: Text) -> str:

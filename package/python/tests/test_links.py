@@ -117,6 +117,42 @@ class Library(unittest.TestCase):
             self.assertIn(f"\nImportError: {words}".encode(), done.stderr)
 
 
+class ToUri(unittest.TestCase):
+    def test_mapped(self):
+        """RFC 3987 section 3.1; octets that were sent stay octets."""
+        for base, reference, wanted in (
+            ("http://a/", "http://r\u00e9sum\u00e9.example.org", "http://r%C3%A9sum%C3%A9.example.org"),
+            ("http://www.example.org/", "red%09ros\u00e9#red", "http://www.example.org/red%09ros%C3%A9#red"),
+            ("http://example.org/", "\U00010300\U00010301\U00010302", "http://example.org/%F0%90%8C%80%F0%90%8C%81%F0%90%8C%82"),
+            ("http://\u00e9/a/", "../%C3%A9?\ue000#\ufeff", "http://%C3%A9/%C3%A9?%EE%80%80#%EF%BB%BF"),
+            ("a:/", "", "a:/"), (b"http://a/" + b"b" * MEBIBYTE + b"/", "\u00e9", "http://a/" + "b" * MEBIBYTE + "/%C3%A9"),
+        ):
+            self.assertEqual(irikit.canonicalize_to_uri(base, reference), wanted)
+        self.assertEqual(irikit.canonicalize_to_uri("http://\u00e9:80", "", BY_SCHEME), "http://%C3%A9/")
+        self.assertEqual(irikit.canonicalize_to_uri("a:/", "\u00e9" * MEBIBYTE), "a:/" + "%C3%A9" * MEBIBYTE)
+
+    def test_rows(self):
+        """What `canonical` of IRIs gives, mapped, for each row."""
+        for grammar, base, reference, _ in rows("rows.txt"):
+            try:
+                wanted = irikit.map_to_uri(Links(base, IRI).canonical(reference))
+            except Refused as error:
+                with self.assertRaises(Refused) as refused:
+                    irikit.canonicalize_to_uri(base, reference)
+                self.assertEqual((refused.exception.status, refused.exception.fault), (error.status, error.fault))
+            else:
+                self.assertEqual(irikit.canonicalize_to_uri(base, reference), wanted)
+
+    def test_refused(self):
+        for base, reference, status, fault in (("a", "%", Status.BAD_BASE, Fault.UNEXPECTED_RELATIVE), ("a:", "\ud800", Status.BAD_REFERENCE, Fault.INVALID_UTF8),
+                                               ("\ud800", "", Status.BAD_BASE, Fault.INVALID_UTF8), ("a:", "\ue000", Status.BAD_REFERENCE, Fault.INVALID_PATH)):
+            with self.assertRaises(Refused) as refused:
+                irikit.canonicalize_to_uri(base, reference)
+            self.assertEqual((refused.exception.status, refused.exception.fault), (status, fault))
+        with self.assertRaisesRegex(Refused, "PRESERVING"):
+            irikit.canonicalize_to_uri("a:", "", PRESERVING)
+
+
 class Many(unittest.TestCase):
     def test_resolved(self):
         references, wanted = map(list, zip(*RESOLVED))

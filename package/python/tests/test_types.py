@@ -10,6 +10,7 @@ LINKS = Links("http://a/b")
 # Calls by a text.
 TEXTS = [
     Links, LINKS.canonical, LINKS.canonical_bytes, LINKS.resolve, LINKS.target, LINKS.answers, lambda text: LINKS.canonical_many([text]), irikit.pairs,
+    lambda text: irikit.canonicalize_to_uri(text, "a"), lambda text: irikit.canonicalize_to_uri("a:", text),
     irikit.fault, irikit.faulty_part, irikit.normalize, irikit.is_normalized, irikit.steps, irikit.map_to_uri, irikit.encode, irikit.decode,
     irikit.mask_password, irikit.without_password, lambda text: irikit.with_password("a", text), irikit.split, irikit.variables,
     lambda text: irikit.with_fragment(text, None), lambda text: irikit.with_fragment("a", text) if text is not None else irikit.split(None),
@@ -39,6 +40,7 @@ MODES = [
     lambda number: LINKS.canonical_many([], number), lambda number: irikit.canonical_many("a:", [], mode=number),
     lambda number: irikit.is_normalized("a:", number), lambda number: irikit.steps("a:", number), lambda number: Uri("a:").canonical(number),
     lambda number: irikit.pairs(b"a:\tb\n", mode=number), lambda number: irikit.pairs(b"", mode=number),
+    lambda number: irikit.canonicalize_to_uri("a:", "", number),
 ]
 KINDS = [lambda number: irikit.fault("a", number), lambda number: irikit.faulty_part("a", number), lambda number: irikit.build(kind=number)]
 PLACES = [lambda number: irikit.encode("a", number)]

@@ -71,6 +71,34 @@ impl Base {
         into(out, canonicalizing(self, reference))
     }
 
+    /// The canonical text of a reference of IRIs, mapped to a URI (RFC 3987 section 3.1). A host past ASCII becomes percent-encoded
+    /// octets too, and not Punycode.
+    ///
+    /// # Errors
+    ///
+    /// [`Error::Reference`] where it is no reference of IRIs.
+    ///
+    /// ```
+    /// let base = irikit::Grammar::Iri.base("http://a/b/")?;
+    /// assert_eq!(base.canonical_to_uri("../résumé")?, "http://a/r%C3%A9sum%C3%A9");
+    /// # Ok::<(), irikit::Error>(())
+    /// ```
+    pub fn canonical_to_uri(&self, reference: &str) -> Result<String, Error> {
+        let ((base, base_len), (text, len)) = (at(&self.text), at(reference));
+        owned(3 * self.room(reference), |out, size, detail| unsafe {
+            ffi::irikit_canonical_to_uri(
+                self.mode as u32,
+                base,
+                base_len,
+                text,
+                len,
+                out,
+                size,
+                detail,
+            )
+        })
+    }
+
     /// A reference resolved, and not in normal form.
     ///
     /// # Errors

@@ -72,6 +72,8 @@ extern "C" {
 calls! {
     irikit_canonical(grammar: u32, mode: u32, base: *const c_char, base_len: usize, reference: *const c_char, reference_len: usize,
         out: *mut c_char, size: usize, detail: *mut usize);
+    irikit_canonical_to_uri(mode: u32, base: *const c_char, base_len: usize, reference: *const c_char, reference_len: usize,
+        out: *mut c_char, size: usize, detail: *mut usize);
     irikit_canonical_lines(grammar: u32, mode: u32, base: *const c_char, base_len: usize, lines: *const c_char, lines_len: usize,
         out: *mut c_char, size: usize, consumed: *mut usize, detail: *mut usize);
     irikit_canonical_pairs(grammar: u32, mode: u32, lines: *const c_char, lines_len: usize, out: *mut c_char, size: usize,

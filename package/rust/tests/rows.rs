@@ -78,6 +78,22 @@ fn lines_in_one_call_and_in_many() {
         .eq([Ok(&*format!("http://a/b/c/{long}")), Err("invalid path")]));
 }
 
+/// RFC 3987 section 3.1, and octets that were sent as octets.
+#[test]
+fn canonical_texts_as_uris() {
+    let base = Iri.base("http://www.example.org:80/").unwrap();
+    let host = "http://r\u{e9}sum\u{e9}.example.org";
+    let rose = "red%09ros\u{e9}#red";
+    assert_eq!(
+        base.canonical_to_uri(host).unwrap(),
+        "http://r%C3%A9sum%C3%A9.example.org"
+    );
+    assert_eq!(
+        base.by_scheme().canonical_to_uri(rose).unwrap(),
+        "http://www.example.org/red%09ros%C3%A9#red"
+    );
+}
+
 /// The examples of RFC 3986 section 5.4 on their page and on another by turns; and docs/COMMANDS.md, `pairs`.
 #[test]
 fn pages_and_links() {

@@ -1,9 +1,10 @@
 -- The mapping of texts over a class.
-use Rattle.iri_percent.proofs.Common.{◌≡◌, ℕ, ◌+◌, ◌*◌, ◌<◌, ◌≤◌, Bool, true, false, cond, List, [], ◌∷◌, ◌++◌, refl, sym, ◌∙◌, ap, subst}
-use Rattle.iri_percent.proofs.Common.{arith, append_assoc, ltb-true, ◌/◌, ◌%◌, nat_lt, list_all, is_ascii_hexdigit, digit_value}
+use Rattle.iri_percent.proofs.Common.{◌≡◌, ℕ, ◌+◌, ◌*◌, ◌<◌, ◌≤◌, Bool, true, false, List, [], ◌∷◌, ◌++◌, refl, sym, ◌∙◌, ap, subst}
+use Rattle.iri_percent.proofs.Common.{arith, ltb-true, ◌/◌, ◌%◌, nat_lt, list_all, is_ascii_hexdigit, digit_value}
 use Rattle.iri_percent.proofs.Common.{encode, scalar, encode_ascii, nat_tests, IsSpec, uri_tests, both, text_over, octet, capital_hex}
 use Rattle.iri_percent.proofs.Common.{triplet, mapped}
 use Rattle.std.specs.Int.{is_in_range}
+pub use Rattle.iri_percent.specs.inside.MapperText.{mapped-append}
 use Rattle.iri_percent.proofs.forms.Classes.{IsText, ended, letter, escape, text-from_over, over-from_text}
 use Rattle.iri_grammar.proofs.hosts.LiteralChars.{all-weaken}
 use Rattle.iri_percent.proofs.units.AtStart.{encode_bytes, is_continuation, Spells, none, more}
@@ -14,11 +15,6 @@ mapped-low x xs h = rw h refl
 
 pub mapped-high : (x : ℕ) (xs : List ℕ) → nat_lt x 128 ≡ false → mapped (x ∷ xs) ≡ triplet x ++ mapped xs
 mapped-high x xs h = rw h refl
-
-pub mapped-append : (xs ys : List ℕ) → mapped (xs ++ ys) ≡ mapped xs ++ mapped ys
-mapped-append [] ys = refl
-mapped-append (x ∷ xs) ys = let u = cond (nat_lt x 128) (x ∷ []) (triplet x) in
-    ap (λ z. u ++ z) (mapped-append xs ys) ∙ sym (append_assoc u (mapped xs) (mapped ys))
 
 pub hex_low : (a : ℕ) → is_ascii_hexdigit a ≡ true → nat_lt a 128 ≡ true
 hex_low a h = grind (arith, nat_tests)

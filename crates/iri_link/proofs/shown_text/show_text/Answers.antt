@@ -1,9 +1,10 @@
-use Rattle.iri_link.proofs.Common.{[], ◌++◌, Ok, sym, subst, rules, base_text}
+use Rattle.iri_link.proofs.Common.{[], ◌++◌, Ok, sym, ◌∙◌, subst, rules, base_text}
 use Rattle.iri_text.specs.Shown.{Shows}
 use Rattle.iri_text.proofs.Compose.{shown_none, shown_exit, shown_more, shows_all}
 use Rattle.iri_link.specs.inside.LaxPieces.{lax_left, piece_text, place_past}
 use Rattle.iri_link.specs.inside.Pieces.{stands}
 use Rattle.iri_link.specs.inside.PlainParams.{params_text}
+use Rattle.iri_link.proofs.PlainLemmas.{none_left}
 use Rattle.iri_link.proofs.ShownLemmas.{to_show, left_later, left_past, all_shown, written_left}
 use Rattle.iri_link.proofs.shown_text.show_text.Goals as goal
 
@@ -58,6 +59,14 @@ pieces-preserved g c =
       same = left_later s mode base _ i.done c.pieces.place c.pieces.inside c.pieces.rest.now i.same c.in-Some.after.now x c.in-Some.ensures
           place c.is_inside-inside.result c.in_ok-show_piece-in-Some.ensures.place c.is_inside-inside.ensures c.cut_plain.result.0.now c.cut_plain.result.1.now c.cut_plain.ensures;
     }
+
+pub returns-then-is_empty : goal.returns-then-is_empty
+returns-then-is_empty g c =
+    let i = c.pieces.invariant in
+    subst (λ t. Shows g.W.TextSink.puts g.W.TextSink.halts g.W.TextSink.stops c.args.sink.now t c.pieces.sink (Ok tt))
+    (all_shown g.S.Spec.tests c.args.mode (base_text c.args.resolver.now) _ i.done c.pieces.place c.pieces.inside c.pieces.rest.now i.same
+    (none_left c.pieces.inside c.pieces.rest.now (sym c.is_empty.ensures ∙ c.if-is_empty.true)))
+    (shows_all i.shown)
 
 pub returns-in-None : goal.returns-in-None
 returns-in-None g c =
