@@ -1,6 +1,7 @@
 -- The answers of `robots`.
-use Rattle.iri_cli.proofs.Common.{◌≡◌, ◌↔◌, ◌&&◌, ℕ, Bool, true, false, List, [], ◌∷◌, ◌++◌, Option, Some, Result, Ok, Err, refl, sym, ◌∙◌}
-use Rattle.iri_cli.proofs.Common.{ap, append_assoc, arith, subst, OnOk, length, nat_lt, nat_tests, append-nil, Tests, CanonMode, Parts, is_allowed}
+use Rattle.iri_cli.proofs.Common.{◌≡◌, ◌↔◌, ◌&&◌, ℕ, ◌+◌, Bool, true, List, [], ◌∷◌, ◌++◌, Option, Some, None, Result, Ok, Err, refl, sym, ◌∙◌}
+use Rattle.iri_cli.proofs.Common.{ap, append_assoc, arith, subst, OnOk, length, nat_lt, nat_tests, append-nil, Tests, IsSpec, CanonMode, Parts, is_allowed}
+use Rattle.iri_cli.proofs.Common.{before, bytes_eq, drop, lacks, split_of, starts_with_slash}
 use Rattle.iri_cli.proofs.Common.{PutsAll, SinkState, Failed, Appends-none, room-same, Answering, AnswersLine, PutsAnswer}
 use Rattle.iri_cli.proofs.Common.{said_good, Rules, answer_to, AnswerError, IsRobotsAt}
 use Rattle.std.proofs.lemmas.Grind.{flat_map-append}
@@ -9,17 +10,19 @@ use Rattle.iri_robots.specs.Records.{FileRecord, FileRule}
 use Rattle.iri_robots.specs.declared.robots.Verdict.{Verdict}
 use Rattle.iri_robots.specs.declared.robots.Verdict.TheVariants.{Allow}
 use Rattle.iri_robots.specs.Compared.{compared, subject}
-use Rattle.iri_grammar.specs.Cut.{before}
-use Rattle.iri_grammar.specs.Parts.{starts_with_slash}
-use Rattle.iri_grammar.specs.Split.{split_of}
-use Rattle.std.specs.Str.{bytes_eq}
+use Rattle.iri_grammar.specs.Components.{if_there, is_scheme}
+use Rattle.iri_grammar.specs.Parts.{Fits}
+use Rattle.iri_grammar.proofs.splits.SplitUnique.{fits-delimiters}
+use Rattle.std.specs.Prelude.{MatchOption}
+use Rattle.std.specs.Str.Pattern.{FindsTextPrefix}
+use denote.Bor.{Bor}
 use Rattle.std.proofs.lemmas.Slice.Eq.{bytes_eq-Decides}
 use Rattle.std.proofs.Math.Logic.{∥∥₁_elim}
 use Rattle.std.proofs.Props.{props}
 use Rattle.iri_robots.proofs.Decisions.{allowed_is}
 use Rattle.iri_robots.proofs.SubjectLemmas.{HasParts, parts_at}
 use Rattle.iri_cli.specs.run.Refused.{is_not_bad}
-use Rattle.iri_cli.specs.robots.Answers.{same_part, same_site}
+use Rattle.iri_cli.specs.robots.Answers.{same_part, same_site, verdict_word}
 use Rattle.iri_cli.specs.robots.Lines.{RobotsLine, line_of, fed, records_after}
 use Rattle.iri_cli.specs.robots.Memory.{takes_memory}
 use Rattle.iri_cli.specs.declared.run.answers.AnswerError.TheVariants.{Memory}
@@ -30,8 +33,19 @@ use Rattle.iri_cli.proofs.PutLemmas.{room_text}
 
 -- ---- what the rules say
 
-pub verdict_is : (rules : List FileRule) (s : List ℕ) (v : Verdict) → (v ≡ Allow) ↔ IsAllowed rules s → (v ≡ Allow) ↔ (is_allowed rules s ≡ true)
-verdict_is rules s v k = (λ e. (allowed_is rules s).1 (k.0 e), λ e. k.1 ((allowed_is rules s).0 e))
+-- the word for a verdict on a target t of the site
+pub word_is : (rules : List FileRule) (scheme authority : Option (List ℕ)) (target t s word : List ℕ) (v : Verdict) → t ≡ target
+    → is_of_site scheme authority (split_of t) ≡ true → s ≡ subject (split_of t) → (v ≡ Allow) ↔ IsAllowed rules s
+    → ((allowed : Bool) → (v ≡ Allow) ↔ (allowed ≡ true) → word ≡ verdict_word true allowed)
+    → word ≡ verdict_word (is_of_site scheme authority (split_of target)) (is_allowed rules (subject (split_of target)))
+word_is rules scheme authority target t s word v e is matched k w =
+    let here : is_of_site scheme authority (split_of target) ≡ true = subst (λ z. is_of_site scheme authority (split_of z) ≡ true) e is in
+    let same : s ≡ subject (split_of target) = matched ∙ ap (λ z. subject (split_of z)) e in
+    let allowed = is_allowed rules (subject (split_of target)) in
+    let decided = allowed_is rules (subject (split_of target)) in
+    let verdict = subst (λ z. (v ≡ Allow) ↔ IsAllowed rules z) same k in
+    w allowed (λ e. decided.1 (verdict.0 e), λ e. verdict.1 (decided.0 e))
+    ∙ ap (λ b. verdict_word b allowed) (sym here)
 
 -- a target is of the site of these parts exactly where it has their scheme and their authority
 pub same_site_by : (scheme authority : Option (List ℕ)) (p target : Parts) → IsSiteOf scheme authority p
@@ -41,25 +55,54 @@ same_site_by scheme authority p target is =
     ap (λ x. same_part x target.scheme && same_part authority target.authority) is.scheme_is
     ∙ ap (λ x. same_part p.scheme target.scheme && same_part x target.authority) is.authority_is
 
-same_text : (t : List ℕ) → bytes_eq t t ≡ true
-same_text t = (bytes_eq-Decides t t).1 refl
-
 -- what is matched of a target that scheme, authority and path of a site begin
-pub site_subject : (scheme authority target after path text : List ℕ) → ∥ AreSiteParts (Some scheme) (Some authority) ∥₁
-    → target ≡ scheme ++ (58 ∷ 47 ∷ 47 ∷ after) → after ≡ authority ++ path → starts_with_slash path ≡ true → text ≡ compared (before 35 path)
-    → (is_of_site (Some scheme) (Some authority) (split_of target) ≡ true) × (text ≡ subject (split_of target))
+subject_begun : (scheme authority target after path : List ℕ) → ∥ AreSiteParts (Some scheme) (Some authority) ∥₁
+    → target ≡ scheme ++ (58 ∷ 47 ∷ 47 ∷ after) → after ≡ authority ++ path → starts_with_slash path ≡ true
+    → (is_of_site (Some scheme) (Some authority) (split_of target) ≡ true) × (compared (before 35 path) ≡ subject (split_of target))
 unfolding is_of_site
-site_subject scheme authority target after path text h e f k is =
+subject_begun scheme authority target after path h e f k =
     let begun : target ≡ (scheme ++ 58 ∷ []) ++ (47 ∷ 47 ∷ (authority ++ path)) =
     e ∙ ap (λ z. scheme ++ (58 ∷ 47 ∷ 47 ∷ z)) f ∙ sym (append_assoc scheme (58 ∷ []) (47 ∷ 47 ∷ (authority ++ path))) in
     let parts = subst (λ t. HasParts t (Some scheme) authority path) (sym begun) (parts_at (Some scheme) authority path
     (∥∥₁_elim h (hlevel props) (λ p. p.scheme_is)) (∥∥₁_elim h (hlevel props) (λ p. p.lacks_hash))
     (∥∥₁_elim h (hlevel props) (λ p. p.lacks_mark)) (∥∥₁_elim h (hlevel props) (λ p. p.lacks_slash)) k) in (
       ap (λ o. same_part (Some scheme) o && same_part (Some authority) (split_of target).authority) parts.scheme_is
-      ∙ ap (λ o. bytes_eq scheme scheme && same_part (Some authority) o) parts.authority_is
-      ∙ ap (λ b. b && bytes_eq authority authority) (same_text scheme) ∙ same_text authority,
-      is ∙ sym parts.subject_is,
+          ∙ ap (λ o. bytes_eq scheme scheme && same_part (Some authority) o) parts.authority_is
+          ∙ ap (λ b. b && bytes_eq authority authority) ((bytes_eq-Decides scheme scheme).1 refl)
+          ∙ (bytes_eq-Decides authority authority).1 refl,
+      sym parts.subject_is,
     )
+
+pub site_subject : (scheme authority : Option (List ℕ)) (s a target rest after path : List ℕ) (r : Option (Bor (List ℕ)))
+    → ∥ AreSiteParts scheme authority ∥₁ → scheme ≡ Some s → authority ≡ Some a → target ≡ s ++ rest → rest ≡ 58 ∷ 47 ∷ 47 ∷ after → after ≡ a ++ path
+    → MatchOption r (Unit {0}) (λ x. (starts_with_slash path ≡ true) × (x.now ≡ compared (before 35 path)))
+    → MatchOption r (Unit {0}) (λ x. (is_of_site scheme authority (split_of target) ≡ true) × (x.now ≡ subject (split_of target)))
+site_subject scheme authority s a target rest after path None h e f t m p k = k
+site_subject scheme authority s a target rest after path (Some x) h e f t m p k =
+    let begun : target ≡ s ++ (58 ∷ 47 ∷ 47 ∷ after) = t ∙ ap (λ z. s ++ z) m in
+    let own = subst (λ o. ∥ AreSiteParts o (Some a) ∥₁) e (subst (λ o. ∥ AreSiteParts scheme o ∥₁) f h) in
+    let is = subject_begun s a target after path own begun p k.0 in (
+      subst (λ o. is_of_site o authority (split_of target) ≡ true) (sym e)
+          (subst (λ o. is_of_site (Some s) o (split_of target) ≡ true) (sym f) is.0),
+      k.1 ∙ is.1,
+    )
+
+-- what `strip_prefix` leaves
+pub stripped : (t p r : List ℕ) → (n : ℕ) × FindsTextPrefix p t (Some n) × (r ≡ drop n t) × (length r + n ≡ length t) → t ≡ p ++ r
+stripped t p r h = h.1.1 ∙ ap (λ z. p ++ z) (sym h.2)
+
+-- the parts of a split have no delimiter in them
+pub site_parts : (s : Tests) (p q : Parts) (scheme authority : Option (List ℕ)) → IsSpec s → Fits s p → Fits s q → scheme ≡ p.scheme
+    → authority ≡ q.authority → ∥ AreSiteParts scheme authority ∥₁
+site_parts s p q scheme authority k f h e a =
+    let x = fits-delimiters s p k f in
+    let y = fits-delimiters s q k h in
+    ∣ record {
+      scheme_is = ap (if_there is_scheme) e ∙ x.scheme;
+      lacks_hash = ap (if_there (lacks 35)) a ∙ y.authority_hash;
+      lacks_mark = ap (if_there (lacks 63)) a ∙ y.authority_delimiter;
+      lacks_slash = ap (if_there (lacks 47)) a ∙ y.authority_slash;
+    } ∣₁
 
 -- ---- replies
 
