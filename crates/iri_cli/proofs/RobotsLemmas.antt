@@ -27,7 +27,7 @@ use Rattle.iri_cli.specs.robots.Lines.{RobotsLine, line_of, fed, records_after}
 use Rattle.iri_cli.specs.robots.Memory.{takes_memory}
 use Rattle.iri_cli.specs.declared.run.answers.AnswerError.TheVariants.{Memory}
 use Rattle.iri_cli.specs.inside.RobotsAt.{PutsReply}
-use Rattle.iri_cli.specs.inside.Sites.{AreSiteParts, IsSiteOf, is_of_site}
+use Rattle.iri_cli.specs.inside.Sites.{AreSiteParts, IsSiteOf, is_of_site, site_prefix}
 use Rattle.iri_cli.proofs.CanonLemmas.{line_room, puts_answer, puts_line}
 use Rattle.iri_cli.proofs.PutLemmas.{room_text}
 
@@ -55,36 +55,28 @@ same_site_by scheme authority p target is =
     ap (λ x. same_part x target.scheme && same_part authority target.authority) is.scheme_is
     ∙ ap (λ x. same_part p.scheme target.scheme && same_part x target.authority) is.authority_is
 
--- what is matched of a target that scheme, authority and path of a site begin
-subject_begun : (scheme authority target after path : List ℕ) → ∥ AreSiteParts (Some scheme) (Some authority) ∥₁
-    → target ≡ scheme ++ (58 ∷ 47 ∷ 47 ∷ after) → after ≡ authority ++ path → starts_with_slash path ≡ true
-    → (is_of_site (Some scheme) (Some authority) (split_of target) ≡ true) × (compared (before 35 path) ≡ subject (split_of target))
-unfolding is_of_site
-subject_begun scheme authority target after path h e f k =
-    let begun : target ≡ (scheme ++ 58 ∷ []) ++ (47 ∷ 47 ∷ (authority ++ path)) =
-    e ∙ ap (λ z. scheme ++ (58 ∷ 47 ∷ 47 ∷ z)) f ∙ sym (append_assoc scheme (58 ∷ []) (47 ∷ 47 ∷ (authority ++ path))) in
-    let parts = subst (λ t. HasParts t (Some scheme) authority path) (sym begun) (parts_at (Some scheme) authority path
-    (∥∥₁_elim h (hlevel props) (λ p. p.scheme_is)) (∥∥₁_elim h (hlevel props) (λ p. p.lacks_hash))
-    (∥∥₁_elim h (hlevel props) (λ p. p.lacks_mark)) (∥∥₁_elim h (hlevel props) (λ p. p.lacks_slash)) k) in (
-      ap (λ o. same_part (Some scheme) o && same_part (Some authority) (split_of target).authority) parts.scheme_is
-          ∙ ap (λ o. bytes_eq scheme scheme && same_part (Some authority) o) parts.authority_is
-          ∙ ap (λ b. b && bytes_eq authority authority) ((bytes_eq-Decides scheme scheme).1 refl)
-          ∙ (bytes_eq-Decides authority authority).1 refl,
-      sym parts.subject_is,
-    )
-
-pub site_subject : (scheme authority : Option (List ℕ)) (s a target rest after path : List ℕ) (r : Option (Bor (List ℕ)))
-    → ∥ AreSiteParts scheme authority ∥₁ → scheme ≡ Some s → authority ≡ Some a → target ≡ s ++ rest → rest ≡ 58 ∷ 47 ∷ 47 ∷ after → after ≡ a ++ path
+-- what is matched of a target of the site that a path follows
+pub site_subject : (scheme authority : Option (List ℕ)) (prefix target path : List ℕ) (r : Option (Bor (List ℕ)))
+    → ∥ AreSiteParts scheme authority ∥₁ → Some prefix ≡ site_prefix scheme authority → target ≡ prefix ++ path
     → MatchOption r (Unit {0}) (λ x. (starts_with_slash path ≡ true) × (x.now ≡ compared (before 35 path)))
     → MatchOption r (Unit {0}) (λ x. (is_of_site scheme authority (split_of target) ≡ true) × (x.now ≡ subject (split_of target)))
-site_subject scheme authority s a target rest after path None h e f t m p k = k
-site_subject scheme authority s a target rest after path (Some x) h e f t m p k =
-    let begun : target ≡ s ++ (58 ∷ 47 ∷ 47 ∷ after) = t ∙ ap (λ z. s ++ z) m in
-    let own = subst (λ o. ∥ AreSiteParts o (Some a) ∥₁) e (subst (λ o. ∥ AreSiteParts scheme o ∥₁) f h) in
-    let is = subject_begun s a target after path own begun p k.0 in (
-      subst (λ o. is_of_site o authority (split_of target) ≡ true) (sym e)
-          (subst (λ o. is_of_site (Some s) o (split_of target) ≡ true) (sym f) is.0),
-      k.1 ∙ is.1,
+unfolding is_of_site
+site_subject None None prefix target path r h e t k = absurd (cc e)
+site_subject None (Some a) prefix target path r h e t k = absurd (cc e)
+site_subject (Some s) None prefix target path r h e t k = absurd (cc e)
+site_subject (Some s) (Some a) prefix target path None h e t k = k
+site_subject (Some s) (Some a) prefix target path (Some x) h e t k =
+    let p : List ℕ = 58 ∷ 47 ∷ 47 ∷ [] in
+    let begins : prefix ≡ (s ++ p) ++ a = cc e in
+    let begun : target ≡ (s ++ 58 ∷ []) ++ (47 ∷ 47 ∷ (a ++ path)) = t ∙ ap (λ z. z ++ path) begins ∙ append_assoc (s ++ p) a path
+    ∙ append_assoc s p (a ++ path) ∙ sym (append_assoc s (58 ∷ []) (47 ∷ 47 ∷ (a ++ path))) in
+    let parts = subst (λ z. HasParts z (Some s) a path) (sym begun) (parts_at (Some s) a path
+    (∥∥₁_elim h (hlevel props) (λ q. q.scheme_is)) (∥∥₁_elim h (hlevel props) (λ q. q.lacks_hash))
+    (∥∥₁_elim h (hlevel props) (λ q. q.lacks_mark)) (∥∥₁_elim h (hlevel props) (λ q. q.lacks_slash)) k.0) in (
+      ap (λ o. same_part (Some s) o && same_part (Some a) (split_of target).authority) parts.scheme_is
+          ∙ ap (λ o. bytes_eq s s && same_part (Some a) o) parts.authority_is
+          ∙ ap (λ b. b && bytes_eq a a) ((bytes_eq-Decides s s).1 refl) ∙ (bytes_eq-Decides a a).1 refl,
+      k.1 ∙ sym parts.subject_is,
     )
 
 -- what `strip_prefix` leaves

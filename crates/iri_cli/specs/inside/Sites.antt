@@ -1,5 +1,5 @@
 -- What is known of a site.
-use Rattle.std.specs.Prelude.{◌≡◌, ℕ, Bool, true, ◌&&◌, List, Option}
+use Rattle.std.specs.Prelude.{◌≡◌, ℕ, Bool, true, ◌&&◌, codes, List, ◌++◌, Option, None, Some}
 use Rattle.iri_grammar.specs.Components.{if_there, is_scheme}
 use Rattle.iri_grammar.specs.Cut.{lacks}
 use Rattle.iri_grammar.specs.Characters.{number_sign, question_mark, slash}
@@ -17,6 +17,13 @@ pub record AreSiteParts (scheme authority : Option (List ℕ)) : Type 0 where
   pub lacks_hash : if_there (lacks number_sign) authority ≡ true
   pub lacks_mark : if_there (lacks question_mark) authority ≡ true
   pub lacks_slash : if_there (lacks slash) authority ≡ true
+
+-- what a target with both begins with
+abbrev pub site_prefix : Option (List ℕ) → Option (List ℕ) → Option (List ℕ)
+site_prefix None None = None
+site_prefix None (Some b) = None
+site_prefix (Some a) None = None
+site_prefix (Some a) (Some b) = Some ((a ++ codes "://") ++ b)
 
 -- whether a target is of the site of a scheme and an authority
 unfoldable pub is_of_site : Option (List ℕ) → Option (List ℕ) → Parts → Bool

@@ -6,7 +6,7 @@ ghost use Rattle.iri_types.specs.SplitText.{split_text};
 ghost use Rattle.iri_normal.specs.Resolver.{base_text};
 ghost use Rattle.iri_cli.specs.robots.Answers.{normal_base, same_part};
 ghost use Rattle.iri_robots.specs.Compared.{subject};
-ghost use Rattle.iri_cli.specs.inside.Sites.{AreSiteParts, IsSiteOf, is_of_site};
+ghost use Rattle.iri_cli.specs.inside.Sites.{AreSiteParts, IsSiteOf, is_of_site, site_prefix};
 
 use crate::robots::write_target;
 use crate::run::answers::Setup;
@@ -27,8 +27,10 @@ pub struct Site {
     pub(crate) mode: CanonMode,
     scheme: Option<Text>,
     authority: Option<Text>,
+    prefix: Option<Text>,
     pub(crate) robots: Robots,
     ghost parts: { ∥ AreSiteParts scheme authority ∥₁ },
+    ghost begins: { prefix ≡ site_prefix scheme authority },
 }
 
 fn copy_of(alloc: Global, part: Option<&str>) -> Result<Option<Text>, AllocError>
@@ -37,6 +39,25 @@ fn copy_of(alloc: Global, part: Option<&str>) -> Result<Option<Text>, AllocError
     match part {
         Some(part) => Ok(Some(Text::from_string(String::from_str(alloc, part)?))),
         None => Ok(None),
+    }
+}
+
+// What the targets of a site begin with.
+fn prefix_of(
+    alloc: Global,
+    scheme: &Option<Text>,
+    authority: &Option<Text>,
+) -> Result<Option<Text>, AllocError>
+    ensures { IfOk result (λ prefix. prefix ≡ site_prefix scheme.now authority.now) }
+{
+    match (scheme, authority) {
+        (Some(scheme), Some(authority)) => {
+            let mut prefix = String::from_str(alloc, scheme.as_str())?;
+            prefix.push_str("://")?;
+            prefix.push_str(authority.as_str())?;
+            Ok(Some(Text::from_string(prefix)))
+        }
+        _ => Ok(None),
     }
 }
 
@@ -70,11 +91,13 @@ impl Site {
         let normal = SplitView::of(RiStr::<S>::from_valid(buffer));
         let scheme = copy_of(alloc, normal.parts().scheme())?;
         let authority = copy_of(alloc, normal.parts().authority())?;
+        let prefix = prefix_of(alloc, &scheme, &authority)?;
         Ok(Site {
             alloc,
             mode,
             scheme,
             authority,
+            prefix,
             robots,
         })
     }
@@ -86,12 +109,10 @@ impl Site {
             (λ s. (is_of_site self.now.scheme self.now.authority (split_of target.now) ≡ true)
             × (s.now ≡ subject (split_of target.now))) }
     {
-        let (Some(scheme), Some(authority)) = (&self.scheme, &self.authority) else {
+        let Some(prefix) = &self.prefix else {
             return None;
         };
-        let rest = target.strip_prefix(scheme.as_str())?;
-        let rest = rest.strip_prefix("://")?;
-        subject_in(rest.strip_prefix(authority.as_str())?)
+        subject_in(target.strip_prefix(prefix.as_str())?)
     }
 
     /// Whether a target is of it.

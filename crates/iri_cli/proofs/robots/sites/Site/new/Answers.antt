@@ -7,6 +7,7 @@ use Rattle.iri_cli.proofs.robots.sites.Site.new.Goals as goal
 
 pub invariant_of-result : goal.invariant_of-result
 invariant_of-result g c = record {
+  begins = c.in_ok-prefix.ensures;
   parts = site_parts g.S.Spec.tests _ _ _ _ g.met.S.Spec.lawful c.parts.ensures.fits c.parts-2.ensures.fits
       (c.in_ok-scheme.ensures ∙ c.scheme.ensures) (c.in_ok-authority.ensures ∙ c.authority.ensures);
 }
