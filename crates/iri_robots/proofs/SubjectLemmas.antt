@@ -1,20 +1,54 @@
 -- What is matched of a text that a scheme, an authority and a path begin.
 use Rattle.iri_robots.proofs.Common.{◌≡◌, ℕ, true, false, List, [], ◌∷◌, ◌++◌, Option, Some, None, length, refl, sym}
-use Rattle.iri_robots.proofs.Common.{◌∙◌, ap, subst, arith, append_assoc, ◌==◌, nat_tests, before, after, compared, query_text}
+use Rattle.iri_robots.proofs.Common.{◌∙◌, ap, subst, arith, append_assoc, ◌==◌, nat_tests, before, after, compared, query_text, cond, drop, suc, run_of}
 use Rattle.std.proofs.Common.{slice_index}
+use Rattle.iri_grammar.specs.Classes.{is_ascii_unreserved, is_ascii_query, is_ascii_pchar, is_ascii_reg_name, is_sub_delim}
+use Rattle.iri_grammar.specs.ClassTests.{ascii_test}
+use Rattle.iri_grammar.specs.declared.class.Class.TheVariants.{Query}
 use Rattle.std.specs.Prelude.{not}
 use Rattle.iri_grammar.specs.Components.{if_there, is_scheme}
 use Rattle.iri_grammar.specs.Cut.{delimited, lacks}
 use Rattle.iri_grammar.specs.Parts.{Parts, authority_text, recompose, scheme_text, starts_with_slash}
 use Rattle.iri_grammar.specs.Split.{split_of}
 use Rattle.iri_grammar.proofs.faults.Scans.{before-lacks}
-use Rattle.iri_grammar.proofs.splits.CutLaws.{both, joined}
+use Rattle.iri_grammar.proofs.splits.CutLaws.{both, joined, test_apart}
 use Rattle.iri_grammar.proofs.splits.SplitLaws.{split_parts}
 use Rattle.iri_robots.specs.Compared.{subject}
 
 pub begins_slash : (t : List ℕ) → (length t == 0) ≡ false → slice_index t 0 ≡ 47 → starts_with_slash t ≡ true
 begins_slash [] n e = cc
 begins_slash (x ∷ t) n e = rw e refl
+
+-- ---- up to a `#`
+
+no_hash : ascii_test Query 35 ≡ false
+unfolding is_ascii_query is_ascii_pchar is_ascii_reg_name is_ascii_unreserved is_sub_delim
+no_hash = refl
+
+pub plain_before : (t : List ℕ) → drop (run_of (ascii_test Query) t) t ≡ [] → before 35 t ≡ t
+plain_before [] h = refl
+plain_before (x ∷ t) h =
+    elim (ascii_test Query x) as (λ b. ascii_test Query x ≡ b → drop (cond b (suc (run_of (ascii_test Query) t)) 0) (x ∷ t) ≡ []
+    → before 35 (x ∷ t) ≡ x ∷ t) [
+      | true ↦ λ e k. ap (λ b. cond b [] (x ∷ before 35 t)) (test_apart (ascii_test Query) 35 x no_hash e) ∙ ap (λ l. x ∷ l) (plain_before t k)
+      | false ↦ λ e k. cc
+    ] refl h
+
+pub plain_until : (t : List ℕ) → slice_index (drop (run_of (ascii_test Query) t) t) 0 ≡ 35
+    → drop (run_of (ascii_test Query) (before 35 t)) (before 35 t) ≡ []
+plain_until [] h = refl
+plain_until (x ∷ t) h =
+    elim (x == 35) as (λ a. (x == 35) ≡ a → drop (run_of (ascii_test Query) (cond a [] (x ∷ before 35 t))) (cond a [] (x ∷ before 35 t)) ≡ []) [
+      | true ↦ λ n. refl
+      | false ↦ λ n. elim (ascii_test Query x) as (λ b. ascii_test Query x ≡ b
+          → slice_index (drop (cond b (suc (run_of (ascii_test Query) t)) 0) (x ∷ t)) 0 ≡ 35
+          → drop (cond b (suc (run_of (ascii_test Query) (before 35 t))) 0) (x ∷ before 35 t) ≡ []) [
+            | true ↦ λ e k. plain_until t k
+            | false ↦ λ e k. cc (subst (λ z. (z == 35) ≡ false) k n)
+          ] refl h
+    ] refl
+
+-- ---- the parts
 
 lacks_parts : (c : ℕ) (xs ys : List ℕ) → lacks c (xs ++ ys) ≡ true → (lacks c xs ≡ true) × (lacks c ys ≡ true)
 lacks_parts c [] ys h = (refl, h)

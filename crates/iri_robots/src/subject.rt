@@ -69,10 +69,14 @@ pub fn subject_in(text: &str) -> Option<&str>
     if text.is_empty() || text.as_bytes()[0] != b'/' {
         return None;
     }
-    let (subject, _) = cut_before(text, b'#');
-    if !past_run(Class::Query, subject).is_empty() {
+    let rest = past_run(Class::Query, text);
+    if rest.is_empty() {
+        return Some(text);
+    }
+    if rest.as_bytes()[0] != b'#' {
         return None;
     }
+    let (subject, _) = cut_before(text, b'#');
     Some(subject)
 }
 

@@ -103,7 +103,8 @@ impl Site {
     }
 
     /// What the rules speak of in a target of it, where that is written in the target as it is. `None` says nothing of the target. By
-    /// it a line takes 430 instructions where a split and a copy take 860 (2026-12-01).
+    /// it a link takes 632 instructions fewer than by a split and a copy, 1,367 in place of 1,999 with one rule; one of another site
+    /// takes 77 more (2026-12-01).
     pub(crate) fn subject<'t>(&self, target: &'t str) -> Option<&'t str>
         ensures { MatchOption result (Unit {0})
             (λ s. (is_of_site self.now.scheme self.now.authority (split_of target.now) ≡ true)
