@@ -1,5 +1,5 @@
 // The answers of `robots`.
-ghost use Rattle.std.specs.Prelude.{◌≡◌, ◌++◌, ◌∷◌, [], true, None, Err, IfOk, OnOk, string_bytes};
+ghost use Rattle.std.specs.Prelude.{◌≡◌, ◌↔◌, ◌++◌, ◌∷◌, [], Bool, true, None, Err, IfOk, OnOk, string_bytes};
 ghost use Rattle.iri_grammar.specs.Fault.{bytes_fault};
 ghost use Rattle.iri_robots.specs.FileLines.{is_token};
 ghost use Rattle.iri_grammar.specs.Split.{split_of};
@@ -65,6 +65,16 @@ impl Crawler {
     }
 }
 
+// The word for a verdict on a target of the site.
+fn word_for(verdict: Verdict) -> &'static str
+    ensures { (allowed : Bool) → (verdict ≡ Verdict.Allow) ↔ (allowed ≡ true) → result.now ≡ verdict_word true allowed }
+{
+    match verdict {
+        Verdict::Allow => "allow ",
+        Verdict::Disallow => "disallow ",
+    }
+}
+
 // The word before a target.
 fn verdict_word<S: Spec>(site: &Site, target: RiStr<'_, S>) -> Result<&'static str, AllocError>
     ensures { IfOk result (λ word. word.now ≡ verdict_word
@@ -72,15 +82,15 @@ fn verdict_word<S: Spec>(site: &Site, target: RiStr<'_, S>) -> Result<&'static s
         (is_allowed (rules_for (string_bytes site.now.robots.token)
         (record_texts site.now.robots.records.items)) (subject (split_of (text target.entry))))) }
 {
+    if let Some(subject) = site.subject(target.as_str()) {
+        return Ok(word_for(site.robots.verdict(subject)));
+    }
     let target = SplitView::of(target);
     if !site.has(&target) {
         return Ok("other ");
     }
     match subject_of_split(site.alloc, &target) {
-        Ok(subject) => match site.robots.verdict(subject.as_str()) {
-            Verdict::Allow => Ok("allow "),
-            Verdict::Disallow => Ok("disallow "),
-        },
+        Ok(subject) => Ok(word_for(site.robots.verdict(subject.as_str()))),
         Err(error) => Err(error),
     }
 }

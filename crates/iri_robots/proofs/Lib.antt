@@ -7,6 +7,7 @@ pub mod Verdicts
 pub mod Runs
 pub mod GroupLemmas
 pub mod Apart
+pub mod SubjectLemmas
 pub mod Lines
 pub mod Forms
 pub mod Agents

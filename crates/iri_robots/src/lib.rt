@@ -48,4 +48,4 @@ mod subject;
 pub use pattern::matches;
 pub use robots::{LineError, Robots, RobotsError, Verdict, is_product_token};
 pub use rules_text::{lines_verdict, rule_lines};
-pub use subject::{subject_of, subject_of_split};
+pub use subject::{subject_in, subject_of, subject_of_split};

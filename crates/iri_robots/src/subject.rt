@@ -1,6 +1,9 @@
 // What of a reference is matched against patterns.
-ghost use Rattle.std.specs.Prelude.{◌≡◌, ◌++◌, IfOk, OnOk, string_bytes};
+ghost use Rattle.std.specs.Prelude.{◌≡◌, ◌++◌, true, IfOk, MatchOption, OnOk, string_bytes};
+ghost use Rattle.iri_grammar.specs.Characters.{number_sign};
+ghost use Rattle.iri_grammar.specs.Cut.{before};
 ghost use Rattle.iri_grammar.specs.OptionalSlices.{now_of};
+ghost use Rattle.iri_grammar.specs.Parts.{starts_with_slash};
 ghost use Rattle.iri_grammar.specs.Split.{split_of};
 ghost use Rattle.iri_types.specs.SplitText.{split_text};
 ghost use Rattle.iri_types.specs.Texts.{text};
@@ -8,6 +11,7 @@ ghost use Rattle.iri_robots.specs.Compared.{compared, path_text, query_text, sub
 
 use crate::compared::push_form;
 use iri_grammar::class::Class;
+use iri_grammar::cutting::cut_before;
 use iri_grammar::over::past_run;
 use iri_grammar::spec::Spec;
 use iri_text::Text;
@@ -48,6 +52,32 @@ fn push_query(form: &mut String, query: Option<&str>) -> Result<(), AllocError>
         }
         None => Ok(()),
     }
+}
+
+/// What of a text from its path on the rules speak of, up to its fragment, where that is written there as it is: it begins with
+/// a slash, and each of its characters is an ASCII character of a query. `None` says nothing of the text. It allocates nothing.
+///
+/// ```
+/// use iri::robots::subject_in;
+/// assert_eq!(rt; subject_in("/foo?a#b"), Some("/foo?a"));
+/// assert_eq!(rt; subject_in("/foo/%7e"), None);
+/// ```
+pub fn subject_in(text: &str) -> Option<&str>
+    ensures { MatchOption result (Unit {0}) (λ s. (starts_with_slash text.now ≡ true)
+        × (s.now ≡ compared (before number_sign text.now))) }
+{
+    if text.is_empty() || text.as_bytes()[0] != b'/' {
+        return None;
+    }
+    let rest = past_run(Class::Query, text);
+    if rest.is_empty() {
+        return Some(text);
+    }
+    if rest.as_bytes()[0] != b'#' {
+        return None;
+    }
+    let (subject, _) = cut_before(text, b'#');
+    Some(subject)
 }
 
 /// What of a target the rules speak of (RFC 9309 section 2.2.2): its path, or `/` where it is empty, and after it `?`

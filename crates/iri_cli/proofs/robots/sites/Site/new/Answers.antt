@@ -2,7 +2,15 @@ use Rattle.iri_cli.proofs.Common.{◌≡◌, ◌∙◌, Parts, absolute-law, ap,
 use Rattle.std.proofs.Math.Logic.{∥∥₁_elim}
 use Rattle.std.proofs.Props.{props}
 use Rattle.iri_cli.proofs.AlikeLaws.{own_canonical}
+use Rattle.iri_cli.proofs.RobotsLemmas.{site_parts}
 use Rattle.iri_cli.proofs.robots.sites.Site.new.Goals as goal
+
+pub invariant_of-result : goal.invariant_of-result
+invariant_of-result g c = record {
+  begins = c.in_ok-prefix.ensures;
+  parts = site_parts g.S.Spec.tests _ _ _ _ g.met.S.Spec.lawful c.parts.ensures.fits c.parts-2.ensures.fits
+      (c.in_ok-scheme.ensures ∙ c.scheme.ensures) (c.in_ok-authority.ensures ∙ c.authority.ensures);
+}
 
 pub returns : goal.returns
 returns g c =
