@@ -44,7 +44,7 @@ pub struct Start {
 }
 
 /// Answers each page and link by the canonical text of the link against its page, by the rules of a mode. The last page that was taken is
-/// held, so that it isn't read again where the next line has it; at first that text is empty.
+/// held, so that it isn't validated again where the next line has it; at first that text is empty.
 #[derive(Drop)]
 pub struct Pairs {
     mode: CanonMode,
