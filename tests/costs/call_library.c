@@ -27,6 +27,8 @@ static struct irikit_slot slots[MOST / 2];
 static uint8_t canonical(void) { return irikit_canonical(grammar, IRIKIT_NORMAL, BASE, text, len, out, ROOM, &detail); }
 static uint8_t canonical_base(void) { return irikit_canonical(grammar, IRIKIT_NORMAL, text, base_len, REST, out, ROOM, &detail); }
 static uint8_t canonical_scheme(void) { return irikit_canonical(grammar, IRIKIT_BY_SCHEME, BASE, text, len, out, ROOM, &detail); }
+static uint8_t to_uri(void) { return irikit_canonical_to_uri(IRIKIT_NORMAL, BASE, text, len, out, ROOM, &detail); }
+static uint8_t to_uri_base(void) { return irikit_canonical_to_uri(IRIKIT_NORMAL, text, base_len, REST, out, ROOM, &detail); }
 static uint8_t resolve(void) { return irikit_resolve(grammar, BASE, text, len, out, ROOM, &detail); }
 static uint8_t resolve_base(void) { return irikit_resolve(grammar, text, base_len, REST, out, ROOM, &detail); }
 static uint8_t target(void) { return irikit_target(grammar, BASE, text, len, out, ROOM, &detail); }
@@ -132,17 +134,18 @@ static const struct {
 	const char *name;
 	uint8_t (*call)(void);
 } CALLS[] = {
-	{"canonical", canonical}, {"canonical-base", canonical_base}, {"canonical-scheme", canonical_scheme}, {"resolve", resolve},
-	{"resolve-base", resolve_base}, {"target", target}, {"target-base", target_base}, {"normalize", normalize},
-	{"normalize-scheme", normalize_scheme}, {"normalize-preserving", preserve}, {"steps", steps}, {"map", map}, {"encode", encode},
-	{"decode", decode}, {"mask-password", mask}, {"remove-password", remove_password}, {"replace-password", password},
-	{"replace-password-with", password_with}, {"remove-fragment", remove_fragment}, {"set-fragment", fragment},
-	{"set-fragment-with", fragment_with}, {"replace-host", host}, {"replace-host-with", host_with}, {"replace-reg-name", name},
-	{"replace-reg-name-with", name_with}, {"split", split}, {"is-normalized", is_normalized}, {"validate-reference", validate_reference},
-	{"validate-scheme", validate_scheme}, {"validate-absolute", validate_absolute}, {"validate-relative", validate_relative},
-	{"fault-part", fault_part}, {"template-variables", names}, {"expand-template", expand_template}, {"expand-value", expand_value},
-	{"expand-list", expand_list}, {"expand-names", expand_names}, {"build", build}, {"build-many", build_many}, {"lines", lines}, {"canonical-pairs", pairs},
-	{"robots-rules", robots_rules}, {"robots-allows", allows}, {"run", run}, {"run-words", run_words},
+	{"canonical", canonical}, {"canonical-base", canonical_base}, {"canonical-scheme", canonical_scheme}, {"canonical-to-uri", to_uri},
+	{"canonical-to-uri-base", to_uri_base}, {"resolve", resolve}, {"resolve-base", resolve_base}, {"target", target},
+	{"target-base", target_base}, {"normalize", normalize}, {"normalize-scheme", normalize_scheme}, {"normalize-preserving", preserve},
+	{"steps", steps}, {"map", map}, {"encode", encode}, {"decode", decode}, {"mask-password", mask}, {"remove-password", remove_password},
+	{"replace-password", password}, {"replace-password-with", password_with}, {"remove-fragment", remove_fragment},
+	{"set-fragment", fragment}, {"set-fragment-with", fragment_with}, {"replace-host", host}, {"replace-host-with", host_with},
+	{"replace-reg-name", name}, {"replace-reg-name-with", name_with}, {"split", split}, {"is-normalized", is_normalized},
+	{"validate-reference", validate_reference}, {"validate-scheme", validate_scheme}, {"validate-absolute", validate_absolute},
+	{"validate-relative", validate_relative}, {"fault-part", fault_part}, {"template-variables", names},
+	{"expand-template", expand_template}, {"expand-value", expand_value}, {"expand-list", expand_list}, {"expand-names", expand_names},
+	{"build", build}, {"build-many", build_many}, {"lines", lines}, {"canonical-pairs", pairs}, {"robots-rules", robots_rules},
+	{"robots-allows", allows}, {"run", run}, {"run-words", run_words},
 };
 
 int main(int argc, char **argv)
