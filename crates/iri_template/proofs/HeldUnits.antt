@@ -48,18 +48,10 @@ pub settled : (s : Tests) (left : Option ℕ) (t r : List ℕ) (us : List TextUn
     → written_units s left (units t) ≡ written_units s left us ++ written_units s (fewer left (length us)) (units r)
 settled s left t r us e = ap (written_units s left) e ∙ units_both s left us (units r)
 
-pub none_written : (s : Tests) (left : Option ℕ) → [] ≡ written_units s left []
-none_written s None = refl
-none_written s (Some n) = ap (flat_map (kept_unit s)) (sym (take-nil n))
-
 -- two counts, one after the other
-pub fewer_both : (left : Option ℕ) (m n : ℕ) → fewer (fewer left m) n ≡ fewer left (m + n)
+fewer_both : (left : Option ℕ) (m n : ℕ) → fewer (fewer left m) n ≡ fewer left (m + n)
 fewer_both None m n = refl
 fewer_both (Some k) m n = let e : k - m - n ≡ k - (m + n) = omega arith in ap Some e
-
-pub fewer_none : (left : Option ℕ) → left ≡ fewer left 0
-fewer_none None = refl
-fewer_none (Some m) = let e : m ≡ m - 0 = omega arith in ap Some e
 
 -- ---- units that are written as characters are, one for each
 each : (f : TextUnit → List ℕ) (g : ℕ → List ℕ) (us : List TextUnit) (cs : List ℕ) → map f us ≡ map g cs → flat_map f us ≡ flat_map g cs
@@ -259,18 +251,29 @@ unit_settled t r b k =
     u.settled r (none_settled t b k.whole r) ∙ ap (λ n. held_unit t ∷ units (drop n t ++ r)) (sym u.len)
 
 -- where nothing follows
-pub unit_first : (t : List ℕ) → is_begun t ≡ true → 3 ≤ length t → units t ≡ held_unit t ∷ units (drop (unit_len t) t)
+unit_first : (t : List ℕ) → is_begun t ≡ true → 3 ≤ length t → units t ≡ held_unit t ∷ units (drop (unit_len t) t)
 unit_first t b h =
     let u = unit_of t b h in
     ap units (sym (append-nil t)) ∙ u.settled [] (λ e. ap (λ l. first_char (octets l)) (append-nil t) ∙ e)
     ∙ ap (λ l. held_unit t ∷ units l) (append-nil (drop (3 * u.n) t)) ∙ ap (λ n. held_unit t ∷ units (drop n t)) (sym u.len)
 
+-- what is to be written, and how much more may be then, by the first unit and those after it
+pub unit_left : (s : Tests) (left m : Option ℕ) (t d : List ℕ) → is_begun t ≡ true → 3 ≤ length t → m ≡ fewer left 1 → d ≡ drop (unit_len t) t
+    → (written_units s left (units t) ≡ written_units s left (held_unit t ∷ []) ++ written_units s m (units d))
+    × (fewer left (length (units t)) ≡ fewer m (length (units d)))
+unit_left s left m t d b h e f =
+    let all : units t ≡ held_unit t ∷ units d = unit_first t b h ∙ ap (λ l. held_unit t ∷ units l) (sym f) in
+    let one : length (units t) ≡ 1 + length (units d) = omega (arith, ap length all) in
+    (settled s left t d (held_unit t ∷ []) all ∙ ap (λ n. written_units s left (held_unit t ∷ []) ++ written_units s n (units d)) (sym e),
+    ap (fewer left) one ∙ sym (fewer_both left 1 (length (units d))) ∙ ap (λ n. fewer n (length (units d))) (sym e))
+
 -- what is left after it
-pub after_unit : (t : List ℕ) → is_begun t ≡ true → 3 ≤ length t
-    → (is_begun (drop (unit_len t) t) ≡ true) × (length (drop (unit_len t) t) + 3 ≤ length t)
-after_unit t b h =
+pub after_unit : (t d : List ℕ) → is_begun t ≡ true → 3 ≤ length t → d ≡ drop (unit_len t) t
+    → (is_begun d ≡ true) × (length d + 3 ≤ length t)
+after_unit t d b h e =
     let u = unit_of t b h in
-    (ap (λ n. is_begun (drop n t)) u.len ∙ begun_dropped u.n t b u.within, omega (arith, length-drop (unit_len t) t, u.len, u.some, u.within))
+    (ap is_begun (e ∙ ap (λ n. drop n t) u.len) ∙ begun_dropped u.n t b u.within,
+    omega (arith, ap length e, length-drop (unit_len t) t, u.len, u.some, u.within))
 
 -- ---- the beginning of a triplet is written as its characters are
 any_percent : (s : Tests) → IsSpec s → any_char s 37 ≡ false

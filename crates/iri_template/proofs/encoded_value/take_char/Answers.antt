@@ -30,9 +30,9 @@ returns-then-is_settled-clause-held g c =
     let t = c.push.new.self in
     let put = c.put_unit.ensures in
     let b = begun_now a.held t c.args.c c.requires.held.begun c.requires.goes_on c.push.ensures in
-    let left = after_unit t b c.if-is_settled.ensures.settled.some in
+    let left = after_unit t c.put_unit.new.state.held b c.if-is_settled.ensures.settled.some put.held in
     let len : length t ≤ 12 = omega (arith, ap length c.push.ensures, length-append a.held (c.args.c ∷ []), c.requires.held.room) in
-    record { begun = ap is_begun put.held ∙ left.0; room = omega (arith, ap length put.held, left.1, len) }
+    record { begun = left.0; room = omega (arith, left.1, len) }
 
 pub returns-clause-reads : goal.returns-clause-reads
 returns-clause-reads g c =
