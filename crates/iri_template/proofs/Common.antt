@@ -28,7 +28,7 @@ pub use Rattle.iri_grammar.specs.Pieces.{pieces}
 pub use Rattle.iri_grammar.specs.Runs.{run_of}
 pub use Rattle.iri_percent.specs.Encoding.{encoded_char}
 unfoldable pub use Rattle.iri_percent.specs.Encoding.{encoded}
-pub use Rattle.iri_percent.specs.Units.{TextUnit, Plain, units}
+pub use Rattle.iri_percent.specs.Units.{TextUnit, units}
 pub use Rattle.iri_text.proofs.CharSteps.{first_char}
 pub use Rattle.std.proofs.StrCases.{chars_of_empty}
 pub use Rattle.iri_text.proofs.Compose.{HasShown, shown_none, shown_more, shown_exit, shows_all, shows_then, shows_exit}

@@ -3,7 +3,7 @@ use Rattle.iri_template.proofs.Common.{◌≡◌, ℕ, zero, suc, ◌+◌, ◌*�
 use Rattle.iri_template.proofs.Common.{◌++◌, Option, Some, None, length, take, drop, map, refl, sym, ◌∙◌, ap, subst, arith, append_assoc, append-nil}
 use Rattle.iri_template.proofs.Common.{◌==◌, length-append, length-drop, flat_map, is_ascii_hexdigit, encode_utf8, len_utf8, len_utf8_bounds, both, nat_tests}
 use Rattle.iri_template.proofs.Common.{Tests, any_char, TextUnit, units, limited, kept_unit, encoded_char, lacks, fewer, written_units}
-use Rattle.iri_template.proofs.Common.{by_test, IsUtf8, chars, written_chars, stays, is_begun, goes_on, held_unit, unit_len, is_used_up}
+use Rattle.iri_template.proofs.Common.{by_test, IsUtf8, chars, chars-nil, written_chars, stays, is_begun, goes_on, held_unit, unit_len, is_used_up}
 use Rattle.iri_template.proofs.Common.{is_ascii_any, is_ascii_reg_name, is_ascii_unreserved, is_sub_delim, is_gen_delim}
 use Rattle.iri_template.specs.inside.Held.{IsSettled}
 use Rattle.std.proofs.Common.{eqb-true, ◌%◌, inl, inr}
@@ -16,7 +16,7 @@ use lib.Utf8.{encode, encodes}
 use Rattle.iri_grammar.specs.Classes.{IsSpec}
 use Rattle.iri_percent.specs.CharUnits.{plains}
 use Rattle.iri_percent.specs.Mapping.{triplets}
-use Rattle.iri_percent.specs.Units.{Char, Stray, is_triplet, octet, octets, first_char, two_digits, unit_text, units_from}
+use Rattle.iri_percent.specs.Units.{Char, Stray, is_triplet, octet, octets, first_char, two_digits, unit_text, units_from, well_formed}
 use Rattle.iri_percent.proofs.units.AtStart.{Spells, none, more, first_char_is, char_first, hex_apart, octets_other, octets_spelled, spelled}
 use Rattle.iri_percent.proofs.units.AtStart.{length-spelled, units_plain, units_plains, unit_lone, units_lone, unit_char, units_char, units_stray}
 
@@ -263,17 +263,25 @@ pub unit_left : (s : Tests) (left m : Option ℕ) (t d : List ℕ) → is_begun 
     × (fewer left (length (units t)) ≡ fewer m (length (units d)))
 unit_left s left m t d b h e f =
     let all : units t ≡ held_unit t ∷ units d = unit_first t b h ∙ ap (λ l. held_unit t ∷ units l) (sym f) in
-    let one : length (units t) ≡ 1 + length (units d) = omega (arith, ap length all) in
-    (settled s left t d (held_unit t ∷ []) all ∙ ap (λ n. written_units s left (held_unit t ∷ []) ++ written_units s n (units d)) (sym e),
-    ap (fewer left) one ∙ sym (fewer_both left 1 (length (units d))) ∙ ap (λ n. fewer n (length (units d))) (sym e))
+    let one : length (units t) ≡ 1 + length (units d) = omega (arith, ap length all) in (
+      settled s left t d (held_unit t ∷ []) all ∙ ap (λ n. written_units s left (held_unit t ∷ []) ++ written_units s n (units d)) (sym e),
+      ap (fewer left) one ∙ sym (fewer_both left 1 (length (units d))) ∙ ap (λ n. fewer n (length (units d))) (sym e),
+    )
 
 -- what is left after it
 pub after_unit : (t d : List ℕ) → is_begun t ≡ true → 3 ≤ length t → d ≡ drop (unit_len t) t
     → (is_begun d ≡ true) × (length d + 3 ≤ length t)
 after_unit t d b h e =
-    let u = unit_of t b h in
-    (ap is_begun (e ∙ ap (λ n. drop n t) u.len) ∙ begun_dropped u.n t b u.within,
-    omega (arith, ap length e, length-drop (unit_len t) t, u.len, u.some, u.within))
+    let u = unit_of t b h in (
+      ap is_begun (e ∙ ap (λ n. drop n t) u.len) ∙ begun_dropped u.n t b u.within,
+      omega (arith, ap length e, length-drop (unit_len t) t, u.len, u.some, u.within),
+    )
+
+-- where nothing is held back
+pub nothing_left : (s : Tests) (left : Option ℕ) → (written_units s left (units []) ≡ []) × (fewer left (length (units [])) ≡ left)
+unfolding units_from
+nothing_left s None = (refl, refl)
+nothing_left s (Some n) = let e : n - 0 ≡ n = omega arith in (ap (flat_map (kept_unit s)) (take-nil n), ap Some e)
 
 -- ---- the beginning of a triplet is written as its characters are
 any_percent : (s : Tests) → IsSpec s → any_char s 37 ≡ false
@@ -362,6 +370,16 @@ pub unit_written : (s : Tests) (left : Option ℕ) (t : List ℕ) → is_begun t
 unit_written s None t b h = unit_whole s t b h
 unit_written s (Some zero) t b h = refl
 unit_written s (Some (suc n)) t b h = unit_whole s t b h ∙ ap (λ us. flat_map (kept_unit s) (held_unit t ∷ us)) (sym (take-nil n))
+
+no_char : first_char [] ≡ None
+unfolding first_char
+no_char = ap (well_formed []) chars-nil
+
+pub char_settled : (t : List ℕ) (c : ℕ) → first_char (octets t) ≡ Some c → IsSettled t
+char_settled [] c h = let none = no_char in cc
+char_settled (x ∷ []) c h = let none = no_char in cc
+char_settled (x ∷ a ∷ []) c h = let none = no_char in cc
+char_settled (x ∷ a ∷ b ∷ t) c h = record { some = omega arith; whole = inr (λ n. cc) }
 
 -- how long it is, by the character with which the text begins
 pub unit_counted : (t : List ℕ) (o : Option ℕ) → is_begun t ≡ true → 3 ≤ length t → first_char (octets t) ≡ o → unit_len t ≡ 3 * octets_of o

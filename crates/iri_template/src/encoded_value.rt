@@ -129,6 +129,14 @@ fn put_plain<S: Spec, W: TextSink>(
     put_chars::<S, W>(sink, left, true, c.encode_utf8(&mut buf))
 }
 
+// Whether nothing is held back.
+#[tactic(auto, using(std::proofs::lemmas::List::nil_from_length))]
+fn is_plain(state: &Reading) -> bool
+    ensures { OnTrue result (state.now.held ≡ []) }
+{
+    state.held.len() == 0
+}
+
 // How many bytes of a unit are written that has so many.
 fn written_len(left: Option<u16>, len: usize) -> usize
     ensures written { result ≡ cond (is_used_up left) 0 len }
@@ -137,16 +145,16 @@ fn written_len(left: Option<u16>, len: usize) -> usize
     if is_used_up(left) { 0 } else { len }
 }
 
-// Writes the first unit of what is held back.
-fn put_unit<S: Spec, W: TextSink>(sink: &mut W, state: &mut Reading) -> Result<(), Stop>
+// Writes the first unit of what is held back, which has so many bytes, where it may be written.
+fn put_unit<S: Spec, W: TextSink>(sink: &mut W, state: &mut Reading, len: usize) -> Result<(), Stop>
     requires begun { is_begun state.old.held ≡ true }
     requires some { 3 ≤ length state.old.held }
+    requires len { len ≡ unit_len state.old.held }
     ensures shows { Shows W.puts W.halts W.stops sink.old
         (written_units S.tests state.old.left (held_unit state.old.held ∷ [])) sink.new result }
     ensures left { state.new.left ≡ fewer state.old.left 1 }
     ensures held { state.new.held ≡ drop (unit_len state.old.held) state.old.held }
 {
-    let len = state.held.unit_len();
     let result = sink.put(state.held.start(written_len(state.left, len)));
     state.left = state.left.map(|n| n.saturating_sub(1));
     state.held.release(len);
@@ -163,7 +171,11 @@ fn put_held<S: Spec, W: TextSink>(sink: &mut W, state: &mut Reading) -> Result<(
     ensures held { IsHeld state.new }
 {
     'units: while state.held.len() >= 3 {
-        put_unit::<S, W>(sink, state)?;
+        let len = state.held.unit_len();
+        put_unit::<S, W>(sink, state, len)?;
+    }
+    if is_plain(state) {
+        return Ok(());
     }
     let len = state.held.len();
     let result = put_chars::<S, W>(sink, &mut state.left, true, state.held.start(len));
@@ -181,10 +193,10 @@ fn take_char<S: Spec, W: TextSink>(sink: &mut W, state: &mut Reading, c: u8) -> 
     ensures held { IsHeld state.new }
 {
     state.held.push(c);
-    if state.held.is_settled() {
-        return put_unit::<S, W>(sink, state);
+    match state.held.settled_len() {
+        Some(len) => put_unit::<S, W>(sink, state, len),
+        None => Ok(()),
     }
-    Ok(())
 }
 
 #[tactic(auto, using(crate::proofs::HeldUnits::on_ascii))]
@@ -203,14 +215,6 @@ fn put_char<S: Spec, W: TextSink>(sink: &mut W, state: &mut Reading, c: char) ->
         return Ok(());
     }
     put_plain::<S, W>(sink, &mut state.left, c)
-}
-
-// Whether nothing is held back.
-#[tactic(auto, using(std::proofs::lemmas::List::nil_from_length))]
-fn is_plain(state: &Reading) -> bool
-    ensures { OnTrue result (state.now.held ≡ []) }
-{
-    state.held.len() == 0
 }
 
 // What is read at once: a run without `%`, or a character.

@@ -1,7 +1,6 @@
 //! What is held back of a value that comes in pieces: percent-encoded octets of a character whose others may follow,
 //! and the beginning of one more.
-ghost use Rattle.std.specs.Prelude.{◌≡◌, ◌≤◌, ◌<◌, ◌++◌, ◌∷◌, [], length, take, drop, false, true};
-ghost use Rattle.std.specs.Bool.{OnTrue};
+ghost use Rattle.std.specs.Prelude.{◌≡◌, ◌≤◌, ◌<◌, ◌++◌, ◌∷◌, [], length, take, drop, true, IfNone, IfSome};
 ghost use Rattle.std.specs.Str.{chars};
 ghost use Rattle.iri_template.specs.inside.Held.{IsSettled, goes_on, is_begun, unit_len};
 
@@ -63,15 +62,19 @@ impl Held {
         self.len += 1;
     }
 
-    // Whether nothing that follows changes its first unit.
-    pub(crate) fn is_settled(&self) -> bool
-        ensures settled { OnTrue result (IsSettled self.now) }
-        ensures room { result ≡ false → length self.now < 12 }
+    // How many bytes its first unit has, where nothing that follows changes it.
+    pub(crate) fn settled_len(&self) -> Option<usize>
+        requires { is_begun self.now ≡ true }
+        ensures settled { IfSome result (λ n. IsSettled self.now × (n ≡ unit_len self.now)) }
+        ensures room { IfNone result (length self.now < 12) }
     {
-        if self.len < 3 || self.len % 3 > 0 {
-            return false;
+        if self.len % 3 > 0 {
+            return None;
         }
-        self.len == 12 || triplets_char(&self.buf[..self.len]).is_some()
+        match triplets_char(&self.buf[..self.len]) {
+            Some(c) => Some(3 * c.len_utf8()),
+            None => { if self.len == 12 { Some(3) } else { None } }
+        }
     }
 
     // How many bytes its first unit has.
@@ -97,10 +100,15 @@ impl Held {
     }
 
     // Lets its first so many bytes go.
+    #[tactic(auto, using(std::proofs::lemmas::List::drop_all))]
     pub(crate) fn release(&mut self, len: usize)
         requires { len ≤ length self.old }
         ensures { self.new ≡ drop len self.old }
     {
+        if self.len == len {
+            self.len = 0;
+            return;
+        }
         self.buf.copy_within(len..self.len, 0);
         self.len -= len;
     }

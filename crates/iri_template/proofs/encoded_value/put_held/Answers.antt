@@ -1,8 +1,8 @@
-use Rattle.iri_template.proofs.Common.{◌≡◌, ◌<◌, ◌≤◌, ◌++◌, ◌∷◌, [], ℕ, List, ◌∙◌, ap, sym, subst, refl, arith, append_assoc, length, drop, chars}
-use Rattle.iri_template.proofs.Common.{Shows, fewer, units, written_units, written_chars, held_unit, shown_none, shown_more, true}
+use Rattle.iri_template.proofs.Common.{◌≡◌, ◌≤◌, ◌++◌, ◌∷◌, [], ◌∙◌, ap, sym, subst, refl, arith, append_assoc, append-nil, length, chars, Ok}
+use Rattle.iri_template.proofs.Common.{Shows, fewer, units, written_units, written_chars, held_unit, shown_none, shown_more, shows_all, true}
 use Rattle.iri_text.proofs.Compose.{shown_exit, shown_then}
 use Rattle.std.proofs.lemmas.List.{take_all}
-use Rattle.iri_template.proofs.HeldUnits.{unit_left, after_unit, short_written}
+use Rattle.iri_template.proofs.HeldUnits.{nothing_left, unit_left, after_unit, short_written}
 use Rattle.iri_template.proofs.Reading.{on_ok}
 use Rattle.iri_template.proofs.encoded_value.put_held.Goals as goal
 
@@ -57,6 +57,21 @@ returns-in_err-put_unit-clause-shows g c =
     subst (λ l. Shows w.puts w.halts w.stops c.args.sink.now l c.put_unit.new.sink c.from_residual.result)
     (append_assoc i.far.text (written_units s a.left (held_unit a.held ∷ [])) rest ∙ ap (λ l. i.far.text ++ l) (sym e.0) ∙ sym i.far.all)
     (shown_exit g.met.W.TextSink.rules rest c.from_residual.ensures.0 i.far.shown c.in_err-put_unit.ensures.shows)
+
+pub returns-then-is_plain-clause-shows : goal.returns-then-is_plain-clause-shows
+returns-then-is_plain-clause-shows g c =
+    let s = g.S.Spec.tests in
+    let w = g.W.TextSink in
+    let i = c.units.invariant.far in
+    let a = c.units.state in
+    subst (λ l. Shows w.puts w.halts w.stops c.args.sink.now l c.units.sink (Ok tt))
+    (sym (i.all ∙ ap (λ l. i.text ++ written_units s a.left (units l)) c.if-is_plain.ensures ∙ ap (λ l. i.text ++ l) (nothing_left s a.left).0
+    ∙ append-nil i.text)) (shows_all i.shown)
+
+pub returns-then-is_plain-clause-left : goal.returns-then-is_plain-clause-left
+returns-then-is_plain-clause-left g c =
+    let a = c.units.state in
+    sym (c.units.invariant.far.left ∙ ap (λ l. fewer a.left (length (units l))) c.if-is_plain.ensures ∙ (nothing_left g.S.Spec.tests a.left).1)
 
 pub returns-clause-shows : goal.returns-clause-shows
 returns-clause-shows g c =
