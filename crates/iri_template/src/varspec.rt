@@ -130,15 +130,33 @@ pub(crate) fn check_varspec(s: &str, at: usize) -> Result<(), Error>
     }
 }
 
+// The length of a prefix, which has no fault.
+fn fine_max_length(digits: &[u8]) -> u16
+    requires fine { max_length_fault digits.now ≡ None }
+    requires fits { length digits.now + 2 < 2 ^ 64 }
+    ensures { result ≡ number_of digits.now }
+{
+    match read_max_length(digits, 0) {
+        Ok(n) => n,
+        Err(_) => 0,
+    }
+}
+
 // What follows a name, which has no fault.
 fn fine_modifier(bytes: &[u8]) -> Modifier
     requires fine { modifier_fault bytes.now ≡ None }
     requires fits { length bytes.now + 1 < 2 ^ 64 }
     ensures { result ≡ held (modifier_of bytes.now) }
 {
-    match read_modifier(bytes, 0) {
-        Ok(modifier) => modifier,
-        Err(_) => Modifier::Whole,
+    match bytes.split_first() {
+        None => Modifier::Whole,
+        Some((b, rest)) => {
+            if *b == b':' {
+                Modifier::Prefix(fine_max_length(rest))
+            } else {
+                Modifier::Explode
+            }
+        }
     }
 }
 
