@@ -2,7 +2,8 @@
 use Rattle.iri_link.proofs.Common.{◌≡◌, ℕ, suc, ◌<◌, ◌≤◌, ◌+◌, Bool, true, false, cond, not, ◌&&◌, List, [], ◌∷◌, ◌++◌, Option, Some, None}
 use Rattle.iri_link.proofs.Common.{length, take, drop, get_or, refl, sym, ◌∙◌, ap, subst, arith, drop-cons, drop_all, ◌==◌, slice_index}
 use Rattle.iri_link.proofs.Common.{before, after, both, by_test, is_pair_char, is_plain_char, IsQuoted, done, plain, pair}
-use Rattle.iri_link.proofs.Common.{list_all, test_apart, is_token_char, closes_from, quoted_len, unquoted, unquoted_from, first_passes, cases_lt, inl, inr}
+use Rattle.iri_link.proofs.Common.{list_all, test_apart, is_token_char, closes_from, quoted_len, unquoted, unquoted_from, first_passes, cases_lt, inl, inr, IsRun}
+use Rattle.std.proofs.Common.{length-append}
 use Rattle.std.proofs.lemmas.List.{length-take, take_all}
 use Rattle.iri_grammar.specs.Parts.{is_empty}
 use Rattle.iri_link.specs.inside.ReadQuoted.{IsCutOpen, IsPastQuoted}
@@ -64,6 +65,31 @@ closes-is false (c ∷ cs) =
   where
     test_out : (m d : ℕ) → is_pair_char m ≡ true → is_pair_char d ≡ false → (d == m) ≡ false
     test_out m d k l = by_test d m (λ b. b ≡ false) (λ e. let f : is_pair_char d ≡ true = ap is_pair_char e ∙ k in cc) (λ _. refl)
+
+-- characters that stand for themselves, and the delimiter
+plain-ends : (v rest : List ℕ) → list_all is_plain_char v ≡ true
+    → (closes_from false (v ++ 34 ∷ rest) ≡ true) × (rest ≡ drop (suc (quoted_len false (v ++ 34 ∷ rest))) (v ++ 34 ∷ rest))
+unfolding closes_from quoted_len
+plain-ends [] rest h = (refl, refl)
+plain-ends (c ∷ cs) rest h =
+    let k = both (is_plain_char c) (list_all is_plain_char cs) h in
+    let a = test_apart is_plain_char 34 c refl k.0 in
+    let b = test_apart is_plain_char 92 c refl k.0 in
+    let p = both (is_pair_char c) (not (c == 34) && not (c == 92)) k.0 in
+    let i = plain-ends cs rest k.1 in
+    let t = cs ++ 34 ∷ rest in
+    let n : quoted_len false (c ∷ t) ≡ suc (quoted_len false t) = ap (λ v. cond v 0 (suc (quoted_len (c == 92) t))) a ∙ ap (λ v. suc (quoted_len v t)) b in
+    (rw (a, b, p.0) i.0, i.1 ∙ ap (λ m. drop (suc m) (c ∷ t)) (sym n))
+
+pub past_plain : (t run next rest : List ℕ) → IsRun is_plain_char t run next → next ≡ 34 ∷ rest → IsPastQuoted t rest
+past_plain t run next rest h e =
+    let whole : t ≡ run ++ 34 ∷ rest = h.whole ∙ ap (λ l. run ++ l) e in
+    let k = plain-ends run rest h.all in
+    record {
+      closes = ap (closes_from false) whole ∙ k.0;
+      suffix = k.1 ∙ ap (λ l. drop (suc (quoted_len false l)) l) (sym whole);
+      short = omega (arith, ap length whole, length-append run (34 ∷ rest));
+    }
 
 module _ (t raw rest : List ℕ) (h : IsCutOpen t raw rest) where
   -- nothing ends it

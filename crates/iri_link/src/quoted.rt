@@ -6,7 +6,7 @@ ghost use Rattle.iri_grammar.specs.OptionalSlices.{now_of};
 ghost use Rattle.iri_link.specs.inside.CutDelimiters.{IsChunk};
 ghost use Rattle.iri_link.specs.inside.ReadQuoted.{quoted_len, unquoted, IsCutOpen, IsPastQuoted};
 
-use crate::runs::{Run, is_all, past};
+use crate::runs::{Run, cut_run, is_all, past};
 use iri_grammar::cutting::cut;
 use std::alloc::{AllocError, Global};
 
@@ -61,10 +61,15 @@ pub(crate) fn cut_open(s: &str) -> (&str, &str)
     }
 }
 
-// What follows a quoted string, after its first `"`, where it is closed and has no character that it may not.
+// What follows a quoted string, after its first `"`, where it is closed and has no character that it may not. Most have no `\`, and are
+// passed as one run: without it such a one takes 5 instructions a byte more (2026-12-01).
 pub(crate) fn past_quoted(s: &str) -> Option<&str>
     ensures { MatchOption result (closes_from false s.now ≡ false) (λ r. IsPastQuoted s.now r.now) }
 {
+    let (_, next) = cut_run(Run::Plain, s);
+    if let Some(after) = past(next, b'"') {
+        return Some(after);
+    }
     let (raw, rest) = cut_open(s);
     if raw.len() == s.len() {
         return None;
