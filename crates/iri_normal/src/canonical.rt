@@ -11,7 +11,7 @@ ghost use Rattle.iri_normal.specs.Resolver.{base_text};
 
 use crate::mode::CanonMode;
 use crate::resolver::FixedBaseResolver;
-use crate::unchanged::{cut_lowered, lacks_triplets, show_after, show_lowered};
+use crate::unchanged::{cut_lowered, lacks_triplets, show_after, show_after_apart, show_lowered};
 use iri_grammar::error::Error as GrammarError;
 use iri_grammar::spec::Spec;
 use iri_owned::owned::RiString;
@@ -61,7 +61,7 @@ fn show_resolved<'a, S: Spec, W: TextSink>(
 }
 
 // The same of a reference that goes no quicker way, or is asked last for one since few references have an authority and no scheme.
-#[inline(never)]
+#[inline(always)]
 fn show_rarer<'a, S: Spec, W: TextSink>(
     sink: &mut W,
     resolver: &FixedBaseResolver<'a, S>,
@@ -73,7 +73,7 @@ fn show_rarer<'a, S: Spec, W: TextSink>(
     if let Some(before) = resolver.before_authority(reference) {
         let bare = lacks_triplets(reference.parts());
         let text = reference.view().as_str();
-        return show_after::<S, W>(sink, before, text, bare);
+        return show_after_apart::<S, W>(sink, before, text, bare);
     }
     show_resolved::<S, W>(sink, CanonMode::Default, resolver, reference)
 }

@@ -315,6 +315,7 @@ impl<'a, S: Spec> FixedBaseResolver<'a, S> {
     }
 
     // The same of a reference with an authority and no scheme: the base's scheme, and the colon after it.
+    #[inline(always)]
     pub(crate) fn before_authority(
         &self,
         reference: &SplitView<'a, S, Reference>,
