@@ -291,6 +291,7 @@ uint8_t irikit_decode(const char *text, size_t len, char *out, size_t size, size
  * Writes: the canonical text to `out`. It has at most base_len + reference_len + 3 bytes.
  * Returns: IRIKIT_OK; IRIKIT_SHORT; IRIKIT_BAD_BASE, IRIKIT_BAD_REFERENCE: the first fault of the one or the other, the base
  * first; IRIKIT_UNKNOWN: grammar or mode.
+ * Time: each call reads its base, so many references against one take about a third in irikit_canonical_lines.
  *
  *   irikit_canonical(IRIKIT_URI, IRIKIT_NORMAL, "http://A/b", 10, "%7e", 3, out, sizeof out, &detail);  // "http://a/~"
  *   irikit_canonical(IRIKIT_URI, IRIKIT_NORMAL, "http://A/b", 10, "%", 1, out, sizeof out, &detail);  // IRIKIT_BAD_REFERENCE */

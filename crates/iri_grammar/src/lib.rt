@@ -10,7 +10,7 @@ pub mod authority;
 pub mod authority_laws;
 pub mod class;
 pub mod cutting;
-mod digits;
+pub mod digits;
 pub mod dots;
 pub mod error;
 pub mod host;

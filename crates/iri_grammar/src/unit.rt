@@ -1,6 +1,5 @@
 // Units of a class, its characters and percent-encoded octets (RFC 3986 section 2.1), at the start of a text.
-ghost use Rattle.std.specs.Prelude.{◌≡◌, ◌≢◌, ◌<◌, ◌+◌, ◌*◌, ◌++◌, ◌&&◌, ℕ, Bool, false, true, take, drop, slice_index};
-ghost use Rattle.std.specs.Char.{is_ascii_hexdigit};
+ghost use Rattle.std.specs.Prelude.{◌≡◌, ◌≢◌, ◌<◌, ◌+◌, ◌*◌, ◌++◌, ℕ, Bool, false, true, take, drop, slice_index};
 ghost use Rattle.std.specs.Int.{is_in_range};
 ghost use Rattle.std.specs.Str.{IsUtf8};
 ghost use Rattle.iri_grammar.specs.Characters.{percent_sign};
@@ -10,28 +9,10 @@ ghost use Rattle.iri_grammar.specs.Over.{text_over};
 ghost use Rattle.iri_grammar.specs.inside.Runs.{begins_with_more, begins_with_triplet, AreUnits, BeginsWide, HasNoUnit, LacksNearUnit};
 
 use crate::class::Class;
+use crate::digits::are_hex_digits;
 use crate::run::run_len;
 use crate::spec::Spec;
 use std::str;
-
-// For each byte a `1` where it is a hex digit, otherwise a `0`.
-static HEX_DIGITS: [u8; 256] = *b"\
-    00000000000000000000000000000000\
-    00000000000000001111111111000000\
-    01111110000000000000000000000000\
-    01111110000000000000000000000000\
-    00000000000000000000000000000000\
-    00000000000000000000000000000000\
-    00000000000000000000000000000000\
-    00000000000000000000000000000000";
-
-// Whether both bytes are hex digits, without a branch.
-#[inline(always)]
-fn are_hex_digits(a: u8, b: u8) -> bool
-    ensures { result ≡ (is_ascii_hexdigit a && is_ascii_hexdigit b) }
-{
-    HEX_DIGITS[usize::from(a)] & HEX_DIGITS[usize::from(b)] == b'1'
-}
 
 // Whether the bytes begin with a percent-encoded octet.
 #[inline(always)]

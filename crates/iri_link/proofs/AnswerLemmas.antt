@@ -1,16 +1,13 @@
 -- What is answered of bytes, from what is answered of a text.
-use Rattle.iri_link.proofs.Common.{◌≡◌, ℕ, List, cond, None, Some, Result, Ok, Err, sym, ap, ◌∙◌, subst, MatchResult, is_utf8, IsUtf8}
+use Rattle.iri_link.proofs.Common.{◌≡◌, ℕ, List, [], ◌∷◌, cond, None, Some, Result, Ok, Err, refl, sym, ap, ◌∙◌, subst, MatchResult, is_utf8, IsUtf8}
 use Rattle.iri_link.proofs.Common.{false_from_ne_true, is_utf8-from_IsUtf8, IsUtf8-from_is_utf8, Tests, field_fault, place_in, fault_from}
-use Rattle.iri_link.proofs.Common.{LinkValue, HasLinks, before_link, CanonMode, IsReadIn}
+use Rattle.iri_link.proofs.Common.{LinkValue, HasLinks, before_link}
 use Rattle.std.specs.Str.Lossy.{utf8_valid_len}
 use denote.Bor.{Bor}
 use Rattle.iri_link.specs.Fault.{Told}
 use Rattle.iri_link.specs.declared.error.LinkKind.{LinkKind}
 use Rattle.iri_link.specs.Refusals.{RefusedBy}
-use Rattle.iri_link.specs.inside.Halts.{IsTold}
-use Rattle.iri_link.specs.inside.KeptLinks.{ReadsField}
 use Rattle.iri_link.specs.Readings.{links_in}
-use Rattle.iri_link.specs.declared.error.LinkError.{LinkError}
 use Rattle.iri_link.specs.declared.error.LinkError.TheVariants.{Fault, Memory}
 use Rattle.iri_link.specs.declared.error.LinkKind.TheVariants.{NotUtf8}
 use Rattle.iri_link.proofs.FieldLemmas.{links_of_faultless}
@@ -24,31 +21,23 @@ text_fault : (s : Tests) (y : List ℕ) → IsUtf8 y → field_fault s y ≡ pla
 text_fault s y u =
     ap (λ b. cond b (place_in y (fault_from s before_link y)) (Some (record { kind = NotUtf8; place = utf8_valid_len y }))) (is_utf8-from_IsUtf8 y u)
 
-answered : (s : Tests) (mode : CanonMode) (base y : List ℕ) → IsUtf8 y → (r : Result (List LinkValue) LinkError)
-    → MatchResult r (λ l. ReadsField s mode base y l) (IsTold s y) → MatchResult r (IsReadIn s mode base y) (RefusedBy s y)
-answered s mode base y u (Ok l) h = record {
-  links = links_in y;
-  has = links_of_faultless s y (text_fault s y u ∙ ap (place_in y) h.faultless);
-  resolves = h.kept;
-}
-answered s mode base y u (Err (Fault k p)) h = let e = text_fault s y u ∙ h in (e, faulty s y (record { kind = k; place = p }) e)
-answered s mode base y u (Err Memory) h = (u, h)
+-- what is refused for a fault
+pub fault_refused : (s : Tests) (x : List ℕ) (k : LinkKind) (p : ℕ) → field_fault s x ≡ Some (record { kind = k; place = p }) → RefusedBy s x (Fault k p)
+fault_refused s x k p e = (e, faulty s x (record { kind = k; place = p }) e)
 
-pub of_text : (s : Tests) (mode : CanonMode) (base x y : List ℕ) → x ≡ y → IsUtf8 y → (r : Result (List LinkValue) LinkError)
-    → MatchResult r (λ l. ReadsField s mode base x l) (IsTold s x) → MatchResult r (IsReadIn s mode base y) (RefusedBy s y)
-of_text s mode base x y e u r h =
-    answered s mode base y u r (subst (λ z. MatchResult r (λ l. ReadsField s mode base z l) (IsTold s z)) e h)
+-- for want of memory
+pub memory_refused : (s : Tests) (x : List ℕ) → field_fault s x ≡ None → (links_in x ≡ [] → ⊥) → RefusedBy s x Memory
+memory_refused s x h some =
+    elim (links_in x) as (λ ls. ls ≡ links_in x → RefusedBy s x Memory) [
+      | [] ↦ λ e. absurd (some (sym e))
+      | l ∷ ls ↦ λ e. (l, ls, subst (HasLinks s x) (sym e) (links_of_faultless s x h))
+    ] refl
 
 -- bytes that are no text
 pub not_text : (s : Tests) (y : List ℕ) (n : ℕ) → (IsUtf8 y → ⊥) → n ≡ utf8_valid_len y → field_fault s y ≡ Some (record { kind = NotUtf8; place = n })
 not_text s y n u e =
     ap (λ b. cond b (place_in y (fault_from s before_link y)) (Some (record { kind = NotUtf8; place = utf8_valid_len y }))) (false_from_ne_true (is_utf8 y) (λ h. u (IsUtf8-from_is_utf8 y h)))
     ∙ ap (λ m. Some (record { kind = NotUtf8; place = m })) (sym e)
-
-pub of_bytes : (s : Tests) (y : List ℕ) (n : ℕ) → (IsUtf8 y → ⊥) → n ≡ utf8_valid_len y → RefusedBy s y (Fault NotUtf8 n)
-of_bytes s y n u e =
-    let f = not_text s y n u e in
-    (f, faulty s y (record { kind = NotUtf8; place = n }) f)
 
 -- what is answered of bytes that are this text
 pub checked_text : (s : Tests) (x y : List ℕ) → x ≡ y → IsUtf8 y → (r : Result (Bor (List ℕ)) (LinkKind × ℕ))

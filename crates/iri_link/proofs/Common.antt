@@ -31,12 +31,11 @@ pub use Rattle.iri_link.specs.Field.{IsLink, link, IsElement, empty as no_elemen
 pub use Rattle.iri_link.specs.Field.{more}
 pub use Rattle.iri_link.specs.Links.{HasLinks, HasReference}
 pub use Rattle.iri_link.specs.Phases.{before_link, in_target, after_param, after_semicolon, in_name, after_name, after_equals, in_token}
-pub use Rattle.iri_link.specs.Phases.{in_quoted, next, Phase}
+pub use Rattle.iri_link.specs.Phases.{in_quoted, Phase}
 pub use Rattle.iri_link.specs.Resolved.{IsReadIn, resolved_in}
 pub use Rattle.iri_link.specs.Stored.{param_of, link_of, links_of}
 pub use Rattle.iri_link.specs.Token.{is_pair_char, is_plain_char, is_blanks, is_token_char, is_token, IsQuoted, done, plain, pair}
 pub use Rattle.iri_link.specs.Written.{escaped, written_param, written_link, written}
-pub use Rattle.iri_link.specs.inside.ReadParams.{ReadsValue}
-pub use Rattle.iri_link.specs.inside.ReadQuoted.{unquoted, IsCutQuoted}
+pub use Rattle.iri_link.specs.inside.ReadQuoted.{unquoted}
 unfoldable pub use Rattle.iri_link.specs.inside.ReadQuoted.{quoted_len, unquoted_from}
 pub use Rattle.iri_link.specs.inside.Runs.{IsRun, run_test}

@@ -5,17 +5,16 @@ use Rattle.iri_link.proofs.Common.{All-nil, IsUtf8-from_is_utf8, Tests, before, 
 use Rattle.iri_link.proofs.Common.{is_blanks, is_token_char, LinkParam, unquoted}
 use Rattle.iri_link.proofs.Common.{LinkValue, IsParams, none, empty, param, IsLink, link}
 use Rattle.iri_link.proofs.Common.{no_element, element, IsField, last, more, HasReference, HasLinks, before_link}
-use Rattle.iri_link.proofs.Common.{in_target, after_param, after_semicolon, in_name, after_equals, fault_from, closes_from, quoted_len, target_fault, earlier, place_in, field_fault, ReadsValue}
+use Rattle.iri_link.proofs.Common.{in_target, after_param, after_semicolon, in_name, after_equals, fault_from, closes_from, quoted_len, target_fault, earlier, place_in, field_fault}
 use Rattle.std.proofs.Common.{length-append}
 use Rattle.std.specs.Str.Lossy.{utf8_valid_len}
 use Rattle.iri_grammar.proofs.splits.CutLaws.{joined}
 use Rattle.iri_grammar.proofs.faults.Scans.{before-lacks}
 use Rattle.iri_link.specs.Fault.{Fault, told_target}
 use Rattle.iri_link.specs.declared.error.LinkKind.TheVariants.{NotUtf8, NoTarget, OpenTarget, NoParam, OpenString}
-use Rattle.iri_link.specs.inside.ReadParams.{ReadsParam}
-use Rattle.iri_link.proofs.ParamLemmas.{no_value, token_value, string_value, name_goes, bare_read, valued_read, equals_read, no_equals, semicolon_begun, semicolon_ready, ready_semicolon}
-use Rattle.iri_link.proofs.GrammarLemmas.{IsStop, stop_after, element-parts, field-given, params-given, params-parts}
-use Rattle.iri_link.proofs.PhaseLemmas.{fault-blanks, comma-same, end-same, target-given}
+use Rattle.iri_link.proofs.ParamLemmas.{ReadsParam, ReadsValue, no_value, token_value, string_value, name_goes, bare_read, valued_read, equals_read, no_equals, semicolon_begun, semicolon_ready, ready_semicolon}
+use Rattle.iri_link.proofs.GrammarLemmas.{element-parts, field-given, params-parts}
+use Rattle.iri_link.proofs.PhaseLemmas.{fault-blanks, comma-same, target-given}
 use Rattle.iri_link.proofs.QuotedLemmas.{cut_at}
 use Rattle.iri_link.proofs.RunLemmas.{run-is, mark, when}
 use Rattle.iri_link.proofs.TargetLemmas.{some-lacks, none-lacks, open_goes, target_none}
@@ -243,13 +242,3 @@ links_of_faultless s x h =
     let k = links_from s (suc (length x)) x (omega arith) f.1 in
     let e = sym (field-given s x k.links k.field).0 in
     record { utf8 = IsUtf8-from_is_utf8 x f.0; field = subst (IsField x) e k.field; valid = subst (All (HasReference s)) e k.valid }
-
--- what is left without a fault may follow a parameter
-ends_stop : (s : Tests) (b rest : List ℕ) (ls : List LinkValue) → is_blanks b ≡ true → Ends s rest ls → IsStop s (b ++ rest)
-ends_stop s b rest ls h nothing = let k = end-same s in (stop_after s b [] _ h refl (k.0, k.1, k.2)).0
-ends_stop s b rest ls h (comma y ms f v) = let k = comma-same s y in (stop_after s b (44 ∷ y) _ h refl (k.0, k.1, k.2)).0
-
-pub valid_stop : (s : Tests) (z : List ℕ) → fault_from s after_param z ≡ None → IsStop s z
-valid_stop s z h =
-    let k = params_in s (suc (length z)) z (omega arith) (λ y _. links_from s (suc (length y)) y (omega arith)) h in
-    subst (IsStop s) (sym k.whole) (params-given s k.prefix (k.blanks ++ k.rest) k.params k.fits (ends_stop s k.blanks k.rest k.links k.all k.ends)).0

@@ -1,15 +1,16 @@
 -- What the link-values of a field value keep: names are tokens in lower case, values are texts that a quoted string can have.
-use Rattle.iri_link.proofs.Common.{◌≡◌, ℕ, ◌+◌, ◌<◌, ◌≤◌, inl, inr, Bool, true, List, [], ◌∷◌, ◌++◌, Option, Some, None, map, refl, sym, ap}
-use Rattle.iri_link.proofs.Common.{◌∙◌, subst, arith, append_assoc, list_all, All, str_to_ascii_lowercase, IsUtf8, both, cases_lt}
+use Rattle.iri_link.proofs.Common.{◌≡◌, ℕ, ◌<◌, Bool, true, List, [], ◌∷◌, ◌++◌, Option, Some, None, map, refl, sym, ap}
+use Rattle.iri_link.proofs.Common.{◌∙◌, subst, arith, append_assoc, list_all, All, str_to_ascii_lowercase, IsUtf8, both}
 use Rattle.iri_link.proofs.Common.{nat_tests, append-nil, IsUtf8-nil, delimited-utf8, All-append, All-nil, All-cons, is_blank, is_pair_char}
 use Rattle.iri_link.proofs.Common.{is_plain_char, is_blanks, is_token_char, is_token, IsQuoted, done, plain, pair, LinkParam, LinkValue}
 use Rattle.iri_link.proofs.Common.{IsValue, token, quoted, IsParam, bare, valued, IsParams, none, empty, param, IsLink, link, IsElement}
 use Rattle.iri_link.proofs.Common.{no_element, element, IsField, last, more}
 use Rattle.std.specs.Prelude.{⊤}
 use Rattle.std.specs.Char.{to_ascii_lowercase}
-use Rattle.std.proofs.lemmas.Str.Ascii.{lowercase-lowercase, lowercase_is}
+use Rattle.std.proofs.lemmas.Str.Ascii.{lowercase-lowercase}
 use Rattle.iri_grammar.proofs.splits.CharBoundaries.{text_after_delimiter, text_before_delimiter}
 use Rattle.iri_grammar.proofs.units.FirstUnits.{text_after_ascii}
+use Rattle.iri_link.proofs.LaxParams.{lowered_token}
 use Rattle.iri_link.proofs.RunLemmas.{blank-low, token-low}
 use Rattle.iri_link.proofs.Utf8Lemmas.{value-utf8}
 
@@ -38,29 +39,7 @@ token-pair c h = grind (arith, nat_tests)
 plain-pair : (c : ℕ) → is_plain_char c ≡ true → is_pair_char c ≡ true
 plain-pair c h = (both (is_pair_char c) _ h).0
 
-lowered-token_char : (c : ℕ) → is_token_char c ≡ true → is_token_char (to_ascii_lowercase c) ≡ true
-lowered-token_char c h =
-    elim (cases_lt c 65) [
-      | inl low ↦ rw ((lowercase_is c).1 low) h
-      | inr ge ↦ elim (cases_lt c 91) [
-        | inl capital ↦ rw ((lowercase_is c).0 (omega arith, omega arith)) (small c ge capital)
-        | inr high ↦ rw ((lowercase_is c).2 (omega arith)) h
-      ]
-    ]
-  where
-    small : (x : ℕ) → 65 ≤ x → x < 91 → is_token_char (x + 32) ≡ true
-    small x a b = grind (arith, nat_tests)
-
 -- ---- names
-lowered-token_chars : (n : List ℕ) → list_all is_token_char n ≡ true → list_all is_token_char (map to_ascii_lowercase n) ≡ true
-lowered-token_chars [] h = refl
-lowered-token_chars (c ∷ cs) h =
-    let k = both (is_token_char c) (list_all is_token_char cs) h in rw (lowered-token_char c k.0) (lowered-token_chars cs k.1)
-
-lowered-token : (n : List ℕ) → is_token n ≡ true → is_token (str_to_ascii_lowercase n) ≡ true
-lowered-token [] h = cc
-lowered-token (c ∷ cs) h = lowered-token_chars (c ∷ cs) h
-
 lowered-twice : (n : List ℕ) → str_to_ascii_lowercase (str_to_ascii_lowercase n) ≡ str_to_ascii_lowercase n
 lowered-twice [] = refl
 lowered-twice (c ∷ cs) = ap (λ x. x ∷ map to_ascii_lowercase (map to_ascii_lowercase cs)) (lowercase-lowercase c) ∙ ap (λ l. to_ascii_lowercase c ∷ l) (lowered-twice cs)
@@ -106,13 +85,13 @@ value-kept t v z (quoted w x q) u =
 
 -- ---- parameters
 param-kept : (p z : List ℕ) (q : LinkParam) → IsParam p q → IsUtf8 (p ++ z) → IsKeptParam q × IsUtf8 z
-param-kept p z q (bare n h) u = (record { token = lowered-token n h; small = lowered-twice n; value = tt }, token_after n z h u)
+param-kept p z q (bare n h) u = (record { token = lowered_token n ∙ h; small = lowered-twice n; value = tt }, token_after n z h u)
 param-kept p z q (valued n a b t v h ha hb hv) u =
     let e : (n ++ (a ++ 61 ∷ (b ++ t))) ++ z ≡ n ++ (a ++ 61 ∷ (b ++ (t ++ z))) =
     append_assoc n (a ++ 61 ∷ (b ++ t)) z ∙ ap (λ l. n ++ l) (append_assoc a (61 ∷ (b ++ t)) z ∙ ap (λ l. a ++ 61 ∷ l) (append_assoc b t z)) in
     let rest = token_after n (a ++ 61 ∷ (b ++ (t ++ z))) h (subst IsUtf8 e u) in
     let k = value-kept t v z hv (blanks_after b (t ++ z) hb (text_after_delimiter 61 a (b ++ (t ++ z)) (omega arith) rest)) in
-    (record { token = lowered-token n h; small = lowered-twice n; value = k.0 }, k.1)
+    (record { token = lowered_token n ∙ h; small = lowered-twice n; value = k.0 }, k.1)
 
 params-kept : (p z : List ℕ) (ps : List LinkParam) → IsParams p ps → IsUtf8 (p ++ z) → All IsKeptParam ps × IsUtf8 z
 params-kept p z ps none u = (All-nil IsKeptParam, u)

@@ -137,15 +137,22 @@ params_written (p ∷ ps) h =
     let w : is_writable p ≡ true = rw k.token (value_written p.value k.value) in
     rw w (ap (λ l. p ∷ l) (params_written ps (All-tail IsKeptParam p ps h)))
 
-links_written : (s : Tests) (ls : List LinkValue) → All (HasReference s) ls → All HasKeptParams ls → filter (has_reference s) (map with_writable ls) ≡ ls
-links_written s [] v k = refl
-links_written s (l ∷ ls) v k =
+links_written : (ls : List LinkValue) → All HasKeptParams ls → map with_writable ls ≡ ls
+links_written [] k = refl
+links_written (l ∷ ls) k =
+    ap (λ p. record { target = l.target; params = p } ∷ map with_writable ls) (params_written l.params (All-head HasKeptParams l ls k))
+    ∙ ap (λ r. l ∷ r) (links_written ls (All-tail HasKeptParams l ls k))
+
+references : (s : Tests) (ls : List LinkValue) → All (HasReference s) ls → filter (has_reference s) ls ≡ ls
+references s [] v = refl
+references s (l ∷ ls) v =
     let valid : has_reference s l ≡ true = ap is_none (All-head (HasReference s) l ls v) in
-    rw valid (ap (λ p. record { target = l.target; params = p } ∷ filter (has_reference s) (map with_writable ls)) (params_written l.params (All-head HasKeptParams l ls k))
-    ∙ ap (λ r. l ∷ r) (links_written s ls (All-tail (HasReference s) l ls v) (All-tail HasKeptParams l ls k)))
+    rw valid (ap (λ r. l ∷ r) (references s ls (All-tail (HasReference s) l ls v)))
+
+pub left-alike : (s : Tests) (x : List ℕ) → field_fault s x ≡ None → map with_writable (lax_reading (reads before_link) x).links ≡ links_in x
+left-alike s x h =
+    let f = links_of_faultless s x h in
+    ap (λ r. map with_writable r.links) (same s before_link x (faultless_text s x h).1) ∙ links_written (links_in x) (field-kept x (links_in x) f.field f.utf8)
 
 pub lax-alike : (s : Tests) (x : List ℕ) → field_fault s x ≡ None → lax_links_in s x ≡ links_in x
-lax-alike s x h =
-    let f = links_of_faultless s x h in
-    ap (λ r. filter (has_reference s) (map with_writable r.links)) (same s before_link x (faultless_text s x h).1)
-    ∙ links_written s (links_in x) f.valid (field-kept x (links_in x) f.field f.utf8)
+lax-alike s x h = ap (filter (has_reference s)) (left-alike s x h) ∙ references s (links_in x) (links_of_faultless s x h).valid

@@ -9,103 +9,68 @@ use Rattle.iri_link.specs.Readings.{Reading, of_links, of_params, of_value, more
 use Rattle.iri_link.specs.LaxReadings.{LaxPhase, reads, passed, passed_quoted, passed_pair, passing, lax_param_next, lax_next, lax_param}
 use Rattle.iri_link.specs.LaxReadings.{is_name_char, is_value_char}
 unfoldable use Rattle.iri_link.specs.LaxReadings.{lax_reading}
-use Rattle.iri_link.specs.declared.lax.Passing.{Passing}
-use Rattle.iri_link.specs.declared.lax.Passing.TheVariants.{Outer, Quoted, Pair}
-use Rattle.iri_link.specs.inside.LaxPieces.{EndsPassing, IsCommaAt, passing_phase, without_end}
+use Rattle.iri_link.specs.declared.walk.Passing.{Passing}
+use Rattle.iri_link.specs.declared.walk.Passing.TheVariants.{Outer, Quoted, Pair}
+use Rattle.iri_link.specs.inside.Pieces.{EndsPassing, IsCommaAt, passing_phase, without_end}
 use Rattle.iri_link.proofs.PhaseLemmas.{by_blank, skips, with_text, with_name}
 use Rattle.iri_link.proofs.RunLemmas.{when}
 
--- ---- between targets, names and values nothing is left of one
-abbrev is_between : LaxPhase → Bool
-is_between (reads before_link) = true
-is_between (reads after_param) = true
-is_between (reads after_semicolon) = true
-is_between (reads _) = false
-is_between passed = true
-is_between passed_quoted = true
-is_between passed_pair = true
-
-abbrev Bare : LaxPhase → List ℕ → Type 0
-Bare p t = with_text [] (lax_reading p t) ≡ lax_reading p t
-
-passing-between : (c : ℕ) → is_between (passing c) ≡ true
-passing-between c = when (c == 44) _ (λ k. rw k refl) (λ k. when (c == 34) _ (λ m. rw (k, m) refl) (λ m. rw (k, m) refl))
-
-param_next-between : (c : ℕ) → is_between (lax_param_next c) ≡ true
-param_next-between c = when (c == 59) _ (λ k. rw k refl) (λ k. rw k (passing-between c))
-
-bare : (p : LaxPhase) → is_between p ≡ true → (t : List ℕ) → Bare p t
-unfolding lax_reading
-bare p h [] = refl
-bare (reads before_link) h (c ∷ cs) =
-    when (c == 60) (Bare (reads before_link) (c ∷ cs)) (λ k. rw k refl)
-    (λ k. when (is_blank c) (Bare (reads before_link) (c ∷ cs)) (λ b. rw (k, b) (bare (reads before_link) refl cs)) (λ b. rw (k, b) (bare (passing c) (passing-between c) cs)))
-bare (reads after_param) h (c ∷ cs) =
-    when (is_blank c) (Bare (reads after_param) (c ∷ cs)) (λ b. rw b (bare (reads after_param) refl cs)) (λ b. rw b (bare (lax_param_next c) (param_next-between c) cs))
-bare (reads after_semicolon) h (c ∷ cs) =
-    let P : Type 0 = Bare (reads after_semicolon) (c ∷ cs) in
-    when (is_name_char c) P (λ k. rw k refl) (λ k. when (c == 61) P (λ m. rw (k, m) refl)
-    (λ m. when (is_blank c) P (λ b. rw (k, m, b) (bare (reads after_semicolon) refl cs)) (λ b. rw (k, m, b) (bare (lax_param_next c) (param_next-between c) cs))))
-bare passed h (c ∷ cs) = bare (passing c) (passing-between c) cs
-bare passed_quoted h (c ∷ cs) =
-    when (c == 34) (Bare passed_quoted (c ∷ cs)) (λ k. rw k (bare passed refl cs))
-    (λ k. when (c == 92) (Bare passed_quoted (c ∷ cs)) (λ m. rw (k, m) (bare passed_pair refl cs)) (λ m. rw (k, m) (bare passed_quoted refl cs)))
-bare passed_pair h (c ∷ cs) = bare passed_quoted refl cs
-bare (reads in_target) h (c ∷ cs) = cc
-bare (reads in_name) h (c ∷ cs) = cc
-bare (reads after_name) h (c ∷ cs) = cc
-bare (reads after_equals) h (c ∷ cs) = cc
-bare (reads in_token) h (c ∷ cs) = cc
-bare (reads in_quoted) h (c ∷ cs) = cc
-bare (reads in_pair) h (c ∷ cs) = cc
-
--- before a link-value and in what is passed over no parameter is left either
-abbrev is_outside : LaxPhase → Bool
-is_outside (reads before_link) = true
-is_outside (reads _) = false
-is_outside passed = true
-is_outside passed_quoted = true
-is_outside passed_pair = true
-
+-- ---- what nothing is left of
+-- before a link-value and in what is passed over, of a parameter
 abbrev Outside : LaxPhase → List ℕ → Type 0
 Outside p t = of_links (lax_reading p t).links ≡ lax_reading p t
 
-passing-outside : (c : ℕ) → is_outside (passing c) ≡ true
-passing-outside c = when (c == 44) _ (λ k. rw k refl) (λ k. when (c == 34) _ (λ m. rw (k, m) refl) (λ m. rw (k, m) refl))
+passing-outside : (c : ℕ) (cs : List ℕ) → Outside (reads before_link) cs → Outside passed cs → Outside passed_quoted cs → Outside (passing c) cs
+passing-outside c cs f g h = when (c == 44) _ (λ k. rw k f) (λ k. when (c == 34) _ (λ m. rw (k, m) h) (λ m. rw (k, m) g))
 
-outside : (p : LaxPhase) → is_outside p ≡ true → (t : List ℕ) → Outside p t
+outside : (t : List ℕ) → Outside (reads before_link) t × Outside passed t × Outside passed_quoted t × Outside passed_pair t
 unfolding lax_reading
-outside p h [] = refl
-outside (reads before_link) h (c ∷ cs) =
-    when (c == 60) (Outside (reads before_link) (c ∷ cs)) (λ k. rw k refl)
-    (λ k. when (is_blank c) (Outside (reads before_link) (c ∷ cs)) (λ b. rw (k, b) (outside (reads before_link) refl cs)) (λ b. rw (k, b) (outside (passing c) (passing-outside c) cs)))
-outside passed h (c ∷ cs) = outside (passing c) (passing-outside c) cs
-outside passed_quoted h (c ∷ cs) =
-    when (c == 34) (Outside passed_quoted (c ∷ cs)) (λ k. rw k (outside passed refl cs))
-    (λ k. when (c == 92) (Outside passed_quoted (c ∷ cs)) (λ m. rw (k, m) (outside passed_pair refl cs)) (λ m. rw (k, m) (outside passed_quoted refl cs)))
-outside passed_pair h (c ∷ cs) = outside passed_quoted refl cs
-outside (reads after_param) h (c ∷ cs) = cc
-outside (reads after_semicolon) h (c ∷ cs) = cc
-outside (reads in_target) h (c ∷ cs) = cc
-outside (reads in_name) h (c ∷ cs) = cc
-outside (reads after_name) h (c ∷ cs) = cc
-outside (reads after_equals) h (c ∷ cs) = cc
-outside (reads in_token) h (c ∷ cs) = cc
-outside (reads in_quoted) h (c ∷ cs) = cc
-outside (reads in_pair) h (c ∷ cs) = cc
+outside [] = (refl, refl, refl, refl)
+outside (c ∷ cs) =
+    let i = outside cs in
+    let p = passing-outside c cs i.0 i.1 i.2 in
+    let start : Type 0 = Outside (reads before_link) (c ∷ cs) in
+    let string : Type 0 = Outside passed_quoted (c ∷ cs) in (
+      when (c == 60) start (λ k. rw k refl) (λ k. when (is_blank c) start (λ b. rw (k, b) i.0) (λ b. rw (k, b) p)),
+      p,
+      when (c == 34) string (λ k. rw k i.1) (λ k. when (c == 92) string (λ m. rw (k, m) i.3) (λ m. rw (k, m) i.2)),
+      i.2,
+    )
+
+-- after a parameter and a semicolon, of a target, a name and a value
+abbrev Bare : LaxPhase → List ℕ → Type 0
+Bare p t = with_text [] (lax_reading p t) ≡ lax_reading p t
+
+next-bare : (c : ℕ) (cs : List ℕ) → Bare (reads after_semicolon) cs → Bare (lax_param_next c) cs
+next-bare c cs h =
+    let o = outside cs in
+    let p = passing-outside c cs o.0 o.1 o.2 in
+    when (c == 59) _ (λ k. rw k h) (λ k. rw k (ap (with_text []) (sym p) ∙ p))
+
+bare : (t : List ℕ) → Bare (reads after_param) t × Bare (reads after_semicolon) t
+unfolding lax_reading
+bare [] = (refl, refl)
+bare (c ∷ cs) =
+    let i = bare cs in
+    let after = next-bare c cs i.1 in
+    let P : Type 0 = Bare (reads after_param) (c ∷ cs) in
+    let Q : Type 0 = Bare (reads after_semicolon) (c ∷ cs) in (
+      when (is_blank c) P (λ b. rw b i.0) (λ b. rw b after),
+      when (is_name_char c) Q (λ k. rw k refl) (λ k. when (c == 61) Q (λ m. rw (k, m) refl) (λ m. when (is_blank c) Q (λ b. rw (k, m, b) i.1) (λ b. rw (k, m, b) after))),
+    )
 
 pub link-outside : (t : List ℕ) → Outside (reads before_link) t
-link-outside = outside (reads before_link) refl
+link-outside t = (outside t).0
 
 pub param-bare : (t : List ℕ) → Bare (reads after_param) t
-param-bare = bare (reads after_param) refl
+param-bare t = (bare t).0
 
 named-bare : (t : List ℕ) → with_name [] (lax_reading (reads after_name) t) ≡ lax_reading (reads after_name) t
 unfolding lax_reading
 named-bare [] = refl
 named-bare (c ∷ cs) =
     let P : Type 0 = with_name [] (lax_reading (reads after_name) (c ∷ cs)) ≡ lax_reading (reads after_name) (c ∷ cs) in
-    let b = bare (lax_param_next c) (param_next-between c) cs in
+    let b = next-bare c cs (bare cs).1 in
     when (c == 61) P (λ k. rw k refl)
     (λ k. when (is_blank c) P (λ m. rw (k, m) (named-bare cs)) (λ m. rw (k, m) (ap (with_name []) (sym b) ∙ b)))
 

@@ -24,7 +24,7 @@ lowered_all : (n : List ℕ) → list_all is_token_char (map to_ascii_lowercase 
 lowered_all [] = refl
 lowered_all (c ∷ cs) = ap (λ b. b && list_all is_token_char (map to_ascii_lowercase cs)) (lowered_same c) ∙ ap (λ b. is_token_char c && b) (lowered_all cs)
 
-lowered_token : (n : List ℕ) → is_token (str_to_ascii_lowercase n) ≡ is_token n
+pub lowered_token : (n : List ℕ) → is_token (str_to_ascii_lowercase n) ≡ is_token n
 lowered_token [] = refl
 lowered_token (c ∷ cs) = lowered_all (c ∷ cs)
 

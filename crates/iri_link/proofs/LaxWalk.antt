@@ -12,8 +12,7 @@ unfoldable use Rattle.iri_link.specs.LaxReadings.{lax_reading}
 use Rattle.iri_link.specs.Readings.{Reading, of_links, of_value}
 use Rattle.iri_link.specs.declared.piece.Piece.{Piece}
 use Rattle.iri_link.specs.declared.piece.Piece.TheVariants.{Target, Param, NoParam, Comma}
-use Rattle.iri_link.specs.inside.LaxPieces.{IsLaxValue, IsPieceOf, LaxComes, LaxEnds, without_end}
-use Rattle.iri_link.specs.inside.Pieces.{Left}
+use Rattle.iri_link.specs.inside.Pieces.{Comes, Ends, IsPieceOf, IsValueAt, Left, without_end}
 use Rattle.iri_link.specs.inside.ReadParams.{LacksEquals, ReadsEquals}
 use Rattle.iri_link.specs.inside.ReadQuoted.{IsCutOpen}
 use Rattle.iri_link.proofs.LaxLemmas.{lax-blanks, lax-equals, lax-named, lax-named_ends, lax-nameless, lax-open, lax-quoted, lax-semicolon, lax-target, lax-unnamed, lax-unquoted, lax-value}
@@ -49,34 +48,34 @@ module _ (t a next : List ℕ) (h : IsRun is_blank t a next) where
   over_before = ap (lax_reading (reads before_link)) h.whole ∙ lax-blanks before_link refl a next h.all
 
   pub lax_comma_before : (rest : List ℕ) → first_passes (λ c. c == 60) next ≡ false → (lax_reading passed next ≡ lax_reading (reads before_link) rest) × (length rest < length next)
-      → LaxComes false t Comma rest
+      → Comes false t Comma rest
   lax_comma_before rest k m = record {
     same = ap (left_of []) (over_before ∙ (begins_passed next h.ends k ∙ m.0));
     named = tt;
     shorter = omega (arith, m.1, ap length h.whole, length-append a next);
   }
 
-  pub lax_end_before : first_passes (λ c. c == 60) next ≡ false → lax_reading passed next ≡ of_links [] → LaxEnds false t
+  pub lax_end_before : first_passes (λ c. c == 60) next ≡ false → lax_reading passed next ≡ of_links [] → Ends false t
   lax_end_before k m = ap (left_of []) (over_before ∙ (begins_passed next h.ends k ∙ m))
 
-  pub lax_open_before : (inner : List ℕ) → next ≡ 60 ∷ inner → None ≡ after 62 inner → LaxEnds false t
+  pub lax_open_before : (inner : List ℕ) → next ≡ 60 ∷ inner → None ≡ after 62 inner → Ends false t
   lax_open_before inner e none =
       ap (left_of []) (over_before ∙ (ap (lax_reading (reads before_link)) e ∙ open_nothing inner (none-lacks 62 inner none)))
 
-  pub lax_target_before : (inner u : Bor (List ℕ)) (rest : List ℕ) → next ≡ 60 ∷ inner.now → u.now ≡ before 62 inner.now → Some rest ≡ after 62 inner.now
-      → LaxComes false t (Target inner u) rest
+  pub lax_target_before : (inner : List ℕ) (u : Bor (List ℕ)) (rest : List ℕ) → next ≡ 60 ∷ inner → u.now ≡ before 62 inner → Some rest ≡ after 62 inner
+      → Comes false t (Target u) rest
   lax_target_before inner u rest e is r =
-      let has = some-lacks 62 inner.now rest r in
-      let whole : inner.now ≡ u.now ++ 62 ∷ rest =
-      sym (joined 62 inner.now) ∙ (ap (λ o. before 62 inner.now ++ delimited 62 o) (sym r) ∙ ap (λ l. l ++ 62 ∷ rest) (sym is)) in
-      let closed : lacks 62 u.now ≡ true = ap (lacks 62) is ∙ before-lacks 62 inner.now in
-      let given : lax_reading (reads in_target) inner.now ≡ with_text u.now (lax_reading (reads after_param) rest) =
+      let has = some-lacks 62 inner rest r in
+      let whole : inner ≡ u.now ++ 62 ∷ rest =
+      sym (joined 62 inner) ∙ (ap (λ o. before 62 inner ++ delimited 62 o) (sym r) ∙ ap (λ l. l ++ 62 ∷ rest) (sym is)) in
+      let closed : lacks 62 u.now ≡ true = ap (lacks 62) is ∙ before-lacks 62 inner in
+      let given : lax_reading (reads in_target) inner ≡ with_text u.now (lax_reading (reads after_param) rest) =
       ap (lax_reading (reads in_target)) whole ∙ lax-target u.now rest closed in
       record {
-        same = ap (left_of []) (over_before ∙ (ap (lax_reading (reads before_link)) e ∙ (closed_link inner.now has
+        same = ap (left_of []) (over_before ∙ (ap (lax_reading (reads before_link)) e ∙ (closed_link inner has
             ∙ ap (λ o. of_links (record { target = o.text; params = o.params } ∷ o.links)) given)));
         named = tt;
-        shorter = omega (arith, after-shorter 62 inner.now rest r, ap length e, ap length h.whole, length-append a next);
+        shorter = omega (arith, after-shorter 62 inner rest r, ap length e, ap length h.whole, length-append a next);
       }
 
 -- ---- after a target or a parameter, over blanks
@@ -90,17 +89,17 @@ module _ (t a next : List ℕ) (h : IsRun is_blank t a next) where
   over_inside = ap (lax_reading (reads after_param)) h.whole ∙ lax-blanks after_param refl a next h.all
 
   pub lax_comma_inside : (rest : List ℕ) → first_passes (λ c. c == 59) next ≡ false → (lax_reading passed next ≡ lax_reading (reads before_link) rest) × (length rest < length next)
-      → LaxComes true t Comma rest
+      → Comes true t Comma rest
   lax_comma_inside rest k m = record {
     same = ap left_inside (over_inside ∙ (inside_passed next h.ends k ∙ (m.0 ∙ sym (link-outside rest))));
     named = tt;
     shorter = omega (arith, m.1, ap length h.whole, length-append a next);
   }
 
-  pub lax_end_inside : first_passes (λ c. c == 59) next ≡ false → lax_reading passed next ≡ of_links [] → LaxEnds true t
+  pub lax_end_inside : first_passes (λ c. c == 59) next ≡ false → lax_reading passed next ≡ of_links [] → Ends true t
   lax_end_inside k m = ap left_inside (over_inside ∙ (inside_passed next h.ends k ∙ m))
 
-  pub lax_piece_inside : (x : Piece) (rest : List ℕ) → LaxComes true next x rest → LaxComes true t x rest
+  pub lax_piece_inside : (x : Piece) (rest : List ℕ) → Comes true next x rest → Comes true t x rest
   lax_piece_inside x rest k = record {
     same = ap left_inside over_inside ∙ k.same;
     named = k.named;
@@ -108,7 +107,7 @@ module _ (t a next : List ℕ) (h : IsRun is_blank t a next) where
   }
 
 -- ---- a value
-pub quoted_lax : (t inner raw rest : List ℕ) → t ≡ 34 ∷ inner → IsCutOpen inner raw rest → IsLaxValue t rest (unquoted raw)
+pub quoted_lax : (t inner raw rest : List ℕ) → t ≡ 34 ∷ inner → IsCutOpen inner raw rest → IsValueAt t rest (unquoted raw)
 quoted_lax t inner raw rest e h = record {
   same = ap (lax_reading (reads after_equals)) e ∙ (lax-open inner ∙ (lax-quoted false inner
       ∙ (ap (λ z. with_text (unquoted z) (lax_reading (reads after_param) (drop (suc (quoted_len false inner)) inner))) (sym h.prefix)
@@ -117,7 +116,7 @@ quoted_lax t inner raw rest e h = record {
 }
 
 pub unquoted_lax : (t run rest v : List ℕ) → first_passes is_blank t ≡ false → first_passes (λ c. c == 34) t ≡ false → IsRun is_value_char t run rest → v ≡ without_end run
-    → IsLaxValue t rest v
+    → IsValueAt t rest v
 unquoted_lax t run rest v b m h e = record {
   same = lax-unquoted t b m ∙ (ap (lax_reading (reads in_token)) h.whole ∙ (lax-value run rest h.all h.ends
       ∙ ap (λ z. with_text z (lax_reading (reads after_param) rest)) (sym e)));
@@ -135,7 +134,7 @@ no_blanks : (a y t : List ℕ) → t ≡ a ++ y → list_all is_blank a ≡ true
 no_blanks [] y t e h k = e
 no_blanks (c ∷ cs) y t e h k = let w : first_passes is_blank t ≡ true = ap (first_passes is_blank) e ∙ (both (is_blank c) (list_all is_blank cs) h).0 in cc
 
-valued : (rest start tail v : List ℕ) → ReadsEquals rest start → IsLaxValue start tail v → FollowsName rest tail (Some v)
+valued : (rest start tail v : List ℕ) → ReadsEquals rest start → IsValueAt start tail v → FollowsName rest tail (Some v)
 valued rest start tail v k r =
     let after : lax_reading (reads after_equals) (k.b ++ start) ≡ with_text v (lax_reading (reads after_param) tail) =
     lax-blanks after_equals refl k.b start k.following ∙ r.same in
@@ -163,7 +162,7 @@ unvalued rest k =
 one_piece : (x : Piece) (q : LinkParam) (whole tail : List ℕ) → IsPieceOf x q → left_inside (lax_reading (reads after_param) whole) ≡ record {
   params = cond (is_writable q) (q ∷ filter is_writable (lax_reading (reads after_param) tail).params) (filter is_writable (lax_reading (reads after_param) tail).params);
   links = map with_writable (lax_reading (reads after_param) tail).links;
-} → length tail < length whole → LaxComes true whole x tail
+} → length tail < length whole → Comes true whole x tail
 one_piece (Param p) q whole tail h e short =
     let l = left_inside (lax_reading (reads after_param) tail) in
     record {
@@ -174,7 +173,7 @@ one_piece (Param p) q whole tail h e short =
 one_piece NoParam q whole tail h e short =
     let l = left_inside (lax_reading (reads after_param) tail) in
     record { same = e ∙ ap (λ b. record { params = cond b (q ∷ l.params) l.params; links = l.links }) h; named = tt; shorter = short }
-one_piece (Target inner u) q whole tail h e short = absurd h
+one_piece (Target u) q whole tail h e short = absurd h
 one_piece Comma q whole tail h e short = absurd h
 
 module _ (whole following b next name rest : List ℕ) (e : whole ≡ 59 ∷ following) (h : IsRun is_blank following b next) (r : IsRun is_name_char next name rest) where
@@ -184,10 +183,10 @@ module _ (whole following b next name rest : List ℕ) (e : whole ≡ 59 ∷ fol
       ∙ (lax-blanks after_semicolon refl b next h.all ∙ ap (lax_reading (reads after_semicolon)) r.whole)))
 
   param_comes : (x : Piece) (v : Option (List ℕ)) (tail : List ℕ) → FollowsName rest tail v → IsPieceOf x (record { name = str_to_ascii_lowercase name; value = v })
-      → LaxComes true whole x tail
+      → Comes true whole x tail
   param_comes x v tail d is =
       let short : length tail < length whole = omega (arith, d.short, ap length e, ap length h.whole, length-append b next, ap length r.whole, length-append name rest) in
-      elim name as (λ n. n ≡ name → IsPieceOf x (record { name = str_to_ascii_lowercase n; value = v }) → LaxComes true whole x tail) [
+      elim name as (λ n. n ≡ name → IsPieceOf x (record { name = str_to_ascii_lowercase n; value = v }) → Comes true whole x tail) [
         | [] ↦ λ n i.
             let same : next ≡ rest = r.whole ∙ ap (λ z. z ++ rest) (sym n) in
             one_piece x (record { name = []; value = v }) whole tail i
@@ -199,9 +198,9 @@ module _ (whole following b next name rest : List ℕ) (e : whole ≡ 59 ∷ fol
             ∙ (lax-named c cs rest (subst (λ z. list_all is_name_char z ≡ true) (sym n) r.all) r.ends ∙ ap (λ o. lax_param c (with_name cs o)) d.named)))) short
       ] refl is
 
-  pub valued_comes : (x : Piece) (start tail v : List ℕ) → ReadsEquals rest start → IsLaxValue start tail v → IsPieceOf x (record { name = str_to_ascii_lowercase name; value = Some v })
-      → LaxComes true whole x tail
+  pub valued_comes : (x : Piece) (start tail v : List ℕ) → ReadsEquals rest start → IsValueAt start tail v → IsPieceOf x (record { name = str_to_ascii_lowercase name; value = Some v })
+      → Comes true whole x tail
   valued_comes x start tail v k l is = param_comes x (Some v) tail (valued rest start tail v k l) is
 
-  pub bare_comes : (x : Piece) → LacksEquals rest → IsPieceOf x (record { name = str_to_ascii_lowercase name; value = None }) → LaxComes true whole x rest
+  pub bare_comes : (x : Piece) → LacksEquals rest → IsPieceOf x (record { name = str_to_ascii_lowercase name; value = None }) → Comes true whole x rest
   bare_comes x k is = param_comes x None rest (unvalued rest k) is

@@ -14,7 +14,7 @@ pub mod GrammarLemmas
 pub mod FieldLemmas
 pub mod EscapeLemmas
 pub mod WrittenTexts
-pub mod WalkLemmas
+pub mod FaultLemmas
 pub mod LaxLemmas
 pub mod LaxParams
 pub mod LaxWalk

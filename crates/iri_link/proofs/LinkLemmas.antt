@@ -1,19 +1,17 @@
 -- Link-values, kept piece by piece.
-use Rattle.iri_link.proofs.Common.{◌≡◌, ℕ, zero, suc, arith, Bool, true, false, List, [], ◌∷◌, ◌++◌, None, length, map, refl, sym, ap, ◌∙◌}
-use Rattle.iri_link.proofs.Common.{append_assoc, append-nil, Tests, LinkParam, LinkValue, before_link, fault_from, earlier}
+use Rattle.iri_link.proofs.Common.{◌≡◌, ℕ, zero, suc, ◌<◌, arith, Bool, false, List, [], ◌∷◌, ◌++◌, None, length, map, refl, sym, ap, ◌∙◌, subst}
+use Rattle.iri_link.proofs.Common.{append_assoc, append-nil, All, All-head, All-tail, Tests, LinkParam, LinkValue, HasReference, field_fault}
 use Rattle.iri_link.proofs.Common.{CanonMode, resolved_in, link_of}
 use Rattle.std.specs.Prelude.{slice_set, slice_index_or}
 use Rattle.iri_normal.specs.NormalForm.{canonical_in}
 use Rattle.iri_link.specs.Readings.{links_in}
-use Rattle.iri_link.specs.Refusals.{KeepsTarget}
-use Rattle.iri_link.specs.declared.halt.Halt.{Halt}
-use Rattle.iri_link.specs.declared.halt.Halt.TheVariants.{Fault as Halted, Memory}
 use Rattle.iri_link.specs.declared.link.Link.{Link}
 use Rattle.iri_link.specs.declared.piece.Piece.{Piece}
 use Rattle.iri_link.specs.declared.piece.Piece.TheVariants.{Target, Param as ParamPiece, NoParam, Comma}
-use Rattle.iri_link.specs.inside.Halts.{HaltsIn, HaltsPast, IsFault}
-use Rattle.iri_link.specs.inside.KeptLinks.{ReadsField, grown, kept_past}
-use Rattle.iri_link.specs.inside.Pieces.{Comes, Ends, Keeps, Left, left_at, param_said, phase_at, piece_fault, stands, with_piece}
+use Rattle.iri_link.specs.inside.KeptLinks.{IsValid, Wants, grown, kept_past}
+use Rattle.iri_link.specs.inside.Pieces.{Comes, Ends, Left, left_at, param_said, stands, with_piece}
+use Rattle.iri_link.proofs.FieldLemmas.{links_of_faultless}
+use Rattle.iri_link.proofs.LaxLaws.{left-alike}
 
 -- ---- the last link-value grows
 grown-none : (ls : List LinkValue) → grown ls [] ≡ ls
@@ -44,13 +42,22 @@ grown_stored (k ∷ m ∷ ls) zero l new q n at is = absurd (omega (arith, n))
 grown_stored (k ∷ m ∷ ls) (suc i) l new q n at is = ap (λ r. link_of k ∷ r) (grown_stored (m ∷ ls) i l new q (omega (arith, n)) at is)
 
 -- ---- what is kept, and what is left
+nothing_ends : (xs : List LinkValue) (y : LinkValue) (ys : List LinkValue) → xs ++ y ∷ ys ≡ [] → ⊥
+nothing_ends [] y ys e = cc
+nothing_ends (x ∷ xs) y ys e = cc
+
+-- the last of the link-values that are stored
+pub some_stored : (ls : List Link) → 0 < length ls → map link_of ls ≡ [] → ⊥
+some_stored [] lt e = absurd (omega (arith, lt))
+some_stored (l ∷ ls) lt e = cc
+
 module _ (s : Tests) (mode : CanonMode) (base : List ℕ) where
   pub all_kept : List LinkValue → Left → List LinkValue
   all_kept ls l = grown ls l.params ++ map (resolved_in s mode base) l.links
 
   kept-piece : (ls : List LinkValue) (x : Piece) (l : Left) → all_kept ls (with_piece x l) ≡ all_kept (kept_past s mode base ls x) l
   unfolding all_kept
-  kept-piece ls (Target inner u) l =
+  kept-piece ls (Target u) l =
       let ms = map (resolved_in s mode base) l.links in
       let canon = canonical_in s mode base u.now in
       let r : LinkValue = record { target = canon; params = l.params } in
@@ -60,59 +67,50 @@ module _ (s : Tests) (mode : CanonMode) (base : List ℕ) where
   kept-piece ls NoParam l = refl
   kept-piece ls Comma l = refl
 
-  -- a walk over a text that stands before t, where these link-values are kept
+  -- what takes memory is kept
+  wanted-kept : (ls : List LinkValue) (x : Piece) (l : Left) → Wants ls x → all_kept ls (with_piece x l) ≡ [] → ⊥
+  unfolding all_kept
+  wanted-kept ls (Target u) l w e = nothing_ends (grown ls []) (record { target = canonical_in s mode base u.now; params = l.params }) (map (resolved_in s mode base) l.links) e
+  wanted-kept [] (ParamPiece p) l w e = w refl
+  wanted-kept (k ∷ []) (ParamPiece p) l w e = cc
+  wanted-kept (k ∷ m ∷ ls) (ParamPiece p) l w e = cc
+  wanted-kept ls NoParam l w e = absurd w
+  wanted-kept ls Comma l w e = absurd w
+
+  -- a walk over a text without a fault that stands before t, where these link-values are kept
   pub record Kept (text : List ℕ) (inside : Bool) (t : List ℕ) (ls : List LinkValue) : Type 0 where
-    pub goes : fault_from s before_link text ≡ fault_from s (phase_at inside) t
-    pub kept : fault_from s (phase_at inside) t ≡ None → map (resolved_in s mode base) (links_in text) ≡ all_kept ls (left_at inside t)
-    pub keeps : Keeps s inside text t
+    pub kept : map (resolved_in s mode base) (links_in text) ≡ all_kept ls (left_at inside t)
+    pub valid : All (HasReference s) (left_at inside t).links
 
-  pub kept_none : (text : List ℕ) (ls : List LinkValue) → ls ≡ [] → Kept text false text ls
+  pub kept_none : (text : List ℕ) (ls : List LinkValue) → field_fault s text ≡ None → ls ≡ [] → Kept text false text ls
   unfolding all_kept
-  kept_none text ls e = record { goes = refl; kept = λ _. rw e refl; keeps = λ k. k }
+  kept_none text ls h e =
+      let same = sym (left-alike s text h) in
+      rw e (record {
+        kept = ap (map (resolved_in s mode base)) same;
+        valid = subst (All (HasReference s)) same (links_of_faultless s text h).valid;
+      })
 
-  pub kept_all : (text : List ℕ) (p : Bool) (t : List ℕ) (ls : List LinkValue) → Kept text p t ls → Ends p t → ReadsField s mode base text ls
+  pub kept_all : (text : List ℕ) (p : Bool) (t : List ℕ) (ls : List LinkValue) → Kept text p t ls → Ends p t → ls ≡ map (resolved_in s mode base) (links_in text)
   unfolding all_kept
-  kept_all text p t ls k e =
-      let none = e.faultless s in record {
-        faultless = k.goes ∙ none;
-        kept = sym (k.kept none ∙ (ap (all_kept ls) (e.none_left s) ∙ (append-nil (grown ls []) ∙ grown-none ls)));
-      }
+  kept_all text p t ls k e = sym (k.kept ∙ (ap (all_kept ls) e ∙ (append-nil (grown ls []) ∙ grown-none ls)))
 
-  -- a fault of what is left is the first
-  pub kept_fault : (e : Halt) (text : List ℕ) (p : Bool) (t : List ℕ) (ls : List LinkValue) → Kept text p t ls
-      → IsFault e (fault_from s (phase_at p) t) → HaltsIn s text e
-  kept_fault (Halted i r) text p t ls k is = k.goes ∙ is
-  kept_fault Memory text p t ls k is = absurd is
+  valid-piece : (x : Piece) (l : Left) → All (HasReference s) (with_piece x l).links → IsValid s x × All (HasReference s) l.links
+  valid-piece (Target u) l h =
+      let link : LinkValue = record { target = u.now; params = l.params } in
+      (All-head (HasReference s) link l.links h, All-tail (HasReference s) link l.links h)
+  valid-piece (ParamPiece p) l h = (tt, h)
+  valid-piece NoParam l h = (tt, h)
+  valid-piece Comma l h = (tt, h)
 
   -- ---- a piece comes
   module _ (text : List ℕ) (p : Bool) (t : List ℕ) (ls : List LinkValue) (k : Kept text p t ls) (x : Piece) (rest : List ℕ) (c : Comes p t x rest) where
-    keeps_past : (q : Bool) → KeepsTarget s text → Keeps s q text rest
-    keeps_past true h = h
-    keeps_past false h = λ _. h
+    pub kept_more : (q : Bool) (new : List LinkValue) → (IsValid s x → new ≡ kept_past s mode base ls x) → q ≡ stands x → Kept text q rest new
+    kept_more q new h is =
+        let v = valid-piece x (left_at (stands x) rest) (subst (λ l. All (HasReference s) l.links) c.same k.valid) in
+        rw (is, h v.0) (record { kept = k.kept ∙ (ap (all_kept ls) c.same ∙ kept-piece ls x (left_at (stands x) rest)); valid = v.1 })
 
-    keeps_before : (q : Bool) → (KeepsTarget s t → KeepsTarget s text) → Keeps s q t rest → Keeps s q text rest
-    keeps_before true f h = f h
-    keeps_before false f h = λ m. f (h m)
-
-    keeps_on : piece_fault s x ≡ None → Keeps s (stands x) text rest
-    keeps_on none =
-        elim p as (λ b. p ≡ b → Keeps s b text t → Keeps s (stands x) text rest) [
-          | true ↦ λ _. keeps_past (stands x)
-          | false ↦ λ e f. keeps_before (stands x) f (c.keeps s e none)
-        ] refl k.keeps
-
-    goes_on : piece_fault s x ≡ None → fault_from s (phase_at p) t ≡ fault_from s (phase_at (stands x)) rest
-    goes_on none = c.goes s ∙ ap (λ o. earlier o (fault_from s (phase_at (stands x)) rest)) none
-
-    pub kept_more : (q : Bool) (new : List LinkValue) → (piece_fault s x ≡ None) × (new ≡ kept_past s mode base ls x) → q ≡ stands x → Kept text q rest new
-    kept_more q new h is = rw (is, h.1) (record {
-      goes = k.goes ∙ goes_on h.0;
-      kept = λ v.
-          k.kept (goes_on h.0 ∙ v) ∙ (ap (all_kept ls) (c.reads s v) ∙ kept-piece ls x (left_at (stands x) rest));
-      keeps = keeps_on h.0;
-    })
-
-    -- a piece that isn't kept
-    pub kept_halt : (e : Halt) → HaltsPast s e x → HaltsIn s text e
-    kept_halt (Halted i r) h = k.goes ∙ (c.goes s ∙ ap (λ o. earlier o (fault_from s (phase_at (stands x)) rest)) h.0)
-    kept_halt Memory h = let m = keeps_on h.0 in rw h.1 at m
+    -- a piece that isn't kept for want of memory
+    pub kept_some : Wants ls x → links_in text ≡ [] → ⊥
+    kept_some w none =
+        wanted-kept ls x (left_at (stands x) rest) w (sym (k.kept ∙ ap (all_kept ls) c.same) ∙ ap (map (resolved_in s mode base)) none)

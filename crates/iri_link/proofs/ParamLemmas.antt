@@ -1,14 +1,26 @@
 -- Parameters, read piece by piece.
-use Rattle.iri_link.proofs.Common.{IsValue, token, quoted, unquoted, IsCutQuoted, ◌≡◌, ℕ, length, true, false, List, [], ◌∷◌, ◌++◌, Option, Some, None, refl, sym, ap, ◌∙◌, subst, append_assoc}
+use Rattle.iri_link.proofs.Common.{IsValue, token, quoted, unquoted, ◌≡◌, ℕ, length, true, false, List, [], ◌∷◌, ◌++◌, Option, Some, None, refl, sym, ap, ◌∙◌, subst, append_assoc}
 use Rattle.iri_link.proofs.Common.{◌==◌, str_to_ascii_lowercase, Tests, by_test, is_blank, is_token_char, is_token}
-use Rattle.iri_link.proofs.Common.{bare, valued, Phase, after_param, after_semicolon, in_name, after_name}
-use Rattle.iri_link.proofs.Common.{after_equals, fault_from, first_passes, IsRun, ReadsValue}
-use Rattle.iri_link.specs.inside.ReadParams.{ReadsEquals, ReadsParam}
-use Rattle.iri_link.specs.inside.Halts.{IsFault}
+use Rattle.iri_link.proofs.Common.{bare, valued, after_param, after_semicolon, in_name, after_name}
+use Rattle.iri_link.proofs.Common.{after_equals, fault_from, first_passes, IsRun, LinkParam, IsParam}
+use Rattle.iri_link.specs.inside.ReadParams.{ReadsEquals}
 use Rattle.iri_link.specs.declared.error.LinkKind.TheVariants.{NoParam, NoValue}
-use Rattle.iri_link.specs.declared.halt.Halt.{Halt}
 use Rattle.iri_link.proofs.PhaseLemmas.{fault-blanks, name-given, name-equals, value-given, string-given}
-use Rattle.iri_link.proofs.QuotedLemmas.{unquoted-token}
+use Rattle.iri_link.proofs.QuotedLemmas.{IsCutQuoted, unquoted-token}
+
+-- t is a value and a rest
+pub record ReadsValue (t rest v : List ℕ) : Type 0 where
+  pub prefix : List ℕ
+  pub whole : t ≡ prefix ++ rest
+  pub value : IsValue prefix v
+  pub goes : (s : Tests) → fault_from s after_equals t ≡ fault_from s after_param rest
+
+-- t is a parameter and a rest
+pub record ReadsParam (t rest : List ℕ) (q : LinkParam) : Type 0 where
+  pub prefix : List ℕ
+  pub whole : t ≡ prefix ++ rest
+  pub param : IsParam prefix q
+  pub goes : (s : Tests) → fault_from s in_name t ≡ fault_from s after_param rest
 
 -- ---- `=`
 pub equals_read : (t a next following b rest : List ℕ) → IsRun is_blank t a next → next ≡ 61 ∷ following → IsRun is_blank following b rest → ReadsEquals t rest
@@ -39,7 +51,7 @@ no_equals s t a next h e =
     ∙ (named-ends s next h.ends e ∙ (sym (fault-blanks s after_param refl a next h.all) ∙ sym (ap (fault_from s after_param) h.whole))))
 
 -- ---- one parameter
-token-from_run : (t run rest : List ℕ) → IsRun is_token_char t run rest → first_passes is_token_char t ≡ true → is_token run ≡ true
+pub token-from_run : (t run rest : List ℕ) → IsRun is_token_char t run rest → first_passes is_token_char t ≡ true → is_token run ≡ true
 token-from_run t [] rest h b = let n : first_passes is_token_char t ≡ false = ap (first_passes is_token_char) h.whole ∙ h.ends in cc
 token-from_run t (c ∷ run) rest h b = h.all
 
@@ -116,6 +128,3 @@ pub no_param : (s : Tests) (t : List ℕ) → first_passes is_blank t ≡ false 
 unfolding fault_from
 no_param s [] h k e some = cc
 no_param s (c ∷ cs) h k e some = rw (h, k, e) refl
-
-pub faults_on : (e : Halt) (s : Tests) (p q : Phase) (t u : List ℕ) → fault_from s p t ≡ fault_from s q u → IsFault e (fault_from s q u) → IsFault e (fault_from s p t)
-faults_on e s p q t u same h = subst (IsFault e) (sym same) h

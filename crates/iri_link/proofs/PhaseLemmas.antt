@@ -112,7 +112,7 @@ quoted-given s t v z (plain c u w h r) =
     (rw (a, b, k.0) q.0, rw (a, b) (ap (giving (more c)) q.1))
 quoted-given s t v z (pair c u w h r) = let q = quoted-given s u w z r in (rw h q.0, ap (giving (more c)) q.1)
 
-equals-quoted : (s : Tests) (y : List ℕ) → closes_from false y ≡ true → outcome s after_equals (34 ∷ y) ≡ outcome s in_quoted y
+pub equals-quoted : (s : Tests) (y : List ℕ) → closes_from false y ≡ true → outcome s after_equals (34 ∷ y) ≡ outcome s in_quoted y
 unfolding fault_from reading
 equals-quoted s y h = rw h refl
 

@@ -11,8 +11,8 @@ use Rattle.iri_grammar.specs.Parts.{is_empty}
 use Rattle.iri_link.specs.LaxReadings.{reads, is_name_char, is_writable, with_writable, lax_param}
 unfoldable use Rattle.iri_link.specs.LaxReadings.{lax_reading}
 use Rattle.iri_link.specs.Readings.{of_params, of_value, more}
-use Rattle.iri_link.specs.inside.LaxPieces.{LaxEnds, lax_left}
-use Rattle.iri_link.specs.inside.Pieces.{phase_at}
+use Rattle.iri_link.specs.inside.Faults.{phase_at}
+use Rattle.iri_link.specs.inside.Pieces.{Ends, left_at}
 use Rattle.iri_link.specs.inside.PlainParams.{ArePlain, IsPlainParam, with_params}
 use Rattle.iri_link.proofs.GrammarLemmas.{param-named}
 use Rattle.iri_link.proofs.LaxLemmas.{lax-blanks, lax-equals, lax-named, lax-open, lax-semicolon, param-bare}
@@ -103,7 +103,7 @@ pub plain_one : (t rest : List ℕ) → IsPlainParam t rest → (w : List ℕ) �
 plain_one t rest h = (_, one t h.name h.value rest h.whole h.named h.lower h.plain)
 
 -- ---- the end
-ends : (b : Bool) → ((s : Tests) → fault_from s (phase_at b) [] ≡ None) × LaxEnds b []
+ends : (b : Bool) → ((s : Tests) → fault_from s (phase_at b) [] ≡ None) × Ends b []
 unfolding fault_from lax_reading
 ends true = (λ s. refl, refl)
 ends false = (λ s. refl, refl)
@@ -111,8 +111,8 @@ ends false = (λ s. refl, refl)
 pub none_wrong : (s : Tests) (b : Bool) (t : List ℕ) → (length t == 0) ≡ true → fault_from s (phase_at b) t ≡ None
 none_wrong s b t h = ap (fault_from s (phase_at b)) (nil_from_length t (eqb-true (length t) 0 h)) ∙ (ends b).0 s
 
-pub none_left : (b : Bool) (t : List ℕ) → (length t == 0) ≡ true → LaxEnds b t
-none_left b t h = subst (LaxEnds b) (sym (nil_from_length t (eqb-true (length t) 0 h))) (ends b).1
+pub none_left : (b : Bool) (t : List ℕ) → (length t == 0) ≡ true → Ends b t
+none_left b t h = subst (Ends b) (sym (nil_from_length t (eqb-true (length t) 0 h))) (ends b).1
 
 -- ---- parameters
 pub plain_none : (b : Bool) (t : List ℕ) → ArePlain b t [] t
@@ -121,7 +121,7 @@ plain_none false t = record { params = []; whole = refl; said = refl; goes = λ 
 
 pub plain_more : (t w u x rest : List ℕ) → ArePlain true t w u → ArePlain true u x rest → ArePlain true t (w ++ x) rest
 plain_more t w u x rest a b =
-    let l = lax_left true rest in
+    let l = left_at true rest in
     record {
       params = a.params ++ b.params;
       whole = a.whole ∙ (ap (λ z. w ++ z) b.whole ∙ sym (append_assoc w x rest));

@@ -1,22 +1,18 @@
 -- The end and the value of a quoted string.
-use Rattle.iri_link.proofs.Common.{IsCutQuoted, ◌≡◌, ℕ, suc, ◌<◌, ◌≤◌, ◌+◌, Bool, true, false, cond, not, ◌&&◌, List, [], ◌∷◌, ◌++◌, Option, Some, None}
+use Rattle.iri_link.proofs.Common.{◌≡◌, ℕ, suc, ◌<◌, ◌≤◌, ◌+◌, Bool, true, false, cond, not, ◌&&◌, List, [], ◌∷◌, ◌++◌, Option, Some, None}
 use Rattle.iri_link.proofs.Common.{length, take, drop, get_or, refl, sym, ◌∙◌, ap, subst, arith, drop-cons, drop_all, ◌==◌, slice_index}
 use Rattle.iri_link.proofs.Common.{before, after, both, by_test, is_pair_char, is_plain_char, IsQuoted, done, plain, pair}
-use Rattle.iri_link.proofs.Common.{list_all, test_apart, is_token_char, closes_from, quoted_len, unquoted, unquoted_from, first_passes}
+use Rattle.iri_link.proofs.Common.{list_all, test_apart, is_token_char, closes_from, quoted_len, unquoted, unquoted_from, first_passes, cases_lt, inl, inr, IsRun}
+use Rattle.std.proofs.Common.{length-append}
+use Rattle.std.proofs.lemmas.List.{length-take, take_all}
+use Rattle.iri_grammar.specs.Parts.{is_empty}
+use Rattle.iri_link.specs.inside.ReadQuoted.{IsCutOpen, IsPastQuoted}
+use Rattle.iri_link.proofs.RunLemmas.{when}
 
--- ---- where it ends
-at_delimiter : (e : Bool) (c : ℕ) (cs : List ℕ) → (not e && c == 34) ≡ true → (closes_from e (c ∷ cs) ≡ true) × (quoted_len e (c ∷ cs) ≡ 0)
-unfolding closes_from quoted_len
+at_delimiter : (e : Bool) (c : ℕ) (cs : List ℕ) → (not e && c == 34) ≡ true → quoted_len e (c ∷ cs) ≡ 0
+unfolding quoted_len
 at_delimiter true c cs h = cc
-at_delimiter false c cs h = (rw h refl, rw h refl)
-
-at_bad : (e : Bool) (c : ℕ) (cs : List ℕ) → is_pair_char c ≡ false → closes_from e (c ∷ cs) ≡ false
-unfolding closes_from
-at_bad true c cs h = rw h refl
-at_bad false c cs h = rw (test_out 34 c refl h, test_out 92 c refl h, h) refl
-  where
-    test_out : (m d : ℕ) → is_pair_char m ≡ true → is_pair_char d ≡ false → (d == m) ≡ false
-    test_out m d k l = by_test d m (λ b. b ≡ false) (λ e. let f : is_pair_char d ≡ true = ap is_pair_char e ∙ k in cc) (λ _. refl)
+at_delimiter false c cs h = rw h refl
 
 at_other : (e : Bool) (c : ℕ) (cs : List ℕ) → (not e && c == 34) ≡ false → quoted_len e (c ∷ cs) ≡ suc (quoted_len (not e && c == 92) cs)
 unfolding quoted_len
@@ -24,44 +20,14 @@ at_other true c cs n = refl
 at_other false c cs n =
     by_test c 92 (λ b. (c == 92) ≡ b → quoted_len false (c ∷ cs) ≡ suc (quoted_len b cs)) (λ _ e. rw (n, e) refl) (λ _ e. rw (n, e) refl) refl
 
-at_good : (e : Bool) (c : ℕ) (cs : List ℕ) → (not e && c == 34) ≡ false → is_pair_char c ≡ true
-    → (closes_from e (c ∷ cs) ≡ closes_from (not e && c == 92) cs) × (quoted_len e (c ∷ cs) ≡ suc (quoted_len (not e && c == 92) cs))
-unfolding closes_from quoted_len
-at_good true c cs n h = (rw h refl, refl)
-at_good false c cs n h =
-    by_test c 92 (λ b. (c == 92) ≡ b → (closes_from false (c ∷ cs) ≡ closes_from b cs) × (quoted_len false (c ∷ cs) ≡ suc (quoted_len b cs)))
-    (λ _ e. (rw (n, e) refl, rw (n, e) refl))
-    (λ _ e. (rw (n, e, h) refl, rw (n, e) refl)) refl
-
 at_place : (bs : List ℕ) (i : ℕ) → i < length bs → drop i bs ≡ get_or bs i 0 ∷ drop (i + 1) bs
 at_place bs i inside = let n : suc i ≡ i + 1 = omega arith in subst (λ k. drop i bs ≡ get_or bs i 0 ∷ drop k bs) n (drop-cons bs i 0 inside)
-
-module _ (bs : List ℕ) (i : ℕ) (e : Bool) (inside : i < length bs) (same : closes_from e (drop i bs) ≡ closes_from false bs) where
-  pub end_found : (i + quoted_len e (drop i bs) ≡ quoted_len false bs) → (not e && get_or bs i 0 == 34) ≡ true → (closes_from false bs ≡ true) × (i ≡ quoted_len false bs)
-  end_found counts h =
-      let m = at_delimiter e (get_or bs i 0) (drop (i + 1) bs) h in
-      let n : quoted_len e (drop i bs) ≡ 0 = ap (quoted_len e) (at_place bs i inside) ∙ m.1 in
-      (sym same ∙ (ap (closes_from e) (at_place bs i inside) ∙ m.0), omega (arith, counts, n))
-
-  pub end_refused : is_pair_char (get_or bs i 0) ≡ false → closes_from false bs ≡ false
-  end_refused h = sym same ∙ (ap (closes_from e) (at_place bs i inside) ∙ at_bad e (get_or bs i 0) (drop (i + 1) bs) h)
-
-  pub end_on : (i + quoted_len e (drop i bs) ≡ quoted_len false bs) → (not e && get_or bs i 0 == 34) ≡ false → is_pair_char (get_or bs i 0) ≡ true
-      → (closes_from (not e && get_or bs i 0 == 92) (drop (i + 1) bs) ≡ closes_from false bs) × (i + 1 + quoted_len (not e && get_or bs i 0 == 92) (drop (i + 1) bs) ≡ quoted_len false bs)
-  end_on counts n h =
-      let g = at_good e (get_or bs i 0) (drop (i + 1) bs) n h in
-      let k : quoted_len e (drop i bs) ≡ suc (quoted_len (not e && get_or bs i 0 == 92) (drop (i + 1) bs)) = ap (quoted_len e) (at_place bs i inside) ∙ g.1 in
-      (sym g.0 ∙ (sym (ap (closes_from e) (at_place bs i inside)) ∙ same), omega (arith, counts, k))
-
-pub end_none : (bs : List ℕ) (i : ℕ) (e : Bool) → length bs ≤ i → closes_from e (drop i bs) ≡ closes_from false bs → closes_from false bs ≡ false
-unfolding closes_from
-end_none bs i e h same = sym same ∙ ap (closes_from e) (drop_all i bs h)
 
 -- ---- how long it is, whether it ends or not
 module _ (bs : List ℕ) (i : ℕ) (e : Bool) (inside : i < length bs) (counts : i + quoted_len e (drop i bs) ≡ quoted_len false bs) where
   pub len_found : (not e && get_or bs i 0 == 34) ≡ true → i ≡ quoted_len false bs
   len_found h =
-      let n : quoted_len e (drop i bs) ≡ 0 = ap (quoted_len e) (at_place bs i inside) ∙ (at_delimiter e (get_or bs i 0) (drop (i + 1) bs) h).1 in
+      let n : quoted_len e (drop i bs) ≡ 0 = ap (quoted_len e) (at_place bs i inside) ∙ at_delimiter e (get_or bs i 0) (drop (i + 1) bs) h in
       omega (arith, counts, n)
 
   pub len_on : (not e && get_or bs i 0 == 34) ≡ false → i + 1 + quoted_len (not e && get_or bs i 0 == 92) (drop (i + 1) bs) ≡ quoted_len false bs
@@ -83,6 +49,71 @@ at_end false (c ∷ cs) =
     by_test c 34 (λ b. (cond b 0 (suc (quoted_len (c == 92) cs)) ≤ length (c ∷ cs))
     × (cond b 0 (suc (quoted_len (c == 92) cs)) < length (c ∷ cs) → slice_index (c ∷ cs) (cond b 0 (suc (quoted_len (c == 92) cs))) ≡ 34))
     (λ e. (omega arith, λ _. e)) (λ _. let k = at_end (c == 92) cs in (omega (arith, k.0), λ h. k.1 (omega (arith, h))))
+
+-- ---- whether it ends
+-- where a delimiter ends it, and nothing before that may not stand there
+closes-is : (e : Bool) (t : List ℕ) → closes_from e t ≡ (list_all is_pair_char (take (quoted_len e t) t) && not (is_empty (drop (quoted_len e t) t)))
+unfolding closes_from quoted_len
+closes-is true [] = refl
+closes-is false [] = refl
+closes-is true (c ∷ cs) = when (is_pair_char c) _ (λ p. rw p (closes-is false cs)) (λ p. rw p refl)
+closes-is false (c ∷ cs) =
+    let P : Type 0 = closes_from false (c ∷ cs) ≡ (list_all is_pair_char (take (quoted_len false (c ∷ cs)) (c ∷ cs)) && not (is_empty (drop (quoted_len false (c ∷ cs)) (c ∷ cs)))) in
+    when (c == 34) P (λ k. rw k refl)
+    (λ k. when (is_pair_char c) P (λ p. when (c == 92) P (λ m. rw (k, m, p) (closes-is true cs)) (λ m. rw (k, m, p) (closes-is false cs)))
+    (λ p. rw (k, test_out 92 c refl p, p) refl))
+  where
+    test_out : (m d : ℕ) → is_pair_char m ≡ true → is_pair_char d ≡ false → (d == m) ≡ false
+    test_out m d k l = by_test d m (λ b. b ≡ false) (λ e. let f : is_pair_char d ≡ true = ap is_pair_char e ∙ k in cc) (λ _. refl)
+
+-- characters that stand for themselves, and the delimiter
+plain-ends : (v rest : List ℕ) → list_all is_plain_char v ≡ true
+    → (closes_from false (v ++ 34 ∷ rest) ≡ true) × (rest ≡ drop (suc (quoted_len false (v ++ 34 ∷ rest))) (v ++ 34 ∷ rest))
+unfolding closes_from quoted_len
+plain-ends [] rest h = (refl, refl)
+plain-ends (c ∷ cs) rest h =
+    let k = both (is_plain_char c) (list_all is_plain_char cs) h in
+    let a = test_apart is_plain_char 34 c refl k.0 in
+    let b = test_apart is_plain_char 92 c refl k.0 in
+    let p = both (is_pair_char c) (not (c == 34) && not (c == 92)) k.0 in
+    let i = plain-ends cs rest k.1 in
+    let t = cs ++ 34 ∷ rest in
+    let n : quoted_len false (c ∷ t) ≡ suc (quoted_len false t) = ap (λ v. cond v 0 (suc (quoted_len (c == 92) t))) a ∙ ap (λ v. suc (quoted_len v t)) b in
+    (rw (a, b, p.0) i.0, i.1 ∙ ap (λ m. drop (suc m) (c ∷ t)) (sym n))
+
+pub past_plain : (t run next rest : List ℕ) → IsRun is_plain_char t run next → next ≡ 34 ∷ rest → IsPastQuoted t rest
+past_plain t run next rest h e =
+    let whole : t ≡ run ++ 34 ∷ rest = h.whole ∙ ap (λ l. run ++ l) e in
+    let k = plain-ends run rest h.all in
+    record {
+      closes = ap (closes_from false) whole ∙ k.0;
+      suffix = k.1 ∙ ap (λ l. drop (suc (quoted_len false l)) l) (sym whole);
+      short = omega (arith, ap length whole, length-append run (34 ∷ rest));
+    }
+
+module _ (t raw rest : List ℕ) (h : IsCutOpen t raw rest) where
+  -- nothing ends it
+  pub end_wanting : length raw ≡ length t → closes_from false t ≡ false
+  end_wanting e =
+      let n : length t ≤ quoted_len false t = omega (arith, e, ap length h.prefix, length-take (quoted_len false t) t) in
+      let all = list_all is_pair_char (take (quoted_len false t) t) in
+      closes-is false t ∙ (ap (λ d. all && not (is_empty d)) (drop_all (quoted_len false t) t n) ∙ when all ((all && false) ≡ false) (λ k. rw k refl) (λ k. rw k refl))
+
+  -- something may not stand there
+  pub char_wanting : list_all is_pair_char raw ≡ false → closes_from false t ≡ false
+  char_wanting e = closes-is false t ∙ ap (λ b. b && not (is_empty (drop (quoted_len false t) t))) (ap (list_all is_pair_char) (sym h.prefix) ∙ e)
+
+  pub past_end : (length raw ≡ length t → ⊥) → list_all is_pair_char raw ≡ true → IsPastQuoted t rest
+  past_end short all =
+      let n = quoted_len false t in
+      let inside : n < length t =
+      elim (cases_lt n (length t)) [ inl k ↦ k | inr k ↦ absurd (short (ap length (h.prefix ∙ take_all n t k))) ] in
+      record {
+        closes = closes-is false t ∙ (ap (λ b. b && not (is_empty (drop n t))) (ap (list_all is_pair_char) (sym h.prefix) ∙ all)
+            ∙ ap (λ d. not (is_empty d)) (drop-cons t n 0 inside));
+        suffix = h.suffix;
+        short = h.short;
+      }
 
 -- ---- cut there
 pub record IsClosed (e : Bool) (t : List ℕ) (n : ℕ) : Type 0 where
@@ -117,6 +148,11 @@ is_quoted (c ∷ d ∷ cs) h =
     (λ _ h2. by_test c 92 (λ v. cond v (closes_from true (d ∷ cs)) (is_plain_char c && closes_from false (d ∷ cs)) ≡ true → IsQuoted (c ∷ rest v) (cond v (unquoted_from true (rest v)) (c ∷ unquoted_from false (rest v))))
     (λ e h3. let k = both (is_pair_char d) (closes_from false cs) h3 in subst (λ n. IsQuoted (n ∷ rest true) (unquoted_from true (rest true))) (sym e) (pair d (take (quoted_len false cs) cs) (unquoted (take (quoted_len false cs) cs)) k.0 (is_quoted cs k.1)))
     (λ _ h3. let k = both (is_plain_char c) (closes_from false (d ∷ cs)) h3 in plain c (rest false) (unquoted (rest false)) k.0 (is_quoted (d ∷ cs) k.1)) h2) h
+
+-- t is what stands in a quoted string, its last delimiter and a rest
+pub record IsCutQuoted (t raw rest : List ℕ) : Type 0 where
+  pub whole : t ≡ raw ++ 34 ∷ rest
+  pub text : IsQuoted raw (unquoted raw)
 
 pub cut_at : (t raw rest : List ℕ) (n : ℕ) → closes_from false t ≡ true → n ≡ quoted_len false t → raw ≡ take n t → rest ≡ drop (n + 1) t → IsCutQuoted t raw rest
 cut_at t raw rest n h e prefix back =

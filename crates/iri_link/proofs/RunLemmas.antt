@@ -6,7 +6,7 @@ use Rattle.std.proofs.Common.{◌⊎◌}
 use Rattle.iri_grammar.proofs.units.FirstUnits.{run_of_le}
 use Rattle.iri_grammar.specs.Parts.{is_empty}
 use Rattle.iri_link.specs.LaxReadings.{is_name_char, is_value_char}
-use Rattle.iri_link.specs.inside.LaxPieces.{without_end}
+use Rattle.iri_link.specs.inside.Pieces.{without_end}
 use Rattle.iri_link.specs.declared.runs.Run.{Run}
 use Rattle.iri_link.specs.declared.runs.Run.TheVariants.{Blank, Token, Name, Value, Pair, Plain, Lower}
 use Rattle.std.specs.Char.{is_ascii_lowercase}

@@ -13,8 +13,8 @@ use Rattle.iri_link.specs.declared.piece.Piece.TheVariants.{Target, Param, NoPar
 use Rattle.iri_link.specs.inside.CutDelimiters.{IsChunk}
 use Rattle.iri_link.specs.declared.shown_text.Place.{Place}
 use Rattle.iri_link.specs.declared.shown_text.Place.TheVariants.{First, Later, Within}
-use Rattle.iri_link.specs.inside.LaxPieces.{LaxComes, LaxEnds, between_at, lax_left, passed_at, piece_text, place_past, target_text}
-use Rattle.iri_link.specs.inside.Pieces.{Left, param_said, stands, with_piece}
+use Rattle.iri_link.specs.inside.Pieces.{Comes, Ends, Left, left_at, param_said, stands, with_piece}
+use Rattle.iri_link.specs.inside.ShownPieces.{between_at, passed_at, piece_text, place_past, target_text}
 use Rattle.iri_link.specs.inside.PlainParams.{ArePlain, params_text, with_params}
 use Rattle.std.proofs.lemmas.Grind.{flat_map-append}
 use Rattle.iri_link.proofs.RunLemmas.{when}
@@ -107,7 +107,7 @@ module _ (s : Tests) (mode : CanonMode) (base : List ℕ) where
   pub piece-written : (place : Place) (x : Piece) (l : Left)
       → written_left place (with_piece x l) ≡ piece_text s mode base place x ++ written_left (place_past s place x) l
   unfolding written_left
-  piece-written place (Target inner u) l = target-written place u.now l
+  piece-written place (Target u) l = target-written place u.now l
   piece-written First (Param p) l = refl
   piece-written Later (Param p) l = refl
   piece-written Within (Param p) l =
@@ -130,34 +130,34 @@ module _ (s : Tests) (mode : CanonMode) (base : List ℕ) where
       ap (λ z. z ++ L) (flat_map-append written_param ps l.params ∙ ap (λ z. z ++ flat_map written_param l.params) h)
       ∙ append_assoc w (flat_map written_param l.params) L
 
-  pub to_show : (text : List ℕ) → written (map (resolved_in s mode base) (lax_links_in s text)) ≡ [] ++ written_left First (lax_left false text)
+  pub to_show : (text : List ℕ) → written (map (resolved_in s mode base) (lax_links_in s text)) ≡ [] ++ written_left First (left_at false text)
   unfolding written_left links_left
   to_show text = all_left (map (resolved_in s mode base) (lax_links_in s text))
 
   -- what is left past parameters in their written form
-  left_plain : (all done : List ℕ) (place : Place) (inside : Bool) (t w rest : List ℕ) → all ≡ done ++ written_left place (lax_left inside t) → ArePlain inside t w rest
-      → all ≡ (done ++ params_text place w) ++ written_left place (lax_left inside rest)
+  left_plain : (all done : List ℕ) (place : Place) (inside : Bool) (t w rest : List ℕ) → all ≡ done ++ written_left place (left_at inside t) → ArePlain inside t w rest
+      → all ≡ (done ++ params_text place w) ++ written_left place (left_at inside rest)
   left_plain all done place inside t w rest same h =
-      same ∙ (ap (λ z. done ++ z) (ap (written_left place) h.reads ∙ params-written place w h.params (lax_left inside rest) h.said)
-      ∙ sym (append_assoc done (params_text place w) (written_left place (lax_left inside rest))))
+      same ∙ (ap (λ z. done ++ z) (ap (written_left place) h.reads ∙ params-written place w h.params (left_at inside rest) h.said)
+      ∙ sym (append_assoc done (params_text place w) (written_left place (left_at inside rest))))
 
-  module _ (all done : List ℕ) (place : Place) (inside : Bool) (t : List ℕ) (same : all ≡ done ++ written_left place (lax_left inside t)) where
+  module _ (all done : List ℕ) (place : Place) (inside : Bool) (t : List ℕ) (same : all ≡ done ++ written_left place (left_at inside t)) where
     -- nothing is left at the end
-    pub all_shown : LaxEnds inside t → done ≡ all
+    pub all_shown : Ends inside t → done ≡ all
     unfolding written_left links_left
     all_shown e =
         sym (same ∙ (ap (λ l. done ++ written_left place l) e
         ∙ (ap (λ z. done ++ (z ++ [])) (nothing_within place) ∙ append-nil done)))
 
     -- what is left past a piece
-    pub left_past : (rest : List ℕ) (x : Piece) → LaxComes inside t x rest
-        → all ≡ (done ++ piece_text s mode base place x) ++ written_left (place_past s place x) (lax_left (stands x) rest)
+    pub left_past : (rest : List ℕ) (x : Piece) → Comes inside t x rest
+        → all ≡ (done ++ piece_text s mode base place x) ++ written_left (place_past s place x) (left_at (stands x) rest)
     left_past rest x c =
-        same ∙ (ap (λ z. done ++ z) (ap (written_left place) c.same ∙ piece-written place x (lax_left (stands x) rest))
-        ∙ sym (append_assoc done (piece_text s mode base place x) (written_left (place_past s place x) (lax_left (stands x) rest))))
+        same ∙ (ap (λ z. done ++ z) (ap (written_left place) c.same ∙ piece-written place x (left_at (stands x) rest))
+        ∙ sym (append_assoc done (piece_text s mode base place x) (written_left (place_past s place x) (left_at (stands x) rest))))
 
     -- and past such parameters after it
-    pub left_later : (rest : List ℕ) (x : Piece) → LaxComes inside t x rest → (q : Place) (b : Bool) → q ≡ place_past s place x → b ≡ stands x
-        → (w left : List ℕ) → ArePlain b rest w left → all ≡ ((done ++ piece_text s mode base place x) ++ params_text q w) ++ written_left q (lax_left b left)
+    pub left_later : (rest : List ℕ) (x : Piece) → Comes inside t x rest → (q : Place) (b : Bool) → q ≡ place_past s place x → b ≡ stands x
+        → (w left : List ℕ) → ArePlain b rest w left → all ≡ ((done ++ piece_text s mode base place x) ++ params_text q w) ++ written_left q (left_at b left)
     left_later rest x c q b e f w left h =
         left_plain all (done ++ piece_text s mode base place x) q b rest w left (rw (e, f) (left_past rest x c)) h

@@ -10,9 +10,8 @@ ghost use Rattle.iri_link.specs.Resolved.{resolved, resolved_in};
 ghost use Rattle.iri_link.specs.Written.{written};
 
 use crate::error::LinkKind;
-use crate::halt::Halt;
+use crate::fault::check_text;
 use crate::shown_text::show_text;
-use crate::walk::check_text;
 use iri_grammar::spec::Spec;
 use iri_normal::mode::CanonMode;
 use iri_normal::resolver::FixedBaseResolver;
@@ -25,11 +24,10 @@ fn check_valid<S: Spec>(text: &str) -> Result<&str, (LinkKind, usize)>
 {
     match check_text::<S>(text) {
         Ok(()) => Ok(text),
-        Err(Halt::Fault(kind, rest)) => {
+        Err((kind, rest)) => {
             let place = text.len().saturating_sub(rest.len());
             Err((kind, place))
         }
-        Err(Halt::Memory) => unreachable!(),
     }
 }
 

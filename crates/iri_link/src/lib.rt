@@ -20,16 +20,15 @@
 //! Bytes have no fault exactly where they are such a field value; the written form of a set has exactly its
 //! link-values, against every base.
 //!
-//! Not proved: that memory is allocated, so that a `read_links` that answered `Memory` to each text with a target after
-//! blanks and commas, and to no other, would keep its contract; tests show that it succeeds with ample memory, and that
-//! a `Display` does. The text of `Debug`. Not proved, and not tested: how long a call takes.
+//! Not proved: that memory is allocated, so that a `read_links` that answered `Memory` to each field value with a
+//! link-value, and to no other, would keep its contract; tests show that it succeeds with ample memory, and that a
+//! `Display` does. The text of `Debug`. Not proved, and not tested: how long a call takes.
 #![tactic(auto)]
 
 mod error;
+mod fault;
 mod field;
-mod halt;
 pub mod laws;
-mod lax;
 mod link;
 mod param;
 mod param_text;
@@ -39,7 +38,6 @@ mod quoted;
 mod runs;
 mod set;
 mod shown_text;
-mod value;
 mod walk;
 mod written;
 

@@ -4,17 +4,17 @@ ghost use Rattle.iri_grammar.specs.WholeFault.{reference_fault};
 ghost use Rattle.iri_types.specs.SplitText.{split_text};
 ghost use Rattle.iri_normal.specs.NormalForm.{canonical_in};
 ghost use Rattle.iri_normal.specs.Resolver.{base_text};
-ghost use Rattle.iri_link.specs.Fault.{told_target};
+ghost use Rattle.iri_link.specs.Fault.{field_fault};
+ghost use Rattle.iri_link.specs.Readings.{links_in};
+ghost use Rattle.iri_link.specs.Resolved.{resolved_in};
 ghost use Rattle.iri_link.specs.Stored.{link_of};
-ghost use Rattle.iri_link.specs.inside.Halts.{HaltsAt, HaltsIn, HaltsPast};
-ghost use Rattle.iri_link.specs.inside.KeptLinks.{ReadsField, grown, kept_past};
-ghost use Rattle.iri_link.specs.inside.Pieces.{param_said, piece_fault};
+ghost use Rattle.iri_link.specs.inside.KeptLinks.{IsValid, Wants, grown, kept_past};
+ghost use Rattle.iri_link.specs.inside.Pieces.{param_said};
 
-use crate::halt::Halt;
 use crate::param::{Param, keep_param};
 use crate::param_text::ParamText;
 use crate::piece::Piece;
-use crate::walk::{is_inside, next_piece, reference_of};
+use crate::walk::{is_inside, next_piece};
 use iri_grammar::spec::Spec;
 use iri_normal::mode::CanonMode;
 use iri_normal::resolver::FixedBaseResolver;
@@ -67,8 +67,9 @@ fn push_link<'a, S: Spec>(
 
 // Puts a parameter at the end of those of the last link-value.
 fn push_param(alloc: Global, links: &mut Vec<Link>, param: ParamText<'_>) -> Result<(), AllocError>
-    ensures { OnOk result (map link_of links.new.items
-        ≡ grown (map link_of links.old.items) (param_said param.entry ∷ [])) }
+    ensures { MatchResult result (λ _. map link_of links.new.items
+        ≡ grown (map link_of links.old.items) (param_said param.entry ∷ []))
+        (λ _. map link_of links.old.items ≡ [] → ⊥) }
 {
     match links.last_mut() {
         Some(link) => {
@@ -80,26 +81,20 @@ fn push_param(alloc: Global, links: &mut Vec<Link>, param: ParamText<'_>) -> Res
     }
 }
 
-// Keeps a target, of which `inner` is what follows its `<`.
+// Keeps a target that is a URI-reference, and no other.
 fn keep_target<'a, S: Spec>(
     alloc: Global,
     mode: CanonMode,
     resolver: &FixedBaseResolver<'a, S>,
     links: &mut Vec<Link>,
-    inner: &'a str,
     target: &'a str,
-) -> Result<(), Halt<'a>>
-    ensures { MatchResult result
-        (λ _. (reference_fault S.tests target.now ≡ None) × (map link_of links.new.items ≡ map link_of links.old.items
-        ++ record { target = canonical_in S.tests mode (base_text resolver.now) target.now; params = [] } ∷ []))
-        (λ e. HaltsAt e (told_target (reference_fault S.tests target.now) inner.now)) }
+) -> Result<(), AllocError>
+    ensures { OnOk result (reference_fault S.tests target.now ≡ None → map link_of links.new.items ≡ map link_of links.old.items
+        ++ record { target = canonical_in S.tests mode (base_text resolver.now) target.now; params = [] } ∷ []) }
 {
-    match reference_of::<S>(inner, target) {
-        Ok(reference) => match push_link(alloc, mode, resolver, links, &reference) {
-            Ok(()) => Ok(()),
-            Err(_) => Err(Halt::Memory),
-        },
-        Err(halt) => Err(halt),
+    match SplitView::<S, Reference>::new(target) {
+        Ok(reference) => push_link(alloc, mode, resolver, links, &reference),
+        Err(_) => Ok(()),
     }
 }
 
@@ -110,50 +105,40 @@ fn keep_piece<'a, S: Spec>(
     resolver: &FixedBaseResolver<'a, S>,
     links: &mut Vec<Link>,
     piece: Piece<'a>,
-) -> Result<(), Halt<'a>>
-    ensures { MatchResult result
-        (λ _. (piece_fault S.tests piece.entry ≡ None) × (map link_of links.new.items
-        ≡ kept_past S.tests mode (base_text resolver.now) (map link_of links.old.items) piece.entry))
-        (λ e. HaltsPast S.tests e piece.entry) }
+) -> Result<(), AllocError>
+    ensures { MatchResult result (λ _. IsValid S.tests piece.entry → map link_of links.new.items
+        ≡ kept_past S.tests mode (base_text resolver.now) (map link_of links.old.items) piece.entry)
+        (λ _. Wants (map link_of links.old.items) piece.entry) }
 {
     match piece {
-        Piece::Target(inner, target) => {
-            match keep_target(alloc, mode, resolver, links, inner, target) {
-                Ok(()) => Ok(()),
-                Err(halt) => Err(halt),
-            }
-        }
-        Piece::Param(param) => match push_param(alloc, links, param) {
-            Ok(()) => Ok(()),
-            Err(_) => Err(Halt::Memory),
-        },
+        Piece::Target(target) => keep_target(alloc, mode, resolver, links, target),
+        Piece::Param(param) => push_param(alloc, links, param),
         _ => Ok(()),
     }
 }
 
-// The link-values of a text.
+// The link-values of a text without a fault.
 pub(crate) fn read_text<'a, S: Spec>(
     alloc: Global,
     mode: CanonMode,
     resolver: &FixedBaseResolver<'a, S>,
     text: &'a str,
-) -> Result<Vec<Link>, Halt<'a>>
-    ensures { MatchResult result
-        (λ v. ReadsField S.tests mode (base_text resolver.now) text.now (map link_of v.items))
-        (HaltsIn S.tests text.now) }
+) -> Result<Vec<Link>, AllocError>
+    requires { field_fault S.tests text.now ≡ None }
+    ensures { MatchResult result (λ v. map link_of v.items ≡ map (resolved_in S.tests mode (base_text resolver.now)) (links_in text.now))
+        (λ _. links_in text.now ≡ [] → ⊥) }
 {
     let mut links = Vec::new(alloc);
     let mut inside = false;
     let mut rest = text;
     'pieces: loop {
         match next_piece(inside, rest) {
-            Ok(Some((piece, after))) => {
+            Some((piece, after)) => {
                 keep_piece(alloc, mode, resolver, &mut links, piece)?;
                 inside = is_inside(piece);
                 rest = after;
             }
-            Ok(None) => return Ok(links),
-            Err(halt) => return Err(halt),
+            None => return Ok(links),
         }
     }
 }

@@ -1,22 +1,14 @@
 // Parameters of link-values (RFC 8288 section 3).
-ghost use Rattle.std.specs.Prelude.{◌≡◌, true, option_map, string_bytes, IfOk, MatchOption, MatchResult};
-ghost use Rattle.iri_grammar.specs.Classes.{Tests};
-ghost use Rattle.iri_link.specs.Fault.{fault_from};
-ghost use Rattle.iri_link.specs.Phases.{in_name};
+ghost use Rattle.std.specs.Prelude.{◌≡◌, option_map, string_bytes, IfOk, MatchOption};
 ghost use Rattle.iri_grammar.specs.OptionalSlices.{now_of};
 ghost use Rattle.iri_link.specs.Stored.{param_of, value_of};
-ghost use Rattle.iri_link.specs.Token.{is_token_char};
-ghost use Rattle.iri_link.specs.inside.Halts.{IsFault};
-ghost use Rattle.iri_link.specs.inside.ReadParams.{LacksEquals, ReadsEquals, ReadsParam};
+ghost use Rattle.iri_link.specs.inside.ReadParams.{LacksEquals, ReadsEquals};
 ghost use Rattle.iri_link.specs.inside.ReadQuoted.{said};
 ghost use Rattle.iri_link.specs.inside.Pieces.{param_said};
-ghost use Rattle.iri_grammar.specs.inside.Runs.{first_passes};
 
-use crate::halt::Halt;
 use crate::param_text::ParamText;
 use crate::quoted::unquote;
 use crate::runs::{Run, cut_run, past};
-use crate::value::cut_value;
 use std::alloc::{AllocError, Global};
 
 // A parameter: its name in lower case, and its value where it has one.
@@ -37,37 +29,6 @@ pub(crate) fn past_equals(s: &str) -> Option<&str>
             Some(value)
         }
         None => None,
-    }
-}
-
-// A parameter as it stands, and what follows it. A token begins there.
-pub(crate) fn cut_param<'a>(s: &'a str) -> Result<(ParamText<'a>, &'a str), Halt<'a>>
-    requires { first_passes is_token_char s.now ≡ true }
-    ensures { MatchResult result
-        (λ r. ReadsParam s.now r.1.now (param_said r.0))
-        (λ e. (t : Tests) → IsFault e (fault_from t in_name s.now)) }
-{
-    let (name, rest) = cut_run(Run::Token, s);
-    match past_equals(rest) {
-        Some(following) => match cut_value(following) {
-            Ok((value, rest)) => Ok((
-                ParamText {
-                    name,
-                    value: Some(value),
-                    escapes: true,
-                },
-                rest,
-            )),
-            Err(halt) => Err(halt),
-        },
-        None => Ok((
-            ParamText {
-                name,
-                value: None,
-                escapes: true,
-            },
-            rest,
-        )),
     }
 }
 

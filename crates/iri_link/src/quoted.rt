@@ -1,12 +1,12 @@
 // Quoted strings (RFC 9110 section 5.6.4).
-ghost use Rattle.std.specs.Prelude.{◌≡◌, ◌&&◌, ◌==◌, not, false, true, MatchOption, IfOk, string_bytes};
+ghost use Rattle.std.specs.Prelude.{◌≡◌, ◌&&◌, ◌==◌, not, false, MatchOption, IfOk, string_bytes};
 ghost use Rattle.iri_link.specs.Fault.{closes_from};
 ghost use Rattle.iri_link.specs.Token.{is_pair_char, is_plain_char};
 ghost use Rattle.iri_grammar.specs.OptionalSlices.{now_of};
 ghost use Rattle.iri_link.specs.inside.CutDelimiters.{IsChunk};
-ghost use Rattle.iri_link.specs.inside.ReadQuoted.{quoted_len, unquoted, IsCutOpen, IsCutQuoted};
+ghost use Rattle.iri_link.specs.inside.ReadQuoted.{quoted_len, unquoted, IsCutOpen, IsPastQuoted};
 
-use crate::runs::past;
+use crate::runs::{Run, cut_run, is_all, past};
 use iri_grammar::cutting::cut;
 use std::alloc::{AllocError, Global};
 
@@ -35,34 +35,6 @@ fn stands_free(escaped: bool, b: u8, delimiter: u8) -> bool
     !escaped && b == delimiter
 }
 
-// Where the `"` is that ends a quoted string, after its first one.
-fn find_end(bytes: &[u8]) -> Option<usize>
-    ensures { MatchOption result (closes_from false bytes.now ≡ false)
-        (λ n. (closes_from false bytes.now ≡ true) × (n ≡ quoted_len false bytes.now)) }
-{
-    let mut escaped = false;
-    for (i, b) in bytes.iter().enumerate() {
-        if stands_free(escaped, *b, b'"') {
-            return Some(i);
-        }
-        if !is_pair_char(*b) {
-            return None;
-        }
-        escaped = stands_free(escaped, *b, b'\\');
-    }
-    None
-}
-
-// What is between the two `"` of a quoted string, and what follows it, after the first one.
-pub(crate) fn cut_quoted(s: &str) -> Option<(&str, &str)>
-    ensures { MatchOption result (closes_from false s.now ≡ false) (λ r. IsCutQuoted s.now r.0.now r.1.now) }
-{
-    match find_end(s.as_bytes()) {
-        Some(n) => Some((&s[..n], &s[n + 1..])),
-        None => None,
-    }
-}
-
 // How many bytes stand before the `"` that ends a quoted string, or all where none does.
 fn quoted_len(bytes: &[u8]) -> usize
     ensures { result ≡ quoted_len false bytes.now }
@@ -86,6 +58,26 @@ pub(crate) fn cut_open(s: &str) -> (&str, &str)
         (&s[..n], &s[n + 1..])
     } else {
         (s, "")
+    }
+}
+
+// What follows a quoted string, after its first `"`, where it is closed and has no character that it may not. Most have no `\`, and are
+// passed as one run: without that a line with 37 such characters takes 5,723 instructions, and with it 5,164 (2026-12-01).
+pub(crate) fn past_quoted(s: &str) -> Option<&str>
+    ensures { MatchOption result (closes_from false s.now ≡ false) (λ r. IsPastQuoted s.now r.now) }
+{
+    let (_, next) = cut_run(Run::Plain, s);
+    if let Some(after) = past(next, b'"') {
+        return Some(after);
+    }
+    let (raw, rest) = cut_open(s);
+    if raw.len() == s.len() {
+        return None;
+    }
+    if is_all(Run::Pair, raw.as_bytes()) {
+        Some(rest)
+    } else {
+        None
     }
 }
 

@@ -4,7 +4,7 @@ ghost use Rattle.std.specs.List.{list_all};
 ghost use Rattle.iri_grammar.specs.Runs.{run_of};
 ghost use Rattle.iri_link.specs.Token.{is_token_char};
 ghost use Rattle.iri_grammar.specs.inside.Runs.{first_passes};
-ghost use Rattle.iri_link.specs.inside.LaxPieces.{without_end};
+ghost use Rattle.iri_link.specs.inside.Pieces.{without_end};
 ghost use Rattle.iri_link.specs.inside.Runs.{run_test, IsRun};
 
 use crate::quoted::{is_pair_char, is_plain_char};

@@ -1,14 +1,13 @@
 // The link-values of a field value.
-ghost use Rattle.std.specs.Prelude.{◌≡◌, MatchResult};
+ghost use Rattle.std.specs.Prelude.{◌≡◌, None, MatchResult};
 ghost use Rattle.iri_normal.specs.Resolver.{base_text};
 ghost use Rattle.iri_types.specs.Texts.{text};
+ghost use Rattle.iri_link.specs.Fault.{field_fault};
 ghost use Rattle.iri_link.specs.Refusals.{RefusedBy};
 ghost use Rattle.iri_link.specs.Resolved.{IsRead, IsReadIn};
-ghost use Rattle.iri_link.specs.inside.Halts.{IsTold};
-ghost use Rattle.iri_link.specs.inside.KeptLinks.{ReadsField};
 
-use crate::error::{LinkError, LinkKind};
-use crate::halt::Halt;
+use crate::error::LinkError;
+use crate::field::check_field;
 use crate::link::{Link, read_text};
 use crate::param::Param;
 use crate::written::show_links;
@@ -52,26 +51,22 @@ impl<S: Spec> Model for LinkSet<S> {
     ghost view = { λ t. links_of t.links.items };
 }
 
-// The link-values of a text.
+// The link-values of a text without a fault.
 fn read_valid<S: Spec>(
     alloc: Global,
     mode: CanonMode,
     resolver: &FixedBaseResolver<'_, S>,
     field: &str,
 ) -> Result<LinkSet<S>, LinkError>
-    ensures { MatchResult result (λ l. ReadsField S.tests mode (base_text resolver.now) field.now l)
-        (IsTold S.tests field.now) }
+    requires { field_fault S.tests field.now ≡ None }
+    ensures { MatchResult result (IsReadIn S.tests mode (base_text resolver.now) field.now) (RefusedBy S.tests field.now) }
 {
     match read_text(alloc, mode, resolver, field) {
         Ok(links) => Ok(LinkSet {
             links,
             spec: PhantomData,
         }),
-        Err(Halt::Fault(kind, rest)) => {
-            let place = field.len().saturating_sub(rest.len());
-            Err(LinkError::Fault(kind, place))
-        }
-        Err(Halt::Memory) => Err(LinkError::Memory),
+        Err(_) => Err(LinkError::Memory),
     }
 }
 
@@ -82,8 +77,7 @@ fn read_valid<S: Spec>(
 ///
 /// - `Fault` exactly where the bytes aren't UTF-8 or have no link-values whose targets are URI-references of `S`: the
 ///   first fault from the left, and its place in bytes.
-/// - `Memory` where allocation fails, only where the bytes are UTF-8 and the first element that isn't empty begins with
-///   a target that is a URI-reference.
+/// - `Memory` where allocation fails, only where the bytes have no fault, and have a link-value.
 ///
 /// ```
 /// use iri::link::read_links;
@@ -180,9 +174,9 @@ pub fn read_links_against_in<S: Spec>(
 ) -> Result<LinkSet<S>, LinkError>
     ensures { MatchResult result (IsReadIn S.tests mode (base_text resolver.now) field.now) (RefusedBy S.tests field.now) }
 {
-    match str::from_utf8(field) {
+    match check_field::<S>(field) {
         Ok(text) => read_valid(alloc, mode, resolver, text),
-        Err(error) => Err(LinkError::Fault(LinkKind::NotUtf8, error.valid_up_to())),
+        Err((kind, place)) => Err(LinkError::Fault(kind, place)),
     }
 }
 

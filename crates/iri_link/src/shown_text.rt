@@ -11,18 +11,17 @@ ghost use Rattle.iri_link.specs.LaxReadings.{lax_links_in};
 ghost use Rattle.iri_link.specs.Resolved.{resolved_in};
 ghost use Rattle.iri_link.specs.Token.{is_token_char};
 ghost use Rattle.iri_link.specs.Written.{escaped, written, written_param};
-ghost use Rattle.iri_link.specs.inside.LaxPieces.{between_at, passed_at, piece_text, place_past, target_text};
+ghost use Rattle.iri_link.specs.inside.ShownPieces.{between_at, passed_at, piece_text, place_past, target_text};
 ghost use Rattle.iri_link.specs.declared.shown_text.Place.TheVariants.{Within};
 ghost use Rattle.iri_link.specs.inside.Pieces.{IsNamed, param_said};
 ghost use Rattle.iri_link.specs.inside.PlainParams.{params_text};
 ghost use Rattle.iri_link.specs.inside.ReadQuoted.{said, unquoted};
 
-use crate::lax::next_lax_piece;
 use crate::param_text::ParamText;
 use crate::piece::Piece;
 use crate::plain::cut_plain;
 use crate::quoted::cut_chunk;
-use crate::walk::is_inside;
+use crate::walk::{is_inside, next_piece};
 use crate::written::{Escaped, show_escaped};
 use iri_grammar::spec::Spec;
 use iri_normal::canonical::show_canonical_in;
@@ -206,7 +205,7 @@ fn show_piece<S: Spec, W: TextSink>(
     ensures place { place.new ≡ place_past S.tests place.old piece.entry }
 {
     match (piece, *place) {
-        (Piece::Target(_, target), _) => show_target(sink, mode, resolver, place, target),
+        (Piece::Target(target), _) => show_target(sink, mode, resolver, place, target),
         (Piece::Param(param), Place::Within) => show_param(sink, param),
         _ => Ok(()),
     }
@@ -239,7 +238,7 @@ pub(crate) fn show_text<S: Spec, W: TextSink>(
         if rest.is_empty() {
             return Ok(());
         }
-        match next_lax_piece(inside, rest) {
+        match next_piece(inside, rest) {
             Some((piece, after)) => {
                 show_piece(sink, mode, resolver, &mut place, piece)?;
                 inside = is_inside(piece);

@@ -4,7 +4,6 @@ ghost use Rattle.iri_grammar.specs.Fault.{bytes_fault};
 ghost use Rattle.iri_grammar.specs.WholeFault.{absolute_fault, reference_fault};
 ghost use Rattle.iri_text.specs.Shown.{Shows};
 ghost use Rattle.iri_types.specs.SplitText.{split_text};
-ghost use Rattle.iri_types.specs.Texts.{text};
 ghost use Rattle.iri_percent.specs.declared.canon_mode.CanonMode.TheVariants.{Default};
 ghost use Rattle.iri_normal.specs.Canonicalized.{CausedBy, IsCanonicalTextIn};
 ghost use Rattle.iri_normal.specs.NormalForm.{canonical, canonical_in};
@@ -17,9 +16,8 @@ use iri_grammar::error::Error as GrammarError;
 use iri_grammar::spec::Spec;
 use iri_owned::owned::RiString;
 use iri_text::{Show, Stop, TextSink, ToDedicatedString};
-use iri_types::kind::Reference;
+use iri_types::kind::{Absolute, Reference};
 use iri_types::split::SplitView;
-use iri_types::view::RiAbsoluteStr;
 use std::alloc::Global;
 use thiserror::Error;
 
@@ -138,16 +136,16 @@ pub fn show_canonical_in<'a, S: Spec, W: TextSink>(
 fn canonicalize_against<S: Spec>(
     alloc: Global,
     mode: CanonMode,
-    base: RiAbsoluteStr<'_, S>,
+    base: SplitView<'_, S, Absolute>,
     reference: &[u8],
 ) -> Result<RiString<S>, CanonError>
     ensures { MatchResult result (λ t. (bytes_fault (reference_fault S.tests) reference.now ≡ None)
-        × (t.text ≡ canonical_in S.tests mode (text base.entry) reference.now))
+        × (t.text ≡ canonical_in S.tests mode (split_text base.entry) reference.now))
         (λ e. CausedBy e None (bytes_fault (reference_fault S.tests) reference.now)) }
 {
     match SplitView::<S, Reference>::try_from_bytes(reference) {
         Ok(reference) => {
-            let target = FixedBaseResolver::new(base).resolve_split(&reference);
+            let target = FixedBaseResolver::of_split(base).resolve_split(&reference);
             match target.and_normalize_in(mode).try_to_dedicated_string(alloc) {
                 Ok(text) => Ok(text),
                 Err(_) => Err(CanonError::Memory),
@@ -212,7 +210,7 @@ pub fn canonicalize_in<S: Spec>(
         (bytes_fault (reference_fault S.tests) reference.now)) }
     ensures text { IfOk result (λ t. IsCanonicalTextIn S.tests mode base.now reference.now t.text) }
 {
-    match RiAbsoluteStr::<S>::try_from_bytes(base) {
+    match SplitView::<S, Absolute>::absolute_from_bytes(base) {
         Ok(base) => canonicalize_against(alloc, mode, base, reference),
         Err(error) => Err(CanonError::BadBase(error)),
     }

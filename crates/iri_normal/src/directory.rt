@@ -55,6 +55,22 @@ fn every_parent(directory: &str) -> Parents<'_>
     Parents { texts }
 }
 
+// Whether it has no dot segment. The scan of most bases says so.
+fn is_plain(base: &Splitter<'_>, directory: &str) -> bool
+    requires { directory.now ≡ merge_prefix (parts base.now) }
+    ensures { result ≡ true → has_dot_segment directory.now ≡ false }
+{
+    !base.seen().dots || !has_dot_segment(directory)
+}
+
+// Whether it has no percent-encoded octet.
+fn is_bare(base: &Splitter<'_>, directory: &str) -> bool
+    requires { directory.now ≡ merge_prefix (parts base.now) }
+    ensures { result ≡ true → lacks percent_sign directory.now ≡ true }
+{
+    !base.seen().path_triplets || lacks(directory, b'%')
+}
+
 // Those of a long one.
 fn long_parents(directory: &str) -> Option<Parents<'_>>
     requires ends { ends_at_slash directory.now ≡ true }
@@ -89,8 +105,8 @@ impl<'a> Directory<'a> {
         let text = merge_prefix(base);
         Directory {
             text,
-            plain: !has_dot_segment(text),
-            bare: lacks(text, b'%'),
+            plain: is_plain(base, text),
+            bare: is_bare(base, text),
             parents: long_parents(text),
         }
     }

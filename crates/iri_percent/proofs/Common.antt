@@ -4,13 +4,14 @@ pub use Rattle.std.proofs.Common.{length, get_or, ◌∙◌, subst, arith, appen
 pub use Rattle.std.proofs.Common.{drop, append_assoc, length-append, eqb-true, ◌||◌, take-append-drop, Ok}
 pub use Rattle.std.proofs.lemmas.Bool.{lt-ltb, le-ltb, not-true, agree_below, agree_below_at}
 pub use Rattle.std.proofs.lemmas.Bool.Decides.{nat_tests}
+pub use Rattle.std.proofs.lemmas.Grind.{flat_map-append}
 pub use Rattle.std.proofs.lemmas.List.{drop_at, map-id, take_at, take_rest}
 pub use Rattle.std.proofs.lemmas.Str.{encode_ascii, length-encode, len_utf8_bounds, encodes-chars, scalars-chars, IsUtf8-from_is_utf8}
 pub use Rattle.std.proofs.lemmas.Str.{IsCharBoundary-from_drop}
 pub use Rattle.std.proofs.lemmas.Str.Ascii.{IsAscii-cons, IsAscii-nil}
 pub use Rattle.std.specs.Char.{encode_utf8, is_ascii_hexdigit, is_ascii_uppercase, to_ascii_uppercase, to_ascii_lowercase, len_utf8}
 pub use Rattle.std.specs.Char.{digit_value, is_ascii_digit}
-pub use Rattle.std.specs.List.{flat_map, list_all}
+pub use Rattle.std.specs.List.{flat_map, list_all, list_any}
 pub use Rattle.std.specs.Prelude.{map, ◌==◌, nat_lt, ◌/◌, ◌%◌, option_map}
 pub use Rattle.std.specs.Str.{IsUtf8, is_utf8, IsCharBoundary, IsAscii}
 unfoldable pub use Rattle.std.specs.Str.{chars}
@@ -18,6 +19,7 @@ pub use lib.Dec.{ltb}
 pub use lib.Utf8.{scalar, low_scalar, encodes, scalars, next}
 unfoldable pub use lib.Utf8.{encode}
 pub use Rattle.iri_grammar.proofs.splits.CutLaws.{both, by_test, all-lacks}
+pub use Rattle.iri_grammar.proofs.units.ClassLaws.{class_has_no_percent}
 pub use Rattle.iri_grammar.specs.Authority.{AuthorityParts, FitsAuthority, userinfo_text}
 unfoldable pub use Rattle.iri_grammar.specs.Authority.{authority_parts, recompose_authority}
 pub use Rattle.iri_grammar.specs.ClassTests.{class_test, ascii_test}
@@ -40,6 +42,7 @@ pub use Rattle.iri_percent.specs.Decoding.{Octet, Percent, fragment_bytes}
 unfoldable pub use Rattle.iri_percent.specs.Decoding.{decoding, has_triplet, fragments}
 pub use Rattle.iri_percent.specs.Encoding.{keeps, encoded_char}
 unfoldable pub use Rattle.iri_percent.specs.Encoding.{encoded}
+pub use Rattle.iri_percent.specs.FragmentViews.{fragments_left}
 pub use Rattle.iri_percent.specs.Mapping.{capital_hex, triplets, triplet, mapped}
 pub use Rattle.iri_percent.specs.NormalHost.{is_plain_byte}
 unfoldable pub use Rattle.iri_percent.specs.NormalHost.{normal_authority, is_ascii_host, normal_host}
@@ -49,6 +52,6 @@ pub use Rattle.iri_percent.specs.Units.{octet, octets, Plain, Char, Lone, units,
 pub use Rattle.iri_percent.specs.Units.{first_unit, unit_text, is_triplet, byte_unit}
 unfoldable pub use Rattle.iri_percent.specs.Units.{whole_triplets, first_char, units_from}
 pub use Rattle.iri_percent.specs.inside.MapRuns.{goes_on}
-pub use Rattle.iri_percent.specs.inside.Octets.{char_from}
+pub use Rattle.iri_percent.specs.inside.Octets.{char_from, is_octet}
 pub use Rattle.iri_percent.specs.inside.Pieces.{case_of, stays, NoCandidate, Becomes, Gathered, Writes}
 pub use Rattle.iri_percent.specs.inside.Runs.{is_other, run_text, IsPastRun}

@@ -4,11 +4,10 @@ ghost use Rattle.std.specs.Prelude.{string_bytes};
 ghost use Rattle.iri_percent.specs.Decoding.{decoding, has_triplet, fragments, fragment_bytes};
 ghost use Rattle.iri_percent.specs.FragmentViews.{fragment, fragments_left};
 ghost use Rattle.iri_percent.specs.TextRefusals.{IsNoText};
+ghost use Rattle.iri_percent.specs.inside.Octets.{is_octet};
 
 use crate::fragments::{DecodedFragment, PercentDecodedBytesFragments};
-use crate::octets::first_octet;
 use iri_text::Bytes;
-use memchr::memchr;
 use std::alloc::{AllocError, Global};
 use thiserror::Error;
 
@@ -60,16 +59,23 @@ pub fn decode_whatwg_bytes(bytes: &[u8]) -> PercentDecodedWhatwgBytes<'_>
     PercentDecodedWhatwgBytes { source: bytes }
 }
 
+// Whether the fragment is the byte of a percent-encoded octet.
+fn is_octet(piece: DecodedFragment<'_>) -> bool
+    ensures { result ≡ is_octet (fragment piece.entry) }
+{
+    match piece {
+        DecodedFragment::DecodedByte(_) => true,
+        DecodedFragment::Direct(_) | DecodedFragment::StrayPercent => false,
+    }
+}
+
 // Whether two hex digits follow some `%`.
 fn has_triplet(text: &[u8]) -> bool
     ensures { result ≡ has_triplet text.now }
 {
-    let mut rest = text;
-    while let Some(i) = memchr(b'%', rest) {
-        let prefix = &rest[i..];
-        match first_octet(prefix) {
-            Some(_) => return true,
-            None => rest = &prefix[1..],
+    for fragment in PercentDecodedBytesFragments::new(text) {
+        if is_octet(fragment) {
+            return true;
         }
     }
     false

@@ -9,6 +9,7 @@ ghost use Rattle.iri_percent.specs.inside.Runs.{run_text, is_other, IsPastRun, I
 use crate::context::{Context, class_of};
 use crate::spelling::put_triplets;
 use iri_grammar::class::Class;
+use iri_grammar::cutting::run_len;
 use iri_grammar::over;
 use iri_grammar::spec::Spec;
 use iri_text::{Stop, TextSink};
@@ -30,12 +31,7 @@ fn is_other(class: Class, b: u8) -> bool
 fn other_run_len(class: Class, bytes: &[u8]) -> usize
     ensures { result ≡ run_of (is_other class) bytes.now }
 {
-    for (i, b) in bytes.iter().enumerate() {
-        if !is_other(class, *b) {
-            return i;
-        }
-    }
-    bytes.len()
+    run_len(bytes, |b| is_other(class, b))
 }
 
 // What follows the ASCII characters at the start that aren't in the class.

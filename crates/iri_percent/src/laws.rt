@@ -29,6 +29,7 @@ pub fn units_of_texts()
 
 /// Two hex digits follow each `%` of a text exactly where none of its units is a stray `%`, read character by character or
 /// byte by byte.
+#[tactic(auto, using(crate::proofs::units::StrayPercents::strays))]
 pub fn whole_triplets_have_no_stray_percent()
     ensures characters { (t : List ℕ) → (whole_triplets t ≡ true) ↔ All (λ u. u ≢ TextUnit.Stray) (char_units t) }
     ensures bytes { (t : List ℕ) → (whole_triplets t ≡ true) ↔ All (λ u. u ≢ TextUnit.Stray) (units t) }
@@ -46,6 +47,7 @@ pub fn units_of_characters<S: Spec>()
 {}
 
 /// The triplet normal form of a text without stray `%` has no stray `%`, and is its own.
+#[tactic(auto, using(crate::proofs::forms::Stability::stable_forms))]
 pub fn triplet_form_is_stable<S: Spec>()
     ensures whole { (t : List ℕ) → whole_triplets t ≡ true → whole_triplets (pct S.tests t) ≡ true }
     ensures stable { (t : List ℕ) → whole_triplets t ≡ true → pct S.tests (pct S.tests t) ≡ pct S.tests t }
@@ -53,6 +55,7 @@ pub fn triplet_form_is_stable<S: Spec>()
 
 /// No decoding makes a new percent-encoded character: the units of the triplet normal form are those of the text, each in
 /// normal form.
+#[tactic(auto, using(crate::proofs::units::InNormalForm::formed_units))]
 pub fn decoding_makes_no_new_character<S: Spec>()
     ensures characters { (t : List ℕ) → IsUtf8 t → whole_triplets t ≡ true
         → char_units (pct S.tests t) ≡ map (unit_in_form S.tests) (char_units t) }
@@ -118,6 +121,7 @@ pub fn decoding_of_texts()
 {}
 
 /// Decoding undoes encoding, for each place of a reference.
+#[tactic(auto, using(crate::proofs::coding::DecodedAgain::decoded_again))]
 pub fn decoding_undoes_encoding<S: Spec>()
     ensures { (k : Context) (t : List ℕ) → IsUtf8 t → decoding (encoded (keeps S.tests k) t) ≡ t }
 {}

@@ -10,6 +10,7 @@ ghost use Rattle.iri_percent.specs.inside.MapRuns.{goes_on};
 use crate::mapped_kind::MappedKind;
 use crate::mapper::Mapper;
 use crate::spelling::put_triplets;
+use iri_grammar::cutting::run_len;
 use iri_grammar::spec::{Spec, UriSpec};
 use iri_owned::owned::Owned;
 use iri_text::{FormatSink, Show, Stop, TextSink, ToDedicatedString, try_append_to_string};
@@ -53,15 +54,10 @@ fn goes_on(b: u8, past: bool) -> bool
     (b < 128) != past
 }
 
-fn run_len(bytes: &[u8], past: bool) -> usize
+fn going_on_len(bytes: &[u8], past: bool) -> usize
     ensures { result ≡ run_of (goes_on past) bytes.now }
 {
-    for (i, b) in bytes.iter().enumerate() {
-        if !goes_on(*b, past) {
-            return i;
-        }
-    }
-    bytes.len()
+    run_len(bytes, |b| goes_on(b, past))
 }
 
 // The longest run at the start of ASCII bytes, or of bytes past ASCII, and the rest.
@@ -70,7 +66,7 @@ fn split_run(bytes: &[u8], past: bool) -> (&[u8], &[u8])
     ensures run { result.0.now ≡ take (run_of (goes_on past) bytes.now) bytes.now }
     ensures rest { result.1.now ≡ drop (run_of (goes_on past) bytes.now) bytes.now }
 {
-    bytes.split_at(run_len(bytes, past))
+    bytes.split_at(going_on_len(bytes, past))
 }
 
 #[tactic(auto, using(crate::proofs::coding::SpelledTriplets::spelled_texts))]

@@ -1,55 +1,30 @@
 // Percent-encoded octets.
 ghost use Rattle.std.specs.Prelude.{◌≡◌, ◌<◌, ◌+◌, ◌∷◌, [], true, false, ◌&&◌, MatchOption, drop};
-ghost use Rattle.std.specs.Char.{is_ascii_hexdigit, digit_value};
+ghost use Rattle.std.specs.Char.{is_ascii_hexdigit};
 ghost use Rattle.iri_percent.specs.Units.{octet, octets};
 ghost use Rattle.iri_grammar.specs.inside.Runs.{begins_with_more};
 
-// For each byte its value as a hex digit, counted from `0` on, and `@`, one past the last, where it is none.
-// With it and DIGITS a byte of percent-encoded text costs 24.4 instructions, by arithmetic 28.0 (2026-12-01).
-static VALUES: [u8; 256] = *b"\
-    @@@@@@@@@@@@@@@@@@@@@@@@@@@@@@@@\
-    @@@@@@@@@@@@@@@@0123456789@@@@@@\
-    @:;<=>?@@@@@@@@@@@@@@@@@@@@@@@@@\
-    @:;<=>?@@@@@@@@@@@@@@@@@@@@@@@@@\
-    @@@@@@@@@@@@@@@@@@@@@@@@@@@@@@@@\
-    @@@@@@@@@@@@@@@@@@@@@@@@@@@@@@@@\
-    @@@@@@@@@@@@@@@@@@@@@@@@@@@@@@@@\
-    @@@@@@@@@@@@@@@@@@@@@@@@@@@@@@@@";
-
-fn hex_value(digit: u8) -> Option<u8>
-    ensures { MatchOption result (is_ascii_hexdigit digit ≡ false)
-        (λ v. (is_ascii_hexdigit digit ≡ true) × (v ≡ digit_value digit) × (v < 16)) }
-{
-    let value = VALUES[usize::from(digit)];
-    if value < b'@' { Some(value % 16) } else { None }
-}
-
-#[tactic(auto, using(crate::proofs::characters::HexDigits::value_here))]
-#[inline(always)]
-fn value_of_digit(digit: u8) -> u8
-    requires { is_ascii_hexdigit digit ≡ true }
-    ensures value { result ≡ digit_value digit }
-    ensures below { result < 16 }
-{
-    VALUES[usize::from(digit)] % 16
-}
+use iri_grammar::digits::{are_hex_digits, hex_value};
 
 // The octet that two hex digits spell.
+#[tactic(auto, using(crate::proofs::characters::HexDigits::value_small))]
 #[inline(always)]
 pub(crate) fn octet_of_digits(high: u8, low: u8) -> u8
     requires { (is_ascii_hexdigit high ≡ true) × (is_ascii_hexdigit low ≡ true) }
     ensures { result ≡ octet high low }
 {
-    value_of_digit(high) * 16 + value_of_digit(low)
+    hex_value(high) * 16 + hex_value(low)
 }
 
 fn octet(high: u8, low: u8) -> Option<u8>
     ensures { MatchOption result ((is_ascii_hexdigit high && is_ascii_hexdigit low) ≡ false)
         (λ o. ((is_ascii_hexdigit high && is_ascii_hexdigit low) ≡ true) × (o ≡ octet high low)) }
 {
-    let high = hex_value(high)?;
-    let low = hex_value(low)?;
-    Some(high * 16 + low)
+    if are_hex_digits(high, low) {
+        Some(octet_of_digits(high, low))
+    } else {
+        None
+    }
 }
 
 // The value of the percent-encoded octet with which the text begins, and the rest.

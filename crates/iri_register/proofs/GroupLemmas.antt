@@ -116,12 +116,13 @@ grouped_after (k ∷ ls) l =
 
 -- ---- one target less
 
-twice : (t : List ℕ) (es : List Entry) → without t (without t es) ≡ without t es
-twice t [] = refl
-twice t (e ∷ es) =
-    elim (bytes_eq t e.target) as (λ b. bytes_eq t e.target ≡ b → without t (without t (e ∷ es)) ≡ without t (e ∷ es)) [
-      | true ↦ λ k. rw k (twice t es)
-      | false ↦ λ k. rw (k, k) (ap (λ l. e ∷ l) (twice t es))
+pub filter_twice : {X : Type 0} (p : X → Bool) (xs : List X) → filter p (filter p xs) ≡ filter p xs
+filter_twice p [] = refl
+filter_twice p (x ∷ xs) =
+    let rest = filter_twice p xs in
+    elim (p x) as (λ b. p x ≡ b → filter p (cond b (x ∷ filter p xs) (filter p xs)) ≡ cond b (x ∷ filter p xs) (filter p xs)) [
+      | true ↦ λ m. rw (m, rest) refl
+      | false ↦ λ m. rest
     ] refl
 
 -- a target taken out, and another entry gone
@@ -175,7 +176,7 @@ grouped_less t [] = refl
 grouped_less t (l ∷ ls) =
     elim (bytes_eq t l.target) as (λ b. bytes_eq t l.target ≡ b → grouped (without_lines t (l ∷ ls)) ≡ without t (grouped (l ∷ ls))) [
       | true ↦ λ k. rw k (grouped_less t ls
-          ∙ sym (subst (λ v. without t (without v (grouped ls)) ≡ without t (grouped ls)) (is_same t l.target k) (twice t (grouped ls))))
+          ∙ sym (subst (λ v. without t (without v (grouped ls)) ≡ without t (grouped ls)) (is_same t l.target k) (filter_twice (λ (e : Entry). not (bytes_eq t e.target)) (grouped ls))))
       | false ↦ λ k.
           let rest = ap (without l.target) (grouped_less t ls) ∙ swapped l.target t (grouped ls) in
           rw k (λ j. record { target = l.target; lines = l.number ∷ numbers_without t l.target k ls j } ∷ rest j)
@@ -186,7 +187,7 @@ removed_less t [] = refl
 removed_less t (l ∷ ls) =
     elim (bytes_eq t l.target) as (λ b. bytes_eq t l.target ≡ b → removed (grouped (l ∷ ls)) t ≡ without t (grouped (l ∷ ls))) [
       | true ↦ λ k. rw k
-          (sym (subst (λ v. without t (without v (grouped ls)) ≡ without v (grouped ls)) (is_same t l.target k) (twice t (grouped ls))))
+          (sym (subst (λ v. without t (without v (grouped ls)) ≡ without v (grouped ls)) (is_same t l.target k) (filter_twice (λ (e : Entry). not (bytes_eq t e.target)) (grouped ls))))
       | false ↦ λ k.
           let rest = removed_other l.target t (turned t l.target false k) (grouped ls)
           ∙ (ap (without l.target) (removed_less t ls) ∙ swapped l.target t (grouped ls)) in

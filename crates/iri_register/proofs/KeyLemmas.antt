@@ -6,15 +6,14 @@ use Rattle.iri_register.proofs.Common.{is_text, IsAt, flag_at, gaps, Moves, IsKe
 use Rattle.std.proofs.Common.{not, take, Bool, cond, nat_lt, slice_set, ⊎_elim, lt-ltb}
 use Rattle.std.specs.Prelude.{slice_index_or, OnOk, Result, Err}
 use Rattle.std.proofs.lemmas.Bool.{cases_lt}
-use Rattle.std.proofs.lemmas.List.{length-append, length-map, length-set}
+use Rattle.std.proofs.lemmas.List.{length-map, length-set, length_push, get_or_push, set-append_left, take_at}
 use Rattle.std.proofs.lemmas.Option.{none-some}
 use Rattle.std.specs.List.{position_or_len, swap_remove}
 use Rattle.std.specs.declared.hash.DefaultHasher.{DefaultHasher}
 use Rattle.indexmap.specs.IndexMap.{insert_entry, swap_remove_entry}
 use Rattle.iri_register.proofs.GroupLemmas.{same}
 use Rattle.iri_register.proofs.HashLemmas.{hashed_last, hashed_slot, position_as}
-use Rattle.iri_register.proofs.MapLemmas.{less_none}
-use Rattle.iri_register.proofs.SlotLemmas.{at_within, apart_text, flag_false, flag_small, place_live, live_within}
+use Rattle.iri_register.proofs.SlotLemmas.{at_within, apart_text, flag_false, flag_small, less_none, place_live, live_within}
 use Rattle.iri_register.proofs.SlotLemmas.{insert_last, kept_as}
 
 -- a target that has no entry stands in a slot that was given up
@@ -85,26 +84,14 @@ position_at t es i h =
     let l = length-map es (λ (e : Key × Lines). e.0) in
     ap (λ k. cond (nat_lt k (length (keys_of es))) (Some k) None) o ∙ ap (λ b. cond b (Some i) None) (lt-ltb i (length (keys_of es)) (omega arith))
 
-length_more : {X : Type 0} (xs : List X) (x : X) → length (xs ++ x ∷ []) - 1 ≡ length xs
-length_more xs x = let l = length-append xs (x ∷ []) in omega (arith, l)
-
-last_one : {X : Type 0} (xs : List X) (x d : X) → slice_index_or (xs ++ x ∷ []) (length xs) d ≡ x
-last_one [] x d = refl
-last_one (y ∷ xs) x d = last_one xs x d
-
-taken_in : {X : Type 0} (xs : List X) (i : ℕ) (x y : X) → i < length xs → take (length xs) (slice_set (xs ++ x ∷ []) i y) ≡ slice_set xs i y
-taken_in [] i x y h = absurd (omega arith)
-taken_in (z ∷ xs) zero x y h = ap (λ l. y ∷ l) (taken_all xs x)
-  where
-    taken_all : {X : Type 0} (xs : List X) (x : X) → take (length xs) (xs ++ x ∷ []) ≡ xs
-    taken_all [] x = refl
-    taken_all (y ∷ xs) x = ap (λ l. y ∷ l) (taken_all xs x)
-taken_in (z ∷ xs) (suc i) x y h = ap (λ l. z ∷ l) (taken_in xs i x y (omega arith))
-
 swap_last : {X : Type 0} (xs : List X) (i : ℕ) (x d : X) → i < length xs → swap_remove (xs ++ x ∷ []) i d ≡ slice_set xs i x
 swap_last xs i x d h =
-    ap (λ n. take n (slice_set (xs ++ x ∷ []) i (slice_index_or (xs ++ x ∷ []) n d))) (length_more xs x)
-    ∙ (ap (λ y. take (length xs) (slice_set (xs ++ x ∷ []) i y)) (last_one xs x d) ∙ taken_in xs i x x h)
+    let more = length_push xs x in
+    let last : length (xs ++ x ∷ []) - 1 ≡ length xs = omega (arith, more) in
+    (λ j. take (last j) (slice_set (xs ++ x ∷ []) i (slice_index_or (xs ++ x ∷ []) (last j) d)))
+    ∙ ap (λ y. take (length xs) (slice_set (xs ++ x ∷ []) i y)) (get_or_push xs x d (length xs) refl)
+    ∙ ap (take (length xs)) (set-append_left xs (x ∷ []) i x h)
+    ∙ take_at (slice_set xs i x) (x ∷ []) (length xs) (length-set xs i x)
 
 pub swapped_in : (t : List ℕ) (es : List (Key × Lines)) (i : ℕ) (x : Key × Lines) (E : Key → Bool) → IsAt t es i
     → position E (keys_of (es ++ x ∷ [])) ≡ position (is_text t) (keys_of (es ++ x ∷ []))

@@ -3,7 +3,6 @@ pub mod CommandLemmas
 pub mod GroupLemmas
 pub mod HashLemmas
 pub mod KeyLemmas
-pub mod MapLemmas
 pub mod MoveLemmas
 pub mod ShareLemmas
 pub mod SlotLemmas

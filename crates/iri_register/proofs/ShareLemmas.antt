@@ -26,7 +26,7 @@ use Rattle.iri_register.specs.declared.added.Added.{Added}
 use Rattle.iri_register.specs.declared.added.Added.TheVariants.{New, Old}
 use Rattle.iri_register.specs.declared.error.RegisterError.{RegisterError}
 use Rattle.iri_register.proofs.GroupLemmas.{same, is_same, without, grouped, entries_grouped}
-use Rattle.iri_register.proofs.MapLemmas.{less_none}
+use Rattle.iri_register.proofs.SlotLemmas.{less_none}
 
 -- ---- places
 

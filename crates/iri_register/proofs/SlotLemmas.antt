@@ -2,20 +2,21 @@
 use Rattle.iri_register.proofs.Common.{Lines, numbers_in, Key, AreHashed, IsHashed, key_eq, keys_of, lookup, IsDistinct, AllByRecursion, Entry, entry_at, place, added, removed, line_count}
 use Rattle.iri_register.proofs.Common.{entry_of, entries_of, has_lines, is_live, Moves, moved, IsBlocked, is_text, IsAt, flag_at, gaps, IsKept}
 use Rattle.std.proofs.Common.{bytes_eq, ◌≡◌, ◌≢◌, ℕ, zero, suc, ◌+◌, ◌-◌, ◌<◌, ◌≤◌, List, [], ◌∷◌, ◌++◌, length, map, filter}
-use Rattle.std.proofs.Common.{slice_get, true, false, cond, true≢false, Some, None, is_some, option_map, ◌&&◌, string_bytes}
+use Rattle.std.proofs.Common.{◌^◌, Option, get_or, position, slice_get, true, false, cond, true≢false, Some, None, is_some, option_map, ◌&&◌, string_bytes}
 use Rattle.std.proofs.Common.{refl, sym, ◌∙◌, ap, subst, arith, ⊎_elim}
 use Rattle.std.proofs.lemmas.Bool.{cases_lt}
 use Rattle.std.proofs.lemmas.List.{length-append}
+use Rattle.std.proofs.lemmas.List.Quantifiers.{position-Some}
 use Rattle.std.proofs.lemmas.Option.{none-some, same_Some}
 use Rattle.std.specs.Map.{values_of}
 use Rattle.std.specs.Prelude.{nat_eq}
 use Rattle.std.specs.declared.hash.DefaultHasher.{DefaultHasher}
 use Rattle.indexmap.specs.IndexMap.{set_value_at, insert_entry}
 use Rattle.iri_register.specs.Entries.{with_line}
+use Rattle.iri_register.specs.inside.Moved.{IsPlacedBy}
 use Rattle.iri_register.specs.inside.Slots.{flag}
-use Rattle.iri_register.proofs.GroupLemmas.{is_same}
+use Rattle.iri_register.proofs.GroupLemmas.{filter_twice, is_same}
 use Rattle.iri_register.proofs.HashLemmas.{and_false, as_texts, hashed_last, hashed_live, hashed_set}
-use Rattle.iri_register.proofs.MapLemmas.{less_none}
 
 -- ---- gaps
 
@@ -71,10 +72,27 @@ flag_false e h = elim (is_live e) as (λ b. ◌≡◌ {A = ℕ} (cond b 1 0) 0 �
 
 -- ---- places
 
+-- one more than no place is none
+pub less_none : (o : Option ℕ) → option_map (λ k. k + 1) o ≡ None → o ≡ None
+less_none None h = refl
+less_none (Some k) h = absurd (none-some _ (sym h))
+
 pub at_within : (t : List ℕ) (es : List (Key × Lines)) (i : ℕ) → IsAt t es i → i < length es
 at_within t [] i h = absurd h
 at_within t (e ∷ es) zero h = omega arith
 at_within t (e ∷ es) (suc i) h = let rest = at_within t es i h.1 in omega arith
+
+at_from : (t : List ℕ) (es : List (Key × Lines)) (i : ℕ) (d : Key) → i < length (keys_of es)
+    → is_text t (get_or (keys_of es) i d) ≡ true
+    → ((k : ℕ) → k < i → is_text t (get_or (keys_of es) k d) ≡ false) → IsAt t es i
+at_from t [] i d l here before = absurd (omega arith)
+at_from t (e ∷ es) zero d l here before = here
+at_from t (e ∷ es) (suc i) d l here before =
+    (before 0 (omega arith), at_from t es i d (omega arith) here (λ k h. before (suc k) (omega arith)))
+
+pub at_position : (t : List ℕ) (es : List (Key × Lines)) (i : ℕ) → position (is_text t) (keys_of es) ≡ Some i → IsAt t es i
+at_position t [] i p = absurd (none-some _ p)
+at_position t (e ∷ es) i p = let s = position-Some (is_text t) (keys_of (e ∷ es)) i e.0 p in at_from t (e ∷ es) i e.0 s.0 s.1 s.2
 
 pub place_live : (t : List ℕ) (es : List (Key × Lines)) (i : ℕ) → IsAt t es i → flag_at es i ≡ 1
     → place (entries_of es) t ≡ Some (i - gaps es i + 1)
@@ -222,6 +240,20 @@ pub moved_is : {h : DefaultHasher} {es : List (Key × Lines)} {m : Moves} {live 
     → moved m i ≡ gaps es i
 moved_is kept i h = kept.moves i (omega (arith, h, kept.within))
 
+pub placed_as_moved : {h : DefaultHasher} {es : List (Key × Lines)} {m : Moves} {live : ℕ} → IsKept h es m live → (i : ℕ) → i < length es
+    → length es < 2 ^ 63 → IsPlacedBy m i
+placed_as_moved {es = es} kept i within small =
+    let m = moved_is kept i within in
+    let g = gaps_small es i in
+    record { blocked = kept.blocked; within = omega (arith, within, kept.within); up = omega (arith, m, g); small = omega (arith, within, small) }
+
+pub place_is : {h : DefaultHasher} {es : List (Key × Lines)} {m : Moves} {live : ℕ} → IsKept h es m live → (t : List ℕ) (i n : ℕ) → IsAt t es i
+    → flag_at es i ≡ 1 → i < length es → n + moved m i ≡ i + 1 → place (entries_of es) t ≡ Some n
+place_is {es = es} kept t i n at living within is =
+    let m = moved_is kept i within in
+    let g = gaps_small es i in
+    place_live t es i at living ∙ ap Some (omega (arith, is, m, g))
+
 -- one is taken out
 pub kept_less : {k : DefaultHasher} {es : List (Key × Lines)} {m : Moves} {live : ℕ} → IsKept k es m live → (i : ℕ) (w : Lines) (n : Moves)
     → i < length es → flag_at es i ≡ 1 → has_lines (numbers_in w) ≡ false → IsBlocked n → length n.slots.items ≡ length m.slots.items
@@ -366,18 +398,8 @@ kept_same {h} {es} kept i w f n = kept_as kept (set_value_at es i w) (hashed_set
 
 -- ---- slots are freed
 
-filter_twice : (es : List (Key × Lines)) → filter is_live (filter is_live es) ≡ filter is_live es
-filter_twice [] = refl
-filter_twice (e ∷ es) =
-    let rest = filter_twice es in
-    elim (is_live e) as (λ b. is_live e ≡ b → filter is_live (cond b (e ∷ filter is_live es) (filter is_live es))
-    ≡ cond b (e ∷ filter is_live es) (filter is_live es)) [
-      | true ↦ λ m. rw (m, rest) refl
-      | false ↦ λ m. rest
-    ] refl
-
 pub packed_same : (es : List (Key × Lines)) → entries_of (filter is_live es) ≡ entries_of es
-packed_same es = ap (map entry_of) (filter_twice es)
+packed_same es = ap (map entry_of) (filter_twice is_live es)
 
 packed_gaps : (es : List (Key × Lines)) (k : ℕ) → gaps (filter is_live es) k ≡ 0
 packed_gaps [] k = refl
@@ -399,7 +421,7 @@ kept_packed h es m live a e blocked w none = record {
   blocked = blocked;
   within = omega (arith, e, w);
   moves = λ k b. none k ∙ sym (packed_gaps es k);
-  living = e ∙ ap length (sym (filter_twice es));
+  living = e ∙ ap length (sym (filter_twice is_live es));
 }
 
 -- ---- a new entry is last
@@ -464,6 +486,3 @@ kept_more {k} {es} kept x a h n = record {
       let g = more_gaps es x (length es + 1) n in
       omega (arith, a, b, l, g, kept.living);
 }
-
-pub added_longer : (es : List Entry) (t : List ℕ) (n : ℕ) → place es t ≡ None → length (added es t n) ≡ length es + 1
-added_longer es t n h = ap length (added_last es t n h) ∙ length-append es ((record { target = t; lines = n ∷ [] }) ∷ [])

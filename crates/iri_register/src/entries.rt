@@ -10,7 +10,7 @@ ghost use Rattle.iri_register.specs.Entries.{added, removed, place, line_count, 
 ghost use Rattle.iri_register.specs.Listed.{entries_of, entry_of, has_lines, is_live, numbers_in};
 ghost use Rattle.iri_register.specs.declared.moves.Moves.{Moves};
 ghost use Rattle.iri_register.specs.inside.Keys.{IsAskedOf, IsHashed};
-ghost use Rattle.iri_register.specs.inside.Moved.{IsBlocked, moved};
+ghost use Rattle.iri_register.specs.inside.Moved.{IsPlacedBy, moved};
 ghost use Rattle.iri_register.specs.inside.Places.{IsAt, is_text};
 ghost use Rattle.iri_register.specs.inside.Slots.{flag_at, gaps, IsKept};
 
@@ -86,6 +86,7 @@ fn slot_of(map: &Map, target: &Key) -> Option<usize>
     requires { IsAskedOf map.now.entries target.now }
     ensures here { IfSome result (λ i. IsAt (string_bytes target.now.text) map.now.entries i) }
     ensures live { IfSome result (λ i. flag_at map.now.entries i ≡ 1) }
+    ensures within { IfSome result (λ i. i < index_map_len map.now) }
     ensures small { index_map_len map.now < 2 ^ 63 }
     ensures none { IfNone result (place (entries_of map.now.entries) (string_bytes target.now.text) ≡ None) }
 {
@@ -99,10 +100,7 @@ fn slot_of(map: &Map, target: &Key) -> Option<usize>
 
 // The place of the entry in a slot.
 fn place_of(moves: &Moves, slot: usize) -> usize
-    requires blocked { IsBlocked moves.now }
-    requires within { slot < length moves.now.slots.items }
-    requires up { moved moves.now slot ≤ slot }
-    requires small { slot < 2 ^ 63 }
+    requires { IsPlacedBy moves.now slot }
     ensures { result + moved moves.now slot ≡ slot + 1 }
 {
     slot - moves::at(moves, slot) + 1

@@ -80,9 +80,6 @@ nothing_read s rules e r (later o rs k) = cc
 pub none_best : (s : List ℕ) → IsBestOf [] s None
 none_best s = record { none = λ r k m. nothing_read s [] refl r k }
 
-pub judged_none : (s : List ℕ) (rules : List FileRule) → IsJudged rules s None rules
-judged_none s rules = record { done = []; decided = none_best s; split = refl }
-
 pub judged_more : (all : List FileRule) (s : List ℕ) (best best' : Option Best) (left some after : List FileRule) → left ≡ some ++ after
     → ((rules : List FileRule) → IsBestOf rules s best → IsBestOf (rules ++ some) s best') → IsJudged all s best left
     → IsJudged all s best' after

@@ -8,7 +8,7 @@ pub use Rattle.std.proofs.lemmas.List.{nil_from_length, drop_all}
 pub use Rattle.std.proofs.lemmas.Str.{chars-nil, is_utf8-from_IsUtf8, len_utf8_bounds, IsCharBoundary-at_seam, IsCharBoundary-after_ascii}
 pub use Rattle.std.specs.Char.{encode_utf8, is_ascii_hexdigit, len_utf8, is_ascii_digit}
 pub use Rattle.std.specs.List.{flat_map, list_all}
-pub use Rattle.std.specs.Prelude.{OnOk, ◌==◌, nat_le}
+pub use Rattle.std.specs.Prelude.{OnOk, ◌==◌, nat_le, ◌⊎◌}
 pub use Rattle.std.specs.Str.{IsUtf8, chars, is_utf8, encode_utf8_all, IsCharBoundary}
 pub use Rattle.std.specs.Str.Iter.{chars_rest}
 pub use Rattle.std.specs.Str.Lossy.{utf8_valid_len}
@@ -28,7 +28,7 @@ pub use Rattle.iri_grammar.specs.Pieces.{pieces}
 pub use Rattle.iri_grammar.specs.Runs.{run_of}
 pub use Rattle.iri_percent.specs.Encoding.{encoded_char}
 unfoldable pub use Rattle.iri_percent.specs.Encoding.{encoded}
-pub use Rattle.iri_percent.specs.Units.{TextUnit, Plain, units}
+pub use Rattle.iri_percent.specs.Units.{TextUnit, units}
 pub use Rattle.iri_text.proofs.CharSteps.{first_char}
 pub use Rattle.std.proofs.StrCases.{chars_of_empty}
 pub use Rattle.iri_text.proofs.Compose.{HasShown, shown_none, shown_more, shown_exit, shows_all, shows_then, shows_exit}
@@ -65,8 +65,7 @@ pub use Rattle.iri_template.specs.declared.visitor.Phase.TheVariants.{Done, InPa
 pub use Rattle.iri_template.specs.declared.visitor.VisitPurpose.TheVariants.{Typecheck, Expand}
 pub use Rattle.iri_template.specs.inside.ByPurpose.{by_purpose, untold}
 pub use Rattle.iri_template.specs.inside.Triplet.{begins_triplet}
-pub use Rattle.iri_template.specs.inside.Held.{fewer, is_used_up, written_units, written_chars, stays, octet_units, held_text}
-pub use Rattle.iri_template.specs.inside.Held.{held_units, begun_units, are_begun, lone_units, IsHeld}
+pub use Rattle.iri_template.specs.inside.Held.{fewer, is_used_up, written_units, written_chars, stays, is_begun, goes_on, held_unit, unit_len}
 pub use Rattle.iri_template.specs.inside.Parts.{part_pieces}
-pub use Rattle.iri_template.specs.inside.Reads.{Reads, kept_rest}
+pub use Rattle.iri_template.specs.inside.Reads.{IsHeld, Reads, kept_rest}
 pub use Rattle.iri_template.specs.inside.Written.{WriteState, event_step, event_text}

@@ -13,6 +13,8 @@ use Rattle.std.proofs.Common.{◌∷◌, ◌++◌, length, map, drop, Option, So
 use Rattle.std.specs.Char.{IsScalar}
 use Rattle.std.proofs.lemmas.Bool.{cases_eq, or_cases, or_left}
 use Rattle.std.proofs.lemmas.Str.{IsUtf8-nil, IsUtf8-append, IsUtf8-encode, chars_from_encodes, IsUtf8-from_is_utf8}
+use Rattle.std.proofs.lemmas.List.Folds.{list_all-append}
+use Rattle.std.proofs.lemmas.Grind.{flat_map-append}
 use lib.Utf8.{scalar, scalars, encodes}
 use Rattle.iri_grammar.specs.declared.class.Class.TheVariants.{Any}
 use Rattle.iri_grammar.proofs.units.ClassLaws.{ascii_test_below}
@@ -426,15 +428,6 @@ template_has_no_fault ps t s =
 pub one_reading : (ps : List Piece) (t : List ℕ) → Spells ps t → pieces_of t ≡ ps
 one_reading ps t s = (subst (IsRead ps) s.text (spelled_is_read ps s.pieces)).pieces
 
-all_more : (ps qs : List Piece) → list_all is_piece ps ≡ true → list_all is_piece qs ≡ true → list_all is_piece (ps ++ qs) ≡ true
-all_more [] qs h k = k
-all_more (p ∷ ps) qs h k = let j = both (is_piece p) (list_all is_piece ps) h in rw j.0 (all_more ps qs j.1 k)
-
-text_more : (ps qs : List Piece) → template_text (ps ++ qs) ≡ template_text ps ++ template_text qs
-text_more [] qs = refl
-text_more (p ∷ ps) qs = ap (λ l. piece_text p ++ l) (text_more ps qs)
-    ∙ sym (append_assoc (piece_text p) (template_text ps) (template_text qs))
-
 -- a template and another after it
 pub templates_joined : (a b : List ℕ) → template_fault a ≡ None → template_fault b ≡ None → template_fault (a ++ b) ≡ None
 templates_joined a b h k =
@@ -443,8 +436,8 @@ templates_joined a b h k =
     let ps = pieces_of a in
     let qs = pieces_of b in
     template_has_no_fault (ps ++ qs) (a ++ b) (record {
-      pieces = all_more ps qs x.pieces y.pieces;
-      text = text_more ps qs ∙ (ap (λ l. l ++ template_text qs) x.text ∙ ap (λ l. a ++ l) y.text);
+      pieces = list_all-append is_piece ps qs ∙ rw (x.pieces, y.pieces) refl;
+      text = flat_map-append piece_text ps qs ∙ (ap (λ l. l ++ template_text qs) x.text ∙ ap (λ l. a ++ l) y.text);
     })
 
 pub joined_templates : (a b : List ℕ) → IsUtf8 a → IsUtf8 b → text_fault a ≡ None → text_fault b ≡ None → text_fault (a ++ b) ≡ None

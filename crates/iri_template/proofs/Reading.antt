@@ -3,16 +3,13 @@ use Rattle.iri_template.proofs.Common.{◌≡◌, ℕ, zero, suc, true, false, L
 use Rattle.iri_template.proofs.Common.{subst, append_assoc, append-nil, Result, Ok, Err, IsErr, AreSinkLaws, Shows, OnOk, shown_none}
 use Rattle.iri_template.proofs.Common.{shows_all}
 use Rattle.iri_template.proofs.Common.{shows_then, shows_exit, Stop, Tests, Reads, kept_rest, is_used_up, written_units, units, TextUnit}
-use Rattle.iri_template.proofs.Common.{Bool, IsUtf8, chars, fewer, held_text, lacks, written_chars, shown_text, IsHeld, held_units}
-use Rattle.iri_template.proofs.HeldUnits.{settled, run_settled, chars_both, held_closed, ends_closed}
-use Rattle.iri_percent.specs.Units.{units_from}
+use Rattle.iri_template.proofs.Common.{Bool, IsUtf8, chars, fewer, lacks, written_chars, shown_text}
+use Rattle.iri_template.proofs.HeldUnits.{settled, run_settled, chars_both}
 use Rattle.iri_text.proofs.ByCharsLaws.{chars_halt}
-use Rattle.iri_template.specs.inside.Held.{begun_text}
 use Rattle.iri_template.specs.inside.Reads.{value_rest}
 use Rattle.iri_template.specs.inside.ValueText.{ValuePuts, ValueHalts, read_laws}
 use Rattle.iri_template.specs.declared.encoded_value.Reading.{Reading}
 use Rattle.iri_template.specs.declared.encoded_value.ValueSink.{ValueSink}
-use Rattle.iri_template.specs.declared.held.Begun.TheVariants.{Nothing}
 
 module _ {V W : Type 0} {rest_of : V → List ℕ → List ℕ} {puts halts : W → List ℕ → W → Type 0} {stops : W → ℕ}
     (laws : AreSinkLaws puts halts) where
@@ -93,68 +90,68 @@ none_written s (Some (suc n)) us h = cc
 pub used_up : (s : Tests) (v : Reading) (cs : List ℕ) → is_used_up v.left ≡ true → (r : List ℕ) → kept_rest s v (cs ++ r) ≡ kept_rest s v r
 used_up s v cs h r = none_written s v.left _ h ∙ sym (none_written s v.left _ h)
 
-on_ok : {P : Type 0} (r : Result (Unit {0}) Stop) → P → OnOk r P
+pub on_ok : {P : Type 0} (r : Result (Unit {0}) Stop) → P → OnOk r P
 on_ok (Ok x) p = p
 on_ok (Err x) p = tt
 
 -- where nothing is held back
-pub nothing_held : (s : Tests) (v : Reading) (left : Option ℕ) → v.octets ≡ [] → v.begun ≡ Nothing → v.left ≡ left
+nothing_held : (s : Tests) (v : Reading) (left : Option ℕ) → v.held ≡ [] → v.left ≡ left
     → (r : List ℕ) → written_units s left (units r) ≡ kept_rest s v r
-nothing_held s v left e f l r = sym (ap (λ t. written_units s v.left (units ((t ++ begun_text v.begun) ++ r))) e
-    ∙ ap (λ b. written_units s v.left (units (([] ++ begun_text b) ++ r))) f ∙ ap (λ m. written_units s m (units r)) l)
+nothing_held s v left e l r = sym (ap (λ t. written_units s v.left (units (t ++ r))) e ∙ ap (λ m. written_units s m (units r)) l)
 
 module _ {W : Type 0} (s : Tests) {puts halts : W → List ℕ → W → Type 0} {stops : W → ℕ} (laws : AreSinkLaws puts halts) where
-  -- these units were written, and nothing is held back after them
+  -- these units were written, and what is held back after them is what was read and isn't of them
   pub reads_units : {a b : Reading} {w v : W} {x : Result (Unit {0}) Stop} (cs : List ℕ) (us : List TextUnit)
-      → Shows puts halts stops w (written_units s a.left us) v x → ((r : List ℕ) → units (held_text a ++ (cs ++ r)) ≡ us ++ units r)
-      → b.octets ≡ [] → b.begun ≡ Nothing → b.left ≡ fewer a.left (length us) → Reads (kept_rest s) puts halts stops a w cs b v x
-  reads_units {a = a} {b = b} {x = x} cs us p e t f l = record {
+      → Shows puts halts stops w (written_units s a.left us) v x
+      → ((r : List ℕ) → units (a.held ++ (cs ++ r)) ≡ us ++ units (b.held ++ r))
+      → b.left ≡ fewer a.left (length us) → Reads (kept_rest s) puts halts stops a w cs b v x
+  reads_units {a = a} {b = b} {x = x} cs us p e l = record {
     text = written_units s a.left us;
-    rest = λ r. written_units s (fewer a.left (length us)) (units r);
+    rest = λ r. written_units s (fewer a.left (length us)) (units (b.held ++ r));
     shows = p;
-    split = λ r. settled s a.left (held_text a ++ (cs ++ r)) r us (e r);
-    goes_on = on_ok x (nothing_held s b (fewer a.left (length us)) t f l);
+    split = λ r. settled s a.left (a.held ++ (cs ++ r)) (b.held ++ r) us (e r);
+    goes_on = on_ok x (λ r. ap (λ m. written_units s m (units (b.held ++ r))) (sym l));
   }
 
   -- the sink stopped within these units
   pub reads_stopped : {a b : Reading} {w v : W} {e : Stop} {x : Result (Unit {0}) Stop} (cs : List ℕ) (us : List TextUnit) → IsErr x
       → Shows puts halts stops w (written_units s a.left us) v (Err e)
-      → ((r : List ℕ) → units (held_text a ++ (cs ++ r)) ≡ us ++ units (cs ++ r)) → Reads (kept_rest s) puts halts stops a w cs b v x
+      → ((r : List ℕ) → units (a.held ++ (cs ++ r)) ≡ us ++ units (cs ++ r)) → Reads (kept_rest s) puts halts stops a w cs b v x
   reads_stopped {x = Ok y} cs us is p e = absurd (cc is)
   reads_stopped {a = a} {x = Err d} cs us is p e = record {
     text = written_units s a.left us;
     rest = λ r. written_units s (fewer a.left (length us)) (units (cs ++ r));
     shows = record { appends = tt; stops_within = p.stops_within; rose = p.rose; later = p.later };
-    split = λ r. settled s a.left (held_text a ++ (cs ++ r)) (cs ++ r) us (e r);
+    split = λ r. settled s a.left (a.held ++ (cs ++ r)) (cs ++ r) us (e r);
     goes_on = tt;
   }
 
   -- these units were written, and then the characters were read where nothing is held back
   pub reads_after : {a m b : Reading} {w v u : W} {y : Unit {0}} {x : Result (Unit {0}) Stop} (cs : List ℕ) (us : List TextUnit)
       → Shows puts halts stops w (written_units s a.left us) v (Ok y)
-      → ((r : List ℕ) → units (held_text a ++ (cs ++ r)) ≡ us ++ units (cs ++ r))
-      → m.octets ≡ [] → m.begun ≡ Nothing → m.left ≡ fewer a.left (length us)
+      → ((r : List ℕ) → units (a.held ++ (cs ++ r)) ≡ us ++ units (cs ++ r))
+      → m.held ≡ [] → m.left ≡ fewer a.left (length us)
       → Reads (kept_rest s) puts halts stops m v cs b u x → Reads (kept_rest s) puts halts stops a w cs b u x
-  reads_after {a = a} {m = m} cs us p e t f l q = record {
+  reads_after {a = a} {m = m} cs us p e t l q = record {
     text = written_units s a.left us ++ q.text;
     rest = q.rest;
     shows = shows_then laws p q.shows;
-    split = λ r. settled s a.left (held_text a ++ (cs ++ r)) (cs ++ r) us (e r)
-        ∙ ap (λ l. written_units s a.left us ++ l) (nothing_held s m (fewer a.left (length us)) t f l (cs ++ r) ∙ q.split r)
+    split = λ r. settled s a.left (a.held ++ (cs ++ r)) (cs ++ r) us (e r)
+        ∙ ap (λ l. written_units s a.left us ++ l) (nothing_held s m (fewer a.left (length us)) t l (cs ++ r) ∙ q.split r)
         ∙ sym (append_assoc (written_units s a.left us) q.text (q.rest r));
     goes_on = q.goes_on;
   }
 
   -- a run without `%`, where nothing is held back
-  pub reads_run : {a b : Reading} {w v : W} {x : Result (Unit {0}) Stop} (cs : List ℕ) → a.octets ≡ [] → a.begun ≡ Nothing
+  pub reads_run : {a b : Reading} {w v : W} {x : Result (Unit {0}) Stop} (cs : List ℕ) → a.held ≡ []
       → lacks 37 cs ≡ true → Shows puts halts stops w (written_chars s true a.left cs) v x
-      → b.octets ≡ [] → b.begun ≡ Nothing → b.left ≡ fewer a.left (length cs) → Reads (kept_rest s) puts halts stops a w cs b v x
-  reads_run {a = a} {b = b} {x = x} cs t f h p t' f' l = record {
+      → b.held ≡ [] → b.left ≡ fewer a.left (length cs) → Reads (kept_rest s) puts halts stops a w cs b v x
+  reads_run {a = a} {b = b} {x = x} cs t h p u l = record {
     text = written_chars s true a.left cs;
     rest = λ r. written_units s (fewer a.left (length cs)) (units r);
     shows = p;
-    split = λ r. sym (nothing_held s a a.left t f refl (cs ++ r)) ∙ run_settled s a.left cs r h;
-    goes_on = on_ok x (nothing_held s b (fewer a.left (length cs)) t' f' l);
+    split = λ r. sym (nothing_held s a a.left t refl (cs ++ r)) ∙ run_settled s a.left cs r h;
+    goes_on = on_ok x (nothing_held s b (fewer a.left (length cs)) u l);
   }
 
   -- characters each of which is encoded for itself
@@ -171,7 +168,7 @@ module _ {W : Type 0} (s : Tests) {puts halts : W → List ℕ → W → Type 0}
 
 module _ {S W : Type 0} (s : Tests) where
   -- a whole value
-  whole : (a : ValueSink S W) (t : List ℕ) → held_text a.state ≡ []
+  whole : (a : ValueSink S W) (t : List ℕ) → a.state.held ≡ []
       → shown_text s a.allow a.state.left t ≡ value_rest s a.allow a.state (chars t ++ [])
   whole a t none = at a.allow ∙ ap (value_rest s a.allow a.state) (sym (append-nil (chars t)))
     where
@@ -212,7 +209,7 @@ module _ {S W : Type 0} (s : Tests) {puts halts : W → List ℕ → W → Type 
     later = q.shows.later;
   }
 
-  pub whole_then : (a b : ValueSink S W) (c : W) (t rest : List ℕ) (y : Unit {0}) (x : Result (Unit {0}) Stop) → held_text a.state ≡ []
+  pub whole_then : (a b : ValueSink S W) (c : W) (t rest : List ℕ) (y : Unit {0}) (x : Result (Unit {0}) Stop) → a.state.held ≡ []
       → Shows (ValuePuts s puts) (ValueHalts s halts) (λ (v : ValueSink S W). stops v.to.now) a t b (Ok y)
       → value_rest s b.allow b.state [] ≡ rest → Shows puts halts stops b.to.now rest c x
       → Shows puts halts stops a.to.now (shown_text s a.allow a.state.left t) c x
@@ -223,7 +220,7 @@ module _ {S W : Type 0} (s : Tests) {puts halts : W → List ℕ → W → Type 
       subst (λ l. Shows puts halts stops a.to.now l c x) (ap (λ l. k.text ++ l) (sym e) ∙ sym (k.goes_on []) ∙ sym (whole s a t none))
       (shows_then laws first q)
 
-  pub whole_exit : (a b : ValueSink S W) (t : List ℕ) (e : Stop) {x : Result (Unit {0}) Stop} → IsErr x → held_text a.state ≡ []
+  pub whole_exit : (a b : ValueSink S W) (t : List ℕ) (e : Stop) {x : Result (Unit {0}) Stop} → IsErr x → a.state.held ≡ []
       → Shows (ValuePuts s puts) (ValueHalts s halts) (λ (v : ValueSink S W). stops v.to.now) a t b (Err e)
       → Shows puts halts stops a.to.now (shown_text s a.allow a.state.left t) b.to.now x
   whole_exit a b t e {x} is none p =
@@ -234,12 +231,8 @@ module _ {S W : Type 0} (s : Tests) {puts halts : W → List ℕ → W → Type 
       (shows_exit laws (h.rest []) is first)
 
 -- ---- the end of a value
-pub kept_end : (s : Tests) (v : Reading) → IsHeld v → kept_rest s v [] ≡ written_units s v.left (held_units v)
-unfolding units_from
-kept_end s v h =
-    let all : units (held_text v ++ []) ≡ held_units v ++ units [] = held_closed v.octets [] v.missing v.begun h.octets h.digit tt
-    (ends_closed v.missing v.begun [] h.digit tt) in
-    ap (written_units s v.left) (all ∙ append-nil (held_units v))
+pub kept_end : (s : Tests) (v : Reading) → kept_rest s v [] ≡ written_units s v.left (units v.held)
+kept_end s v = ap (λ t. written_units s v.left (units t)) (append-nil v.held)
 
 pub chars_end : (s : Tests) (left : Option ℕ) → written_chars s false left [] ≡ []
 chars_end s None = refl

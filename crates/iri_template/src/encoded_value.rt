@@ -2,23 +2,18 @@
 //! from the beginning of a value, of which one in percent-encoded octets is one (RFC 6570 section 2.4.1). Each character
 //! that isn't allowed becomes the percent-encoded octets of its UTF-8; where reserved characters are allowed, so are
 //! percent-encoded octets (section 3.2.1).
-ghost use Rattle.std.specs.Prelude.{◌≡◌, ◌≤◌, ◌<◌, ◌∷◌, ◌++◌, [], ◌-◌, ◌==◌, ◌&&◌, nat_lt, true, false, length, take};
-ghost use Rattle.std.specs.Prelude.{OnOk, None, MatchOption};
+ghost use Rattle.std.specs.Prelude.{◌≡◌, ◌≤◌, ◌∷◌, [], ◌-◌, ◌==◌, true, false, length, take, drop, cond, OnOk, None, MatchOption};
 ghost use Rattle.std.specs.Bool.{OnTrue};
-ghost use Rattle.std.specs.Char.{is_ascii_hexdigit};
 ghost use Rattle.std.specs.Str.{chars};
+ghost use Rattle.iri_percent.specs.Units.{units};
 ghost use Rattle.iri_text.specs.Shown.{Shows};
 ghost use Rattle.iri_template.specs.Expansion.{limited, shown_text};
-ghost use Rattle.iri_template.specs.inside.Held.{IsHeld, fewer, goes_on, held_text, held_units, begun_units};
-ghost use Rattle.iri_template.specs.inside.Held.{octet_units, is_used_up};
-ghost use Rattle.iri_template.specs.inside.Held.{are_begun, has_digit, continues};
-ghost use Rattle.iri_template.specs.inside.Held.{written_units, written_chars};
-ghost use Rattle.iri_template.specs.inside.Reads.{Reads, kept_rest};
+ghost use Rattle.iri_template.specs.inside.Held.{fewer, goes_on, is_begun, is_used_up, held_unit, unit_len, written_units, written_chars};
+ghost use Rattle.iri_template.specs.inside.Reads.{IsHeld, Reads, kept_rest};
 ghost use Rattle.iri_template.specs.inside.Pieces.{IsCut, IsPlainRun, piece_chars};
-ghost use Rattle.iri_template.specs.declared.held.Begun.TheVariants.{Nothing};
 
 use crate::byte_count::is_within;
-use crate::held::{Begun, Octets, continues, width};
+use crate::held::Held;
 use iri_grammar::cutting::cut_before;
 use iri_grammar::spec::Spec;
 use iri_percent::PercentEncoded;
@@ -28,11 +23,8 @@ use std::marker::PhantomData;
 // How far a value was read.
 #[derive(Drop)]
 pub(crate) struct Reading {
-    // Percent-encoded octets of a character, and how many more it has.
-    pub(crate) octets: Octets,
-    pub(crate) missing: u8,
-    // What of one more follows them.
-    pub(crate) begun: Begun,
+    // What is held back.
+    pub(crate) held: Held,
     // How many characters may still be written, where not all may.
     pub(crate) left: Option<u16>,
 }
@@ -54,12 +46,10 @@ impl<'s, S, W> ValueSink<'s, S, W> {
         ensures now { result.to.now ≡ to.old }
         ensures allow { result.allow ≡ allow }
         ensures left { result.state.left ≡ prefix }
-        ensures held { held_text result.state ≡ [] }
+        ensures held { result.state.held ≡ [] }
     {
         let state = Reading {
-            octets: Octets::new(),
-            missing: 0,
-            begun: Begun::Nothing,
+            held: Held::new(),
             left: prefix,
         };
         ValueSink {
@@ -139,159 +129,89 @@ fn put_plain<S: Spec, W: TextSink>(
     put_chars::<S, W>(sink, left, true, c.encode_utf8(&mut buf))
 }
 
-// Writes the octets that are held back: no more of their character follow.
-fn put_octets<S: Spec, W: TextSink>(sink: &mut W, state: &mut Reading) -> Result<(), Stop>
-    requires { are_begun state.old.octets state.old.missing ≡ true }
-    ensures shows { Shows W.puts W.halts W.stops sink.old
-        (written_units S.tests state.old.left (octet_units state.old.octets)) sink.new result }
-    ensures left { state.new.left ≡ fewer state.old.left (length (octet_units state.old.octets)) }
-    ensures octets { state.new.octets ≡ [] }
-    ensures missing { state.new.missing ≡ 0 }
-    ensures begun { state.new.begun ≡ state.old.begun }
-{
-    let units = state.octets.units();
-    let result = sink.put(state.octets.shown(state.left));
-    state.left = state.left.map(|n| n.saturating_sub(units));
-    state.octets.clear();
-    state.missing = 0;
-    result
-}
-
-// Writes the beginning of an octet that doesn't go on.
-fn put_begun<S: Spec, W: TextSink>(
-    sink: &mut W,
-    left: &mut Option<u16>,
-    begun: Begun,
-) -> Result<(), Stop>
-    requires { has_digit begun ≡ true }
-    ensures shows { Shows W.puts W.halts W.stops sink.old
-        (written_units S.tests left.old (begun_units begun)) sink.new result }
-    ensures left { OnOk result (left.new ≡ fewer left.old (length (begun_units begun))) }
-{
-    match begun {
-        Begun::Nothing => Ok(()),
-        Begun::Percent => put_plain::<S, W>(sink, left, '%'),
-        Begun::Digit(digit) => {
-            put_plain::<S, W>(sink, left, '%')?;
-            put_plain::<S, W>(sink, left, char::from(digit))
-        }
-    }
-}
-
 // Whether nothing is held back.
+#[tactic(auto, using(std::proofs::lemmas::List::nil_from_length))]
 fn is_plain(state: &Reading) -> bool
-    ensures { OnTrue result ((state.now.octets ≡ []) × (state.now.begun ≡ Nothing)) }
+    ensures { OnTrue result (state.now.held ≡ []) }
 {
-    state.octets.is_empty() && matches!(state.begun, Begun::Nothing)
+    state.held.len() == 0
+}
+
+// How many bytes of a unit are written that has so many.
+fn written_len(left: Option<u16>, len: usize) -> usize
+    ensures written { result ≡ cond (is_used_up left) 0 len }
+    ensures within { result ≤ len }
+{
+    if is_used_up(left) { 0 } else { len }
+}
+
+// Writes the first unit of what is held back, which has so many bytes, where it may be written.
+fn put_unit<S: Spec, W: TextSink>(sink: &mut W, state: &mut Reading, len: usize) -> Result<(), Stop>
+    requires begun { is_begun state.old.held ≡ true }
+    requires some { 3 ≤ length state.old.held }
+    requires len { len ≡ unit_len state.old.held }
+    ensures shows { Shows W.puts W.halts W.stops sink.old
+        (written_units S.tests state.old.left (held_unit state.old.held ∷ [])) sink.new result }
+    ensures left { state.new.left ≡ fewer state.old.left 1 }
+    ensures held { state.new.held ≡ drop (unit_len state.old.held) state.old.held }
+{
+    let result = sink.put(state.held.start(written_len(state.left, len)));
+    state.left = state.left.map(|n| n.saturating_sub(1));
+    state.held.release(len);
+    result
 }
 
 // Writes all that is held back: what follows doesn't go on with it.
 fn put_held<S: Spec, W: TextSink>(sink: &mut W, state: &mut Reading) -> Result<(), Stop>
     requires { IsHeld state.old }
     ensures shows { Shows W.puts W.halts W.stops sink.old
-        (written_units S.tests state.old.left (held_units state.old)) sink.new result }
-    ensures left { OnOk result (state.new.left ≡ fewer state.old.left (length (held_units state.old))) }
-    ensures octets { state.new.octets ≡ [] }
-    ensures missing { state.new.missing ≡ 0 }
-    ensures begun { state.new.begun ≡ Nothing }
+        (written_units S.tests state.old.left (units state.old.held)) sink.new result }
+    ensures left { OnOk result (state.new.left ≡ fewer state.old.left (length (units state.old.held))) }
+    ensures none { OnOk result (state.new.held ≡ []) }
+    ensures held { IsHeld state.new }
 {
+    'units: while state.held.len() >= 3 {
+        let len = state.held.unit_len();
+        put_unit::<S, W>(sink, state, len)?;
+    }
     if is_plain(state) {
         return Ok(());
     }
-    let begun = state.begun;
-    state.begun = Begun::Nothing;
-    put_octets::<S, W>(sink, state)?;
-    put_begun::<S, W>(sink, &mut state.left, begun)
+    let len = state.held.len();
+    let result = put_chars::<S, W>(sink, &mut state.left, true, state.held.start(len));
+    state.held.release(len);
+    result
 }
 
-// Whether an octet that begins with this hex digit continues the character that is held back.
-fn is_continued(state: &Reading, digit: u8) -> bool
-    ensures { result ≡ (nat_lt 0 state.now.missing && continues digit) }
-{
-    state.missing > 0 && continues(digit)
-}
-
-// Takes one more octet of the character that is held back, or the first one, and writes them where none is missing.
-fn take_octet<S: Spec, W: TextSink>(
-    sink: &mut W,
-    state: &mut Reading,
-    high: u8,
-    low: u8,
-) -> Result<(), Stop>
-    requires begun { state.old.begun ≡ Nothing }
-    requires digits { (is_ascii_hexdigit high ≡ true) × (is_ascii_hexdigit low ≡ true) }
-    requires octets { are_begun (state.old.octets ++ 37 ∷ high ∷ low ∷ []) state.old.missing ≡ true }
-    ensures reads { Reads (kept_rest S.tests) W.puts W.halts W.stops state.old sink.old
-        (37 ∷ high ∷ low ∷ []) state.new sink.new result }
-    ensures held { IsHeld state.new }
-{
-    state.octets.push(high, low);
-    if state.missing > 0 {
-        return Ok(());
-    }
-    put_octets::<S, W>(sink, state)
-}
-
-// Takes the octet that two hex digits spell. Where it doesn't continue the character that is held back, it is the first
-// of the next.
-fn put_octet<S: Spec, W: TextSink>(
-    sink: &mut W,
-    state: &mut Reading,
-    high: u8,
-    low: u8,
-) -> Result<(), Stop>
+// Takes a character that goes on with what is held back, and writes the first unit of that once nothing changes it.
+#[tactic(auto, using(crate::proofs::HeldUnits::on_ascii))]
+fn take_char<S: Spec, W: TextSink>(sink: &mut W, state: &mut Reading, c: u8) -> Result<(), Stop>
     requires held { IsHeld state.old }
-    requires begun { state.old.begun ≡ Nothing }
-    requires digits { (is_ascii_hexdigit high ≡ true) × (is_ascii_hexdigit low ≡ true) }
-    ensures reads { Reads (kept_rest S.tests) W.puts W.halts W.stops state.old sink.old
-        (37 ∷ high ∷ low ∷ []) state.new sink.new result }
-    ensures held { IsHeld state.new }
-{
-    if is_continued(state, high) {
-        state.missing -= 1;
-        return take_octet::<S, W>(sink, state, high, low);
-    }
-    put_octets::<S, W>(sink, state)?;
-    state.missing = width(high) - 1;
-    take_octet::<S, W>(sink, state, high, low)
-}
-
-// Takes a character that goes on with what was begun.
-fn join<S: Spec, W: TextSink>(sink: &mut W, state: &mut Reading, c: u8) -> Result<(), Stop>
-    requires held { IsHeld state.old }
-    requires goes_on { goes_on state.old.begun c ≡ true }
+    requires goes_on { goes_on state.old.held c ≡ true }
     ensures reads { Reads (kept_rest S.tests) W.puts W.halts W.stops state.old sink.old
         (c ∷ []) state.new sink.new result }
     ensures held { IsHeld state.new }
 {
-    match state.begun {
-        Begun::Nothing => {
-            state.begun = Begun::Percent;
-            Ok(())
-        }
-        Begun::Percent => {
-            state.begun = Begun::Digit(c);
-            Ok(())
-        }
-        Begun::Digit(high) => {
-            state.begun = Begun::Nothing;
-            put_octet::<S, W>(sink, state, high, c)
-        }
+    state.held.push(c);
+    match state.held.settled_len() {
+        Some(len) => put_unit::<S, W>(sink, state, len),
+        None => Ok(()),
     }
 }
 
+#[tactic(auto, using(crate::proofs::HeldUnits::on_ascii))]
 fn put_char<S: Spec, W: TextSink>(sink: &mut W, state: &mut Reading, c: char) -> Result<(), Stop>
     requires { IsHeld state.old }
     ensures reads { Reads (kept_rest S.tests) W.puts W.halts W.stops state.old sink.old
         (c ∷ []) state.new sink.new result }
     ensures held { IsHeld state.new }
 {
-    if state.begun.goes_on(c) {
-        return join::<S, W>(sink, state, c as u8);
+    if state.held.goes_on(c) {
+        return take_char::<S, W>(sink, state, c as u8);
     }
     put_held::<S, W>(sink, state)?;
     if c == '%' {
-        state.begun = Begun::Percent;
+        state.held.push(b'%');
         return Ok(());
     }
     put_plain::<S, W>(sink, &mut state.left, c)
@@ -380,7 +300,7 @@ fn show_whole<T: Show, S: Spec, W: TextSink>(
     values: &mut ValueSink<S, W>,
     value: &T,
 ) -> Result<(), Stop>
-    requires { held_text values.old.state ≡ [] }
+    requires { values.old.state.held ≡ [] }
     ensures shows { Shows W.puts W.halts W.stops values.old.to.now
         (shown_text S.tests values.old.allow values.old.state.left (T.text value.now)) values.new.to.now result }
     ensures same { values.new.to.ghost_name ≡ values.old.to.ghost_name }

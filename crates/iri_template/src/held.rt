@@ -1,135 +1,115 @@
 //! What is held back of a value that comes in pieces: percent-encoded octets of a character whose others may follow,
 //! and the beginning of one more.
-ghost use Rattle.std.specs.Prelude.{◌≡◌, ◌≤◌, ◌<◌, ◌*◌, ◌++◌, ◌∷◌, [], ◌==◌, length, take, true};
-ghost use Rattle.std.specs.Char.{is_ascii_hexdigit};
-ghost use Rattle.iri_template.specs.inside.Held.{width, continues, goes_on, octet_units, shown_octets};
+ghost use Rattle.std.specs.Prelude.{◌≡◌, ◌≤◌, ◌<◌, ◌++◌, ◌∷◌, [], length, take, drop, true, IfNone, IfSome};
+ghost use Rattle.std.specs.Str.{chars};
+ghost use Rattle.iri_template.specs.inside.Held.{IsSettled, goes_on, is_begun, unit_len};
 
 use iri_percent::character::triplets_char;
 use std::marker::Model;
 
-// The beginning of a percent-encoded octet.
-#[derive(Clone, Copy)]
-pub(crate) enum Begun {
-    Nothing,
-    // `%`.
-    Percent,
-    // `%` and this hex digit.
-    Digit(u8),
-}
-
-impl Begun {
-    // Whether a character goes on with the percent-encoded octet, or begins it.
-    pub(crate) fn goes_on(self, c: char) -> bool
-        ensures { result ≡ goes_on self c }
-    {
-        match self {
-            Begun::Nothing => c == '%',
-            Begun::Percent | Begun::Digit(_) => c.is_ascii_hexdigit(),
-        }
-    }
-}
-
-// How many octets a character has whose first one begins with this hex digit (RFC 3629 section 3); one where it begins
-// none.
-pub(crate) fn width(digit: u8) -> u8
-    ensures { result ≡ width digit }
-{
-    match digit {
-        b'C' | b'D' | b'c' | b'd' => 2,
-        b'E' | b'e' => 3,
-        b'F' | b'f' => 4,
-        _ => 1,
-    }
-}
-
-// Whether an octet that begins with this hex digit continues a character.
-pub(crate) fn continues(digit: u8) -> bool
-    ensures { result ≡ continues digit }
-{
-    matches!(digit, b'8' | b'9' | b'A' | b'B' | b'a' | b'b')
-}
-
-// Percent-encoded octets, four at most. They are seen as their text.
+// Percent-encoded octets and the beginning of one more, 12 bytes at most. They are seen as their text.
 #[derive(Drop)]
-pub(crate) struct Octets {
+pub(crate) struct Held {
     buf: [u8; 12],
-    count: u16,
+    len: usize,
 }
 
-impl Model for Octets {
-    ghost use Rattle.std.specs.Prelude.{ℕ, List, ◌≤◌, ◌*◌, take};
+impl Model for Held {
+    ghost use Rattle.std.specs.Prelude.{ℕ, List, ◌≤◌, take};
     ghost use Rattle.std.specs.Str.{IsAscii};
 
     ghost Value = { List ℕ };
 
-    ghost view = { λ o. take (3 * o.count) o.buf };
+    ghost view = { λ h. take h.len h.buf };
 
-    ghost invariant = { λ o. (o.count ≤ 4) × IsAscii o.buf };
+    ghost invariant = { λ h. (h.len ≤ 12) × IsAscii h.buf };
 }
 
-impl Octets {
+impl Held {
     pub(crate) fn new() -> Self
         ensures { result ≡ [] }
     {
-        Octets {
+        Held {
             buf: [0u8; 12],
-            count: 0,
+            len: 0,
         }
     }
 
-    pub(crate) fn clear(&mut self)
-        ensures { self.new ≡ [] }
+    pub(crate) fn len(&self) -> usize
+        ensures len { result ≡ length self.now }
+        ensures most { result ≤ 12 }
     {
-        self.count = 0;
+        self.len
     }
 
-    pub(crate) fn push(&mut self, a: u8, b: u8)
-        requires room { length self.old ≤ 9 }
-        requires digits { (is_ascii_hexdigit a ≡ true) × (is_ascii_hexdigit b ≡ true) }
-        ensures { self.new ≡ self.old ++ 37 ∷ a ∷ b ∷ [] }
+    // Whether a character goes on with it.
+    pub(crate) fn goes_on(&self, c: char) -> bool
+        ensures { result ≡ goes_on self.now c }
     {
-        let len = 3 * usize::from(self.count);
-        self.buf[len] = b'%';
-        self.buf[len + 1] = a;
-        self.buf[len + 2] = b;
-        self.count += 1;
-    }
-
-    pub(crate) fn is_empty(&self) -> bool
-        ensures { result ≡ (length self.now == 0) }
-    {
-        self.count == 0
-    }
-
-    // How many units they are: one that is a character, or each for itself.
-    pub(crate) fn units(&self) -> u16
-        ensures { result ≡ length (octet_units self.now) }
-    {
-        match triplets_char(&self.buf[..3 * usize::from(self.count)]) {
-            Some(_) => 1,
-            None => self.count,
+        if self.len % 3 == 0 {
+            c == '%'
+        } else {
+            c.is_ascii_hexdigit()
         }
     }
 
-    // The text of their first units, or of all.
-    pub(crate) fn shown(&self, left: Option<u16>) -> &str
-        ensures { result.now ≡ shown_octets left self.now }
+    pub(crate) fn push(&mut self, c: u8)
+        requires room { length self.old < 12 }
+        requires ascii { c < 128 }
+        ensures { self.new ≡ self.old ++ c ∷ [] }
     {
-        match left {
-            Some(most) => self.start(if most < self.units() {
-                most
-            } else {
-                self.count
-            }),
-            None => self.start(self.count),
+        self.buf[self.len] = c;
+        self.len += 1;
+    }
+
+    // How many bytes its first unit has, where nothing that follows changes it.
+    pub(crate) fn settled_len(&self) -> Option<usize>
+        requires { is_begun self.now ≡ true }
+        ensures settled { IfSome result (λ n. IsSettled self.now × (n ≡ unit_len self.now)) }
+        ensures room { IfNone result (length self.now < 12) }
+    {
+        if self.len % 3 > 0 {
+            return None;
+        }
+        match triplets_char(&self.buf[..self.len]) {
+            Some(c) => Some(3 * c.len_utf8()),
+            None => { if self.len == 12 { Some(3) } else { None } }
         }
     }
 
-    // The text of so many of them.
-    fn start(&self, count: u16) -> &str
-        requires { 3 * count ≤ length self.now }
-        ensures { result.now ≡ take (3 * count) self.now }
+    // How many bytes its first unit has.
+    pub(crate) fn unit_len(&self) -> usize
+        requires begun { is_begun self.now ≡ true }
+        requires some { 3 ≤ length self.now }
+        ensures len { result ≡ unit_len self.now }
+        ensures within { result ≤ length self.now }
     {
-        unsafe { str::from_utf8_unchecked(&self.buf[..3 * usize::from(count)]) }
+        match triplets_char(&self.buf[..self.len]) {
+            Some(c) => 3 * c.len_utf8(),
+            None => 3,
+        }
+    }
+
+    // The text of its first so many bytes.
+    pub(crate) fn start(&self, len: usize) -> &str
+        requires { len ≤ length self.now }
+        ensures text { result.now ≡ take len self.now }
+        ensures chars { chars result.now ≡ result.now }
+    {
+        unsafe { str::from_utf8_unchecked(&self.buf[..len]) }
+    }
+
+    // Lets its first so many bytes go.
+    #[tactic(auto, using(std::proofs::lemmas::List::drop_all))]
+    pub(crate) fn release(&mut self, len: usize)
+        requires { len ≤ length self.old }
+        ensures { self.new ≡ drop len self.old }
+    {
+        if self.len == len {
+            self.len = 0;
+            return;
+        }
+        self.buf.copy_within(len..self.len, 0);
+        self.len -= len;
     }
 }

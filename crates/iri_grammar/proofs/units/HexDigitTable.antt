@@ -1,33 +1,27 @@
--- The table of hex digits agrees with their test at each of the 256 bytes, by computing.
-use Rattle.iri_grammar.proofs.Common.{◌≡◌, ℕ, ◌<◌, Bool, true, false, cond, not, ◌&&◌, get_or, refl, ◌∙◌, ap, ◌==◌, bit_and}
-use Rattle.iri_grammar.proofs.Common.{is_ascii_hexdigit, eqb-true, agree_below, agree_below_at}
-use Rattle.iri_grammar.specs.declared.unit.TheConstants.{HEX_DIGITS}
+-- The table of hex digits agrees with what they stand for at each of the 256 bytes, by computing.
+use Rattle.iri_grammar.proofs.Common.{◌≡◌, ℕ, ◌<◌, Bool, true, cond, get_or, refl, ◌∙◌, ap, subst, eqb-true, ◌==◌, nat_lt}
+use Rattle.iri_grammar.proofs.Common.{is_ascii_hexdigit, agree_below, agree_below_at}
+use Rattle.std.specs.Char.{digit_value}
+use Rattle.iri_grammar.specs.declared.digits.TheConstants.{VALUES}
 
-abbrev delimited : ℕ → ℕ → Bool
-delimited delimiter b = get_or HEX_DIGITS b 0 == delimiter
+abbrev is_digit : ℕ → Bool
+is_digit b = nat_lt (get_or VALUES b 0) 16
 
-abbrev is_other : ℕ → Bool
-is_other b = not (is_ascii_hexdigit b)
+abbrev is_right : ℕ → Bool
+is_right b = get_or VALUES b 0 == cond (is_ascii_hexdigit b) (digit_value b) 16
 
-ones : agree_below (delimited 49) is_ascii_hexdigit 256 ≡ true
-ones = refl
+digits : agree_below is_digit is_ascii_hexdigit 256 ≡ true
+digits = refl
 
-zeros : agree_below (delimited 48) is_other 256 ≡ true
-zeros = refl
+right : agree_below is_right (λ _. true) 256 ≡ true
+right = refl
 
-digit-delimiter : (b : ℕ) → b < 256 → get_or HEX_DIGITS b 0 ≡ cond (is_ascii_hexdigit b) 49 48
-digit-delimiter b lt =
-    elim (is_ascii_hexdigit b) as (λ v. is_ascii_hexdigit b ≡ v → get_or HEX_DIGITS b 0 ≡ cond v 49 48) [
-      | true ↦ λ e. eqb-true (get_or HEX_DIGITS b 0) 49 (agree_below_at (delimited 49) is_ascii_hexdigit 256 b ones lt ∙ e)
-      | false ↦ λ e. eqb-true (get_or HEX_DIGITS b 0) 48 (agree_below_at (delimited 48) is_other 256 b zeros lt ∙ ap not e)
-    ] refl
+pub test_here : (b n : ℕ) → b ≡ n → b < 256 → nat_lt (get_or VALUES n 0) 16 ≡ is_ascii_hexdigit b
+test_here b n e l = subst (λ m. is_digit m ≡ is_ascii_hexdigit b) e (agree_below_at is_digit is_ascii_hexdigit 256 b digits l)
 
-pub both-digits : (a b : ℕ) → a < 256 → b < 256
-    → (bit_and (get_or HEX_DIGITS a 0) (get_or HEX_DIGITS b 0) == 49) ≡ (is_ascii_hexdigit a && is_ascii_hexdigit b)
-both-digits a b l m = rw (digit-delimiter a l, digit-delimiter b m) (four (is_ascii_hexdigit a) (is_ascii_hexdigit b))
-  where
-    four : (x y : Bool) → (bit_and (cond x 49 48) (cond y 49 48) == 49) ≡ (x && y)
-    four true true = refl
-    four true false = refl
-    four false true = refl
-    four false false = refl
+pub digit_here : (b n : ℕ) → b ≡ n → b < 256 → is_ascii_hexdigit b ≡ true → get_or VALUES n 0 ≡ digit_value b
+digit_here b n e l h = subst (λ m. get_or VALUES m 0 ≡ digit_value b) e
+    (eqb-true (get_or VALUES b 0) (cond (is_ascii_hexdigit b) (digit_value b) 16) (agree_below_at is_right (λ _. true) 256 b right l)
+    ∙ ap (λ v. cond v (digit_value b) 16) h)
+
+pub ruleset hex_values = (test_here, digit_here)

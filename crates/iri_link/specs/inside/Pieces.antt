@@ -1,54 +1,41 @@
--- What a walk over a field value comes to, piece by piece.
-use Rattle.std.specs.Prelude.{◌≡◌, ◌<◌, ℕ, Bool, true, false, List, [], ◌∷◌, length, ⊤, Option, None}
+-- What a walk over a text comes to, piece by piece.
+use Rattle.std.specs.Prelude.{◌≡◌, ◌≤◌, ◌<◌, ◌+◌, ℕ, Bool, true, false, cond, not, ◌&&◌, List, [], ◌∷◌, ⊤, None, length, drop, filter, map}
+use Rattle.std.specs.Prelude.{slice_index}
+use Rattle.std.specs.List.{list_all}
 use Rattle.std.specs.Option.{option_map}
 use Rattle.std.specs.Str.{str_to_ascii_lowercase}
-use Rattle.iri_grammar.specs.Classes.{Tests}
+use Rattle.iri_grammar.specs.Blanks.{is_blank}
+use Rattle.iri_grammar.specs.Characters.{comma}
 use Rattle.iri_grammar.specs.OptionalSlices.{now_of}
-use Rattle.iri_grammar.specs.WholeFault.{reference_fault}
-use Rattle.iri_link.specs.Fault.{Fault, earlier, fault_from, told_target}
+use Rattle.iri_grammar.specs.Parts.{is_empty}
 use Rattle.iri_link.specs.Field.{LinkParam, LinkValue}
-use Rattle.iri_link.specs.Phases.{Phase, before_link, after_param}
-use Rattle.iri_link.specs.Readings.{reading}
-use Rattle.iri_link.specs.Refusals.{KeepsTarget}
-use Rattle.std.specs.List.{list_all}
+use Rattle.iri_link.specs.LaxReadings.{LaxPhase, reads, passed, passed_quoted, passed_pair, is_writable, lax_next, lax_reading, with_writable}
+use Rattle.iri_link.specs.Phases.{before_link, after_param, after_equals}
 use Rattle.iri_link.specs.Token.{is_token_char}
 use Rattle.iri_link.specs.declared.param_text.ParamText.{ParamText}
 use Rattle.iri_link.specs.declared.piece.Piece.{Piece}
-use Rattle.iri_link.specs.declared.piece.Piece.TheVariants.{Target, Param, Comma}
+use Rattle.iri_link.specs.declared.piece.Piece.TheVariants.{Target, Param, NoParam, Comma}
+use Rattle.iri_link.specs.declared.walk.Passing.{Passing}
+use Rattle.iri_link.specs.declared.walk.Passing.TheVariants.{Outer, Quoted, Pair}
 use Rattle.iri_link.specs.inside.ReadQuoted.{said}
 
 -- a parameter, from what stands in a text
 abbrev pub param_said : ParamText → LinkParam
 param_said p = record { name = str_to_ascii_lowercase p.name.now; value = option_map (said p.escapes) (now_of p.value) }
 
--- where a walk stands that is after a target or a parameter, or that isn't
-abbrev pub phase_at : Bool → Phase
-phase_at false = before_link
-phase_at true = after_param
-
--- whether it is after one, past a piece
+-- whether a walk is after a target or a parameter, past a piece
 abbrev pub stands : Piece → Bool
 stands Comma = false
 stands _ = true
 
--- the fault of a piece: a target must be a `URI-Reference`
-abbrev pub piece_fault : Tests → Piece → Option Fault
-piece_fault s (Target inner target) = told_target (reference_fault s target.now) inner.now
-piece_fault s _ = None
-
--- what is left of a field value: parameters of a link-value that has begun, and link-values
+-- what is left of a text: parameters of a link-value that has begun, and link-values
 pub record Left : Type 0 where
   pub params : List LinkParam
   pub links : List LinkValue
 
--- what is left of this text
-abbrev pub left_at : Bool → List ℕ → Left
-left_at false t = record { params = []; links = (reading before_link t).links }
-left_at true t = record { params = (reading after_param t).params; links = (reading after_param t).links }
-
 -- a piece, and what is left after it
 abbrev pub with_piece : Piece → Left → Left
-with_piece (Target inner target) l = record { params = []; links = record { target = target.now; params = l.params } ∷ l.links }
+with_piece (Target target) l = record { params = []; links = record { target = target.now; params = l.params } ∷ l.links }
 with_piece (Param p) l = record { params = param_said p ∷ l.params; links = l.links }
 with_piece _ l = l
 
@@ -57,19 +44,57 @@ abbrev pub IsNamed : Piece → Type 0
 IsNamed (Param p) = list_all is_token_char p.name.now ≡ true
 IsNamed _ = ⊤
 
--- a target is kept in t: in what stands before a rest past a target or a parameter, else where one is kept in the rest
-abbrev pub Keeps : Tests → Bool → (t rest : List ℕ) → Type 0
-Keeps s true t rest = KeepsTarget s t
-Keeps s false t rest = KeepsTarget s rest → KeepsTarget s t
+-- where what is passed over stands
+abbrev pub passing_phase : Passing → LaxPhase
+passing_phase Outer = passed
+passing_phase Quoted = passed_quoted
+passing_phase Pair = passed_pair
+
+-- a byte of what is passed over ends it
+abbrev pub EndsPassing : Passing → ℕ → Type 0
+EndsPassing place c = (lax_next (passing_phase place) c ≡ reads before_link) × (c ≡ comma)
+
+-- what is passed over in t ends with the comma at n
+pub record IsCommaAt (t : List ℕ) (n : ℕ) : Type 0 where
+  pub inside : n < length t
+  pub comma : slice_index t n ≡ comma
+  pub same : lax_reading passed t ≡ lax_reading (reads before_link) (drop (n + 1) t)
+
+-- t without the blanks at its end
+abbrev pub without_end : List ℕ → List ℕ
+without_end [] = []
+without_end (c ∷ cs) = cond (not (is_blank c && is_empty (without_end cs))) (c ∷ without_end cs) (without_end cs)
+
+-- t begins with a value, v, and a rest follows
+pub record IsValueAt (t rest v : List ℕ) : Type 0 where
+  pub same : lax_reading (reads after_equals) t ≡ record {
+    text = v;
+    value = None;
+    params = (lax_reading (reads after_param) rest).params;
+    links = (lax_reading (reads after_param) rest).links;
+  }
+  pub short : length rest ≤ length t
+
+-- the piece that a parameter with this name and value gives
+abbrev pub IsPieceOf : Piece → LinkParam → Type 0
+IsPieceOf (Param p) q = (param_said p ≡ q) × (is_writable q ≡ true) × (list_all is_token_char p.name.now ≡ true)
+IsPieceOf NoParam q = is_writable q ≡ false
+IsPieceOf _ q = ⊥
+
+-- what is left of this text
+abbrev pub left_at : Bool → List ℕ → Left
+left_at false t = record { params = []; links = map with_writable (lax_reading (reads before_link) t).links }
+left_at true t = record {
+  params = filter is_writable (lax_reading (reads after_param) t).params;
+  links = map with_writable (lax_reading (reads after_param) t).links;
+}
 
 -- the piece comes next in t, and then a rest
 pub record Comes (inside : Bool) (t : List ℕ) (x : Piece) (rest : List ℕ) : Type 0 where
-  pub goes : (s : Tests) → fault_from s (phase_at inside) t ≡ earlier (piece_fault s x) (fault_from s (phase_at (stands x)) rest)
-  pub reads : (s : Tests) → fault_from s (phase_at (stands x)) rest ≡ None → left_at inside t ≡ with_piece x (left_at (stands x) rest)
-  pub keeps : (s : Tests) → inside ≡ false → piece_fault s x ≡ None → Keeps s (stands x) t rest
+  pub same : left_at inside t ≡ with_piece x (left_at (stands x) rest)
+  pub named : IsNamed x
   pub shorter : length rest < length t
 
 -- nothing comes in t
-pub record Ends (inside : Bool) (t : List ℕ) : Type 0 where
-  pub faultless : (s : Tests) → fault_from s (phase_at inside) t ≡ None
-  pub none_left : (s : Tests) → left_at inside t ≡ record { params = []; links = [] }
+abbrev pub Ends : Bool → List ℕ → Type 0
+Ends inside t = left_at inside t ≡ record { params = []; links = [] }

@@ -13,8 +13,8 @@ use Rattle.iri_link.specs.Token.{is_plain_char}
 use Rattle.iri_link.specs.Written.{written_param}
 use Rattle.iri_link.specs.declared.shown_text.Place.{Place}
 use Rattle.iri_link.specs.declared.shown_text.Place.TheVariants.{Within}
-use Rattle.iri_link.specs.inside.LaxPieces.{lax_left}
-use Rattle.iri_link.specs.inside.Pieces.{Left, phase_at}
+use Rattle.iri_link.specs.inside.Faults.{phase_at}
+use Rattle.iri_link.specs.inside.Pieces.{Left, left_at}
 
 -- t is a parameter in its written form, and a rest
 pub record IsPlainParam (t rest : List ℕ) : Type 0 where
@@ -36,7 +36,7 @@ pub record ArePlain (inside : Bool) (t written rest : List ℕ) : Type 0 where
   pub whole : t ≡ written ++ rest
   pub said : flat_map written_param params ≡ written
   pub goes : (s : Tests) → fault_from s (phase_at inside) t ≡ fault_from s (phase_at inside) rest
-  pub reads : lax_left inside t ≡ with_params params (lax_left inside rest)
+  pub reads : left_at inside t ≡ with_params params (left_at inside rest)
   pub short : length rest ≤ length t
 
 -- what is shown of them

@@ -1,21 +1,13 @@
--- What is read of parameters.
+-- What follows a name.
 use Rattle.std.specs.Prelude.{◌≡◌, ◌==◌, ℕ, true, false, List, ◌∷◌, ◌++◌}
 use Rattle.iri_grammar.specs.Characters.{equals_sign}
 use Rattle.iri_grammar.specs.Classes.{Tests}
 use Rattle.iri_link.specs.Fault.{fault_from}
-use Rattle.iri_link.specs.Field.{LinkParam, IsValue, IsParam}
-use Rattle.iri_link.specs.Phases.{after_param, in_name, after_name, after_equals}
+use Rattle.iri_link.specs.Phases.{after_name, after_equals}
 use Rattle.iri_grammar.specs.Blanks.{is_blank}
 use Rattle.iri_link.specs.Token.{is_blanks}
 use Rattle.iri_grammar.specs.inside.Runs.{first_passes}
 use Rattle.iri_link.specs.inside.Runs.{IsRun}
-
--- t is a value and a rest
-pub record ReadsValue (t rest v : List ℕ) : Type 0 where
-  pub prefix : List ℕ
-  pub whole : t ≡ prefix ++ rest
-  pub value : IsValue prefix v
-  pub goes : (s : Tests) → fault_from s after_equals t ≡ fault_from s after_param rest
 
 -- t is a `=`, blanks round it, and a rest
 pub record ReadsEquals (t rest : List ℕ) : Type 0 where
@@ -33,10 +25,3 @@ pub record LacksEquals (t : List ℕ) : Type 0 where
   pub rest : List ℕ
   pub run : IsRun is_blank t a rest
   pub none : first_passes (λ c. c == equals_sign) rest ≡ false
-
--- t is a parameter and a rest
-pub record ReadsParam (t rest : List ℕ) (q : LinkParam) : Type 0 where
-  pub prefix : List ℕ
-  pub whole : t ≡ prefix ++ rest
-  pub param : IsParam prefix q
-  pub goes : (s : Tests) → fault_from s in_name t ≡ fault_from s after_param rest

@@ -1,7 +1,7 @@
 -- The end and the value of a quoted string.
-use Rattle.std.specs.Prelude.{◌≡◌, ℕ, suc, Bool, true, false, cond, ◌==◌, List, [], ◌∷◌, ◌++◌, ◌≤◌, length, take, drop}
+use Rattle.std.specs.Prelude.{◌≡◌, ℕ, suc, Bool, true, false, cond, ◌==◌, List, [], ◌∷◌, ◌≤◌, length, take, drop}
 use Rattle.iri_link.specs.Characters.{backslash, quotation_mark}
-use Rattle.iri_link.specs.Token.{IsQuoted}
+use Rattle.iri_link.specs.Fault.{closes_from}
 
 -- how many bytes stand before the delimiter that ends it
 unfoldable pub quoted_len : Bool → List ℕ → ℕ
@@ -29,7 +29,8 @@ pub record IsCutOpen (t raw rest : List ℕ) : Type 0 where
   pub suffix : rest ≡ drop (suc (quoted_len false t)) t
   pub short : length rest ≤ length t
 
--- t is what stands in a quoted string, its last delimiter and a rest
-pub record IsCutQuoted (t raw rest : List ℕ) : Type 0 where
-  pub whole : t ≡ raw ++ quotation_mark ∷ rest
-  pub text : IsQuoted raw (unquoted raw)
+-- t begins with what stands in a quoted string that has an end, and a rest follows its last delimiter
+pub record IsPastQuoted (t rest : List ℕ) : Type 0 where
+  pub closes : closes_from false t ≡ true
+  pub suffix : rest ≡ drop (suc (quoted_len false t)) t
+  pub short : length rest ≤ length t

@@ -85,15 +85,6 @@ canonical_in-own s m base reference other k b r =
     ∙ (ap (λ p. recompose (normal_form_in s m p)) t
     ∙ (ap recompose (parts-stable s m base reference k b r) ∙ canonical_in-text s m base reference)))
 
--- ---- by the rules of every scheme
-pub canonical-iri : (s : Tests) (base reference : List ℕ) → IsSpec s → IsAbsolute s base → IsReference s reference
-    → IsIri s (canonical s base reference)
-canonical-iri s base reference k b r = canonical_in-iri s Default base reference k b r
-
-pub canonical-own : (s : Tests) (base reference other : List ℕ) → IsSpec s → IsAbsolute s base → IsReference s reference
-    → canonical s other (canonical s base reference) ≡ canonical s base reference
-canonical-own s base reference other k b r = canonical_in-own s Default base reference other k b r
-
 -- ---- the canonical text of a valid reference against a valid base
 absolute : (s : Tests) → IsSpec s → (b : List ℕ) → absolute_fault s b ≡ None → IsAbsolute s b
 absolute s l b h = (absolute-law s l b).0 h

@@ -5,6 +5,9 @@ use Rattle.iri_normal.proofs.Common.{is_ascii_path, is_ascii_pchar, is_ascii_reg
 use Rattle.iri_normal.proofs.Common.{if_there, is_path, is_query, lacks, before, both, Parts, Fits, path_rules, is_empty, starts_with_slash}
 use Rattle.iri_normal.proofs.Common.{starts_with_slashes, target, target_under, target_path, merge_prefix, to_last_slash, last_segment}
 use Rattle.iri_normal.proofs.Common.{ends_at_slash, text_over-append, nothing_over}
+use Rattle.iri_normal.proofs.Common.{has_dot_segment, or_parts}
+use Rattle.iri_normal.proofs.segments.CutPaths.{dot_in_two}
+use Rattle.iri_normal.proofs.segments.DotKinds.{nothing-is_no_dot}
 use Rattle.iri_normal.proofs.segments.Slashes.{end_slash, at_last_slash, ends, no_slashes}
 use Rattle.iri_normal.proofs.targets.CutTexts.{text_over-cut, slash_over}
 use Rattle.iri_normal.specs.Target.{or_base, merged}
@@ -23,6 +26,26 @@ pub cut_over : (p : ℕ → Bool) (path : List ℕ) → text_over p path ≡ tru
     → (text_over p (to_last_slash path) ≡ true) × (text_over p (last_segment path) ≡ true)
 cut_over p path h = parts_over p (to_last_slash path) (last_segment path) (ends path)
     (subst (λ z. text_over p z ≡ true) (sym (at_last_slash path).0) h)
+
+-- what relative paths are put after has no dot segment and no percent sign, where the base's path has none
+pub merge-plain : (b : Parts) → has_dot_segment b.path ≡ false → has_dot_segment (merge_prefix b) ≡ false
+merge-plain b h =
+    elim (is_some b.authority && is_empty b.path) as (λ v. has_dot_segment (cond v (47 ∷ []) (to_last_slash b.path)) ≡ false) [
+      | true ↦ rw nothing-is_no_dot refl
+      | false ↦ (or_parts (has_dot_segment (to_last_slash b.path)) (has_dot_segment (last_segment b.path))
+          (sym (dot_in_two (to_last_slash b.path) (last_segment b.path) (ends b.path)) ∙ (ap has_dot_segment (at_last_slash b.path).0 ∙ h))).0
+    ]
+
+lacks-first : (c : ℕ) (xs ys : List ℕ) → lacks c (xs ++ ys) ≡ true → lacks c xs ≡ true
+lacks-first c [] ys h = refl
+lacks-first c (x ∷ xs) ys h = let k = both (not (x == c)) (lacks c (xs ++ ys)) h in rw (k.0, lacks-first c xs ys k.1) refl
+
+pub merge-bare : (b : Parts) → lacks 37 b.path ≡ true → lacks 37 (merge_prefix b) ≡ true
+merge-bare b h =
+    elim (is_some b.authority && is_empty b.path) as (λ v. lacks 37 (cond v (47 ∷ []) (to_last_slash b.path)) ≡ true) [
+      | true ↦ refl
+      | false ↦ lacks-first 37 (to_last_slash b.path) (last_segment b.path) (ap (lacks 37) (at_last_slash b.path).0 ∙ h)
+    ]
 
 merged-over : (p : ℕ → Bool) (base : Parts) (path : List ℕ) → p 47 ≡ true → text_over p base.path ≡ true → text_over p path ≡ true
     → text_over p (merged base path) ≡ true

@@ -1,48 +1,9 @@
--- The table of hex digits agrees with what they stand for at each of the 256 bytes, by computing.
-use Rattle.iri_percent.proofs.Common.{◌≡◌, ℕ, ◌<◌, ◌≤◌, Bool, true, false, not, get_or, refl, sym, ◌∙◌, subst, arith, eqb-true, nat_lt, ◌%◌, [], ◌∷◌}
-use Rattle.iri_percent.proofs.Common.{◌||◌, ◌+◌, ◌*◌, ◌/◌, nat_tests, octet, capital_hex, triplet, is_ascii_hexdigit, digit_value, to_ascii_uppercase, agree_below, agree_below_at, lt-ltb, le-ltb}
+-- Hex digits, their values and their capital form.
+use Rattle.iri_percent.proofs.Common.{◌≡◌, ℕ, ◌<◌, Bool, true, get_or, refl, subst, arith, eqb-true, ◌%◌, [], ◌∷◌, ◌+◌, ◌*◌, ◌/◌, nat_tests}
+use Rattle.iri_percent.proofs.Common.{octet, capital_hex, triplet, is_ascii_hexdigit, digit_value, to_ascii_uppercase, agree_below, agree_below_at}
 use Rattle.std.specs.Prelude.{nat_eq}
-use Rattle.std.proofs.lemmas.Nat.{mod_below}
-use Rattle.iri_percent.specs.declared.octets.TheConstants.{VALUES}
 use Rattle.iri_percent.specs.declared.spelling.TheConstants.{DIGITS}
 
-abbrev is_value : ℕ → Bool
-is_value b = nat_lt (get_or VALUES b 0) 64
-
-abbrev is_right : ℕ → Bool
-is_right b = not (is_ascii_hexdigit b) || nat_eq (get_or VALUES b 0 % 16) (digit_value b)
-
-values : agree_below is_value is_ascii_hexdigit 256 ≡ true
-values = refl
-
-right : agree_below is_right (λ _. true) 256 ≡ true
-right = refl
-
-second : (p q : Bool) → p ≡ true → (not p || q) ≡ true → q ≡ true
-second true q e h = h
-second false q e h = cc
-
-is_digit : (b : ℕ) → b < 256 → get_or VALUES b 0 < 64 → is_ascii_hexdigit b ≡ true
-is_digit b h l = sym (agree_below_at is_value is_ascii_hexdigit 256 b values h) ∙ lt-ltb (get_or VALUES b 0) 64 l
-
-pub value_here : (b n : ℕ) → b ≡ n → b < 256 → is_ascii_hexdigit b ≡ true → get_or VALUES n 0 % 16 ≡ digit_value b
-value_here b n e l h = subst (λ m. get_or VALUES m 0 % 16 ≡ digit_value b) e
-    (eqb-true (get_or VALUES b 0 % 16) (digit_value b) (second (is_ascii_hexdigit b) (nat_eq (get_or VALUES b 0 % 16) (digit_value b)) h
-    (agree_below_at is_right (λ _. true) 256 b right l)))
-
--- a digit
-pub digit_here : (b n : ℕ) → b ≡ n → b < 256 → get_or VALUES n 0 < 64
-    → (is_ascii_hexdigit b ≡ true) × (get_or VALUES n 0 % 16 ≡ digit_value b) × (get_or VALUES n 0 % 16 < 16)
-digit_here b n e h l =
-    let d = is_digit b h (subst (λ m. get_or VALUES m 0 < 64) (sym e) l) in
-    (d, value_here b n e h d, mod_below (get_or VALUES n 0) 16 (omega arith))
-
--- no digit
-pub none_here : (b n : ℕ) → b ≡ n → b < 256 → 64 ≤ get_or VALUES n 0 → is_ascii_hexdigit b ≡ false
-none_here b n e h = subst (λ m. 64 ≤ get_or VALUES m 0 → is_ascii_hexdigit b ≡ false) e
-    (λ l. sym (agree_below_at is_value is_ascii_hexdigit 256 b values h) ∙ le-ltb (get_or VALUES b 0) 64 l)
-
--- ---- the capital form
 abbrev is_capital : ℕ → Bool
 is_capital v = nat_eq (get_or DIGITS v 0) (capital_hex v)
 

@@ -1,13 +1,11 @@
 -- The character with whose UTF-8 some octets begin, told from the octets one by one.
 use Rattle.iri_percent.proofs.Common.{◌≡◌, ℕ, ◌+◌, ◌-◌, ◌<◌, ◌≤◌, Bool, true, false, cond, ◌||◌, List, [], ◌∷◌, ◌++◌, Option, Some, None}
-use Rattle.iri_percent.proofs.Common.{zero, suc, length, take, drop, take-append-drop, refl, sym, ◌∙◌, ap, arith, ltb-true, ltb-false, ◌/◌}
-use Rattle.iri_percent.proofs.Common.{◌*◌, ◌%◌, chars, ltb, encode, next, scalar, low_scalar, encode_ascii, length-encode, len_utf8_bounds}
-use Rattle.iri_percent.proofs.Common.{nat_tests, le-ltb, Tests, IsSpec, unreserved, is_ascii_unreserved, first_char, decoded}
-use Rattle.iri_percent.proofs.Common.{unreserved_only, char_from}
+use Rattle.iri_percent.proofs.Common.{refl, sym, ◌∙◌, ap, arith, ltb-true, ltb-false, ◌/◌, ◌*◌, ◌%◌, chars, ltb, encode, next, scalar}
+use Rattle.iri_percent.proofs.Common.{low_scalar, encode_ascii, nat_tests, le-ltb, Tests, IsSpec, unreserved, is_ascii_unreserved}
+use Rattle.iri_percent.proofs.Common.{first_char, decoded, unreserved_only, char_from}
 use Rattle.iri_grammar.specs.inside.Runs.{begins_with_more}
 use Rattle.iri_grammar.proofs.units.WideChars.{spelled_in_three, spelled_in_two}
-use Rattle.iri_percent.proofs.units.AtStart.{BeginsChar, first_char_is, char_first, none_before, continuation_none, is_continuation}
-use Rattle.iri_percent.proofs.units.AtStart.{next_continues}
+use Rattle.iri_percent.proofs.units.AtStart.{BeginsChar, first_char_is, char_first, continuation_none, is_continuation, next_continues}
 
 pub empty_none : (os : List ℕ) → os ≡ [] → first_char os ≡ None
 unfolding first_char chars
@@ -160,25 +158,6 @@ four_octets lead a b d os l p q r = decide (lead ∷ (128 + a) ∷ (128 + b) ∷
         let i = heads (128 + d) (next c) os rest j.1 in
         (omega (arith, k.0, j.0, i.0), s)
 
--- more than four octets tell no more
-pub first_of_four : (os : List ℕ) → first_char (take 4 os) ≡ first_char os
-first_of_four os =
-    elim (first_char os) as (λ o. first_char os ≡ o → first_char (take 4 os) ≡ o) [
-      | None ↦ λ h. none_before (take 4 os) os (drop 4 os) (sym (take-append-drop 4 os)) h
-      | Some c ↦ λ h.
-          let g = first_char_is os c h in
-          let short : length (encode c) ≤ 4 = omega (arith, length-encode c, len_utf8_bounds c) in
-          let t : take 4 os ≡ encode c ++ take (4 - length (encode c)) g.rest =
-          ap (take 4) g.split ∙ prefix_of (encode c) g.rest 4 short in
-          ap first_char t ∙ char_first c (take (4 - length (encode c)) g.rest) g.is_scalar
-    ] refl
-  where
-    prefix_of : (xs ys : List ℕ) (n : ℕ) → length xs ≤ n → take n (xs ++ ys) ≡ xs ++ take (n - length xs) ys
-    prefix_of [] ys n h = ap (λ m. take m ys) (omega arith)
-    prefix_of (x ∷ xs) ys zero h = absurd (omega arith)
-    prefix_of (x ∷ xs) ys (suc n) h = let e : suc n - suc (length xs) ≡ n - length xs = omega arith in
-        ap (λ l. x ∷ l) (prefix_of xs ys n (omega arith)) ∙ ap (λ m. x ∷ (xs ++ take m ys)) (sym e)
-
 -- ---- the unreserved character
 pub none_decoded : (s : Tests) (os : List ℕ) → os ≡ [] → decoded s os ≡ None
 none_decoded s os e = ap (unreserved_only s) (empty_none os e)
@@ -222,12 +201,16 @@ past_first lead c os l h = at (wide c lead os (first_char_is (lead ∷ os) c h).
     at (three p q e t) = omega arith
     at (four p e t) = omega arith
 
-only_first : (s : Tests) (o : Option ℕ) (c : ℕ) → unreserved_only s o ≡ Some c → o ≡ Some c
-only_first s None c h = cc
-only_first s (Some d) c h = elim (unreserved s d) as (λ b. cond b (Some d) None ≡ Some c → Some d ≡ Some c) [ true ↦ λ k. k | false ↦ λ k. cc ] h
+pub only_unreserved : (s : Tests) (o : Option ℕ) (c : ℕ) → unreserved_only s o ≡ Some c → (o ≡ Some c) × (unreserved s c ≡ true)
+only_unreserved s None c h = cc
+only_unreserved s (Some d) c h =
+    elim (unreserved s d) as (λ b. unreserved s d ≡ b → cond b (Some d) None ≡ Some c → (Some d ≡ Some c) × (unreserved s c ≡ true)) [
+      | true ↦ λ u k. let same : d ≡ c = cc in (k, ap (unreserved s) (sym same) ∙ u)
+      | false ↦ λ _ k. cc
+    ] refl h
 
 pub past_ascii : (s : Tests) (lead c : ℕ) (os : List ℕ) → 192 ≤ lead → decoded s (lead ∷ os) ≡ Some c → 128 ≤ c
-past_ascii s lead c os l h = past_first lead c os l (only_first s (first_char (lead ∷ os)) c h)
+past_ascii s lead c os l h = past_first lead c os l (only_unreserved s (first_char (lead ∷ os)) c h).0
 
 -- a character past ASCII is unreserved where the spec says so
 pub high_decoded : (s : Tests) (lead c : ℕ) (os : List ℕ) → 192 ≤ lead → first_char (lead ∷ os) ≡ Some c

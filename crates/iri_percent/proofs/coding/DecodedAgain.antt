@@ -2,8 +2,7 @@
 use Rattle.iri_percent.proofs.Common.{◌≡◌, ℕ, ◌<◌, Bool, true, false, cond, ◌&&◌, List, [], ◌∷◌, ◌++◌, refl, ◌∙◌, ap, arith, ltb-true, ◌==◌}
 use Rattle.iri_percent.proofs.Common.{◌/◌, ◌%◌, nat_lt, not, flat_map, list_all, chars, IsUtf8, encode, encodes, scalar, scalars}
 use Rattle.iri_percent.proofs.Common.{encode_ascii, encodes-chars, scalars-chars, nat_tests, Tests, IsSpec, both, capital_hex, triplets}
-use Rattle.iri_percent.proofs.Common.{keeps, encoded, encoded_char, decoding}
-use Rattle.iri_grammar.proofs.units.ClassLaws.{class_has_no_percent}
+use Rattle.iri_percent.proofs.Common.{keeps, encoded, encoded_char, decoding, class_has_no_percent}
 use Rattle.iri_percent.proofs.mapping.Texts.{is_high, encode-high, high_small, octet_of, capital_is_hex, first_digit, second_digit}
 use Rattle.iri_percent.proofs.forms.Stability.{encode_percent}
 use Rattle.iri_percent.proofs.forms.Classes.{class_percent}
@@ -72,3 +71,6 @@ decoding-chars p n (c ∷ cs) h =
 pub decoding-encoded : (p : ℕ → Bool) → p 37 ≡ false → (t : List ℕ) → IsUtf8 t → decoding (encoded p t) ≡ t
 unfolding encoded
 decoding-encoded p n t u = decoding-chars p n (chars t) (scalars-chars t u) ∙ encodes-chars t u
+
+pub decoded_again : (s : Tests) (k : Context) (t : List ℕ) → IsSpec s → IsUtf8 t → decoding (encoded (keeps s k) t) ≡ t
+decoded_again s k t l u = decoding-encoded (keeps s k) (keeps_no_percent s l k) t u

@@ -1,9 +1,11 @@
 -- Decoding at the start of a text, and the fragments put together.
 use Rattle.iri_percent.proofs.Common.{◌==◌, flat_map, is_ascii_hexdigit, before, lacks, by_test, is_triplet, octet, octets, two_digits}
-use Rattle.iri_percent.proofs.Common.{decoding, has_triplet, Octet, Percent, fragments, fragment_bytes}
-use Rattle.std.proofs.Common.{◌≡◌, ◌≢◌, ℕ, suc, ◌<◌, ◌≤◌, true, false, cond, ◌&&◌, ◌||◌, List, [], ◌∷◌, ◌++◌, length, drop, get_or}
-use Rattle.std.proofs.Common.{min, refl, length-drop, get_or-drop, sym, ◌∙◌, ap, subst, arith, eqb-true}
-use Rattle.iri_grammar.specs.Cut.{from, CutAt, NoCut}
+use Rattle.iri_percent.proofs.Common.{decoding, has_triplet, Octet, Percent, fragments, fragment_bytes, ◌≡◌, ℕ, suc, ◌+◌, ◌<◌, ◌≤◌, true}
+use Rattle.iri_percent.proofs.Common.{false, cond, ◌&&◌, ◌||◌, List, [], ◌∷◌, ◌++◌, length, drop, get_or, refl, sym, ◌∙◌, ap, subst, arith}
+use Rattle.iri_percent.proofs.Common.{eqb-true, list_any, is_octet}
+use Rattle.std.proofs.Common.{◌≢◌}
+use Rattle.std.proofs.Common.{min}
+use Rattle.iri_grammar.specs.Cut.{from}
 use Rattle.iri_percent.specs.Decoding.{Fragment, Run, before_fragments, byte_before}
 use Rattle.iri_percent.proofs.units.AtStart.{lacks_first}
 
@@ -149,90 +151,52 @@ count-before x fs = elim (x == 37) as (λ b. (0 < length (cond b (Percent ∷ fs
     at (Octet o ∷ fs) = (omega arith, omega arith)
     at (Percent ∷ fs) = (omega arith, omega arith)
 
-pub fragments-most : (t : List ℕ) → length (fragments t) ≤ length t
+fragments-count : (t : List ℕ) → (min (length t) 1 ≤ length (fragments t)) × (length (fragments t) ≤ length t)
 unfolding fragments
-fragments-most [] = omega arith
-fragments-most (x ∷ []) = (count-before x []).1
-fragments-most (x ∷ a ∷ []) = omega (arith, (count-before x (byte_before a [])).1, (count-before a []).1)
-fragments-most (x ∷ a ∷ b ∷ xs) =
-    elim (is_triplet x a b) as (λ v. length (cond v (Octet (octet a b) ∷ fragments xs) (byte_before x (fragments (a ∷ b ∷ xs))))
-    ≤ length (x ∷ a ∷ b ∷ xs)) [
-      | true ↦ omega (arith, fragments-most xs)
-      | false ↦ omega (arith, (count-before x (fragments (a ∷ b ∷ xs))).1, fragments-most (a ∷ b ∷ xs))
+fragments-count [] = (omega arith, omega arith)
+fragments-count (x ∷ []) = let k = count-before x [] in (omega (arith, k.0), k.1)
+fragments-count (x ∷ a ∷ []) =
+    let k = count-before x (byte_before a []) in (omega (arith, k.0), omega (arith, k.1, (count-before a []).1))
+fragments-count (x ∷ a ∷ b ∷ xs) =
+    elim (is_triplet x a b) as (λ v.
+    (min (length (x ∷ a ∷ b ∷ xs)) 1 ≤ length (cond v (Octet (octet a b) ∷ fragments xs) (byte_before x (fragments (a ∷ b ∷ xs)))))
+    × (length (cond v (Octet (octet a b) ∷ fragments xs) (byte_before x (fragments (a ∷ b ∷ xs)))) ≤ length (x ∷ a ∷ b ∷ xs))) [
+      | true ↦ (omega arith, omega (arith, (fragments-count xs).1))
+      | false ↦ let k = count-before x (fragments (a ∷ b ∷ xs)) in (omega (arith, k.0), omega (arith, k.1, (fragments-count (a ∷ b ∷ xs)).1))
     ]
 
+pub fragments-most : (t : List ℕ) → length (fragments t) ≤ length t
+fragments-most t = (fragments-count t).1
+
 pub fragments-some : (t : List ℕ) → min (length t) 1 ≤ length (fragments t)
-unfolding fragments
-fragments-some [] = omega arith
-fragments-some (x ∷ []) = omega (arith, (count-before x []).0)
-fragments-some (x ∷ a ∷ []) = omega (arith, (count-before x (byte_before a [])).0)
-fragments-some (x ∷ a ∷ b ∷ xs) =
-    elim (is_triplet x a b) as (λ v. min (length (x ∷ a ∷ b ∷ xs)) 1
-    ≤ length (cond v (Octet (octet a b) ∷ fragments xs) (byte_before x (fragments (a ∷ b ∷ xs))))) [
-      | true ↦ omega arith
-      | false ↦ omega (arith, (count-before x (fragments (a ∷ b ∷ xs))).0)
-    ]
+fragments-some t = (fragments-count t).0
 
 pub none-left : (t : List ℕ) → length t ≡ 0 → fragments t ≡ []
 none-left [] h = fragments-nil
 none-left (x ∷ xs) h = absurd (omega arith)
 
 -- ---- whether a triplet stands
-triplet-plain : (x : ℕ) (xs : List ℕ) → (x == 37) ≡ false → has_triplet (x ∷ xs) ≡ has_triplet xs
-unfolding has_triplet
-triplet-plain x [] h = refl
-triplet-plain x (a ∷ []) h = refl
-triplet-plain x (a ∷ b ∷ xs) h = rw h refl
+octet_before : (x : ℕ) (fs : List Fragment) → list_any is_octet (byte_before x fs) ≡ list_any is_octet fs
+octet_before x fs = elim (x == 37) as (λ b. list_any is_octet (cond b (Percent ∷ fs) (before_fragments x fs))
+    ≡ list_any is_octet fs) [ true ↦ refl | false ↦ at fs ]
+  where
+    at : (fs : List Fragment) → list_any is_octet (before_fragments x fs) ≡ list_any is_octet fs
+    at [] = refl
+    at (Run r ∷ fs) = refl
+    at (Octet o ∷ fs) = refl
+    at (Percent ∷ fs) = refl
 
-pub triplet-from : (t : List ℕ) → has_triplet t ≡ has_triplet (from 37 t)
-triplet-from [] = refl
-triplet-from (x ∷ xs) = elim (x == 37) as (λ b. (x == 37) ≡ b
-    → has_triplet (x ∷ xs) ≡ has_triplet (cond b (x ∷ xs) (from 37 xs))) [
-      | true ↦ λ _. refl
-      | false ↦ λ e. triplet-plain x xs e ∙ triplet-from xs
-    ] refl
-
-triplet-stray : (xs : List ℕ) → two_digits xs ≡ false → has_triplet (37 ∷ xs) ≡ has_triplet xs
-unfolding has_triplet
-triplet-stray [] h = refl
-triplet-stray (a ∷ []) h = refl
-triplet-stray (a ∷ b ∷ xs) h = rw h refl
-
-triplet-here : (xs : List ℕ) (o : ℕ) (os : List ℕ) → octets (37 ∷ xs) ≡ o ∷ os → has_triplet (37 ∷ xs) ≡ true
-unfolding has_triplet
-triplet-here [] o os h = cc
-triplet-here (a ∷ []) o os h = cc
-triplet-here (a ∷ b ∷ xs) o os h =
-    elim (is_ascii_hexdigit a && is_ascii_hexdigit b) as (λ v. cond v (octet a b ∷ octets xs) [] ≡ o ∷ os
-    → (v || has_triplet (a ∷ b ∷ xs)) ≡ true) [ true ↦ λ _. refl | false ↦ λ e. cc ] h
-
-pub triplet-found : (t : List ℕ) (o : ℕ) (os : List ℕ) → 0 < length t → get_or t 0 0 ≡ 37 → octets t ≡ o ∷ os → has_triplet t ≡ true
-triplet-found t o os l h e = let p = is_percent t l h in ap has_triplet p.split ∙ triplet-here p.tail o os (ap octets (sym p.split) ∙ e)
-
-pub triplet-passed : (t : List ℕ) → 0 < length t → get_or t 0 0 ≡ 37 → octets t ≡ [] → has_triplet t ≡ has_triplet (drop 1 t)
-triplet-passed t l h e = let p = is_percent t l h in
-    subst (λ z. has_triplet z ≡ has_triplet (drop 1 z)) (sym p.split)
-    (triplet-stray p.tail (no_digits p.tail (ap octets (sym p.split) ∙ e)))
-
--- the text from its first `%` on, as a slice of it
-pub record AtPercent (t u : List ℕ) : Type 0 where
-  pub some : 0 < length u
-  pub first : get_or u 0 0 ≡ 37
-  pub same : has_triplet t ≡ has_triplet u
-
-pub at_percent : (t u : List ℕ) (i : ℕ) → u ≡ drop i t → CutAt 37 t i → AtPercent t u
-at_percent t u i e k = record {
-  some = omega (arith, ap length e, length-drop i t, k.inside);
-  first = ap (λ z. get_or z 0 0) e ∙ get_or-drop i t 0 0 ∙ subst (λ n. get_or t n 0 ≡ 37) (omega arith) k.byte;
-  same = triplet-from t ∙ ap has_triplet (sym k.rest) ∙ ap has_triplet (sym e);
-}
-
-no_triplet : has_triplet [] ≡ false
-unfolding has_triplet
-no_triplet = refl
-
-pub no_percent : (t : List ℕ) → NoCut 37 t → has_triplet t ≡ false
-no_percent t k = triplet-from t ∙ ap has_triplet (sym k.rest) ∙ no_triplet
+pub octets_left : (t : List ℕ) → list_any is_octet (fragments t) ≡ has_triplet t
+unfolding fragments has_triplet
+octets_left [] = refl
+octets_left (x ∷ []) = octet_before x []
+octets_left (x ∷ a ∷ []) = octet_before x (byte_before a []) ∙ octet_before a []
+octets_left (x ∷ a ∷ b ∷ xs) =
+    elim (is_triplet x a b) as (λ v. list_any is_octet (cond v (Octet (octet a b) ∷ fragments xs) (byte_before x (fragments (a ∷ b ∷ xs))))
+    ≡ (v || has_triplet (a ∷ b ∷ xs))) [
+      | true ↦ refl
+      | false ↦ octet_before x (fragments (a ∷ b ∷ xs)) ∙ octets_left (a ∷ b ∷ xs)
+    ]
 
 -- what has no triplet decodes to itself
 pub decoding-same : (t : List ℕ) → has_triplet t ≡ false → decoding t ≡ t
@@ -247,33 +211,29 @@ decoding-same (x ∷ a ∷ b ∷ xs) h =
       | false ↦ λ e. ap (λ z. x ∷ z) (decoding-same (a ∷ b ∷ xs) e)
     ] h
 
-pub decoding-shorter : (t : List ℕ) → length (decoding t) ≤ length t
-unfolding decoding
-decoding-shorter [] = omega arith
-decoding-shorter (x ∷ []) = omega arith
-decoding-shorter (x ∷ a ∷ []) = omega arith
-decoding-shorter (x ∷ a ∷ b ∷ xs) =
-    elim (is_triplet x a b) as (λ v. length (cond v (octet a b ∷ decoding xs) (x ∷ decoding (a ∷ b ∷ xs))) ≤ length (x ∷ a ∷ b ∷ xs)) [
-      | true ↦ omega (arith, decoding-shorter xs)
-      | false ↦ omega (arith, decoding-shorter (a ∷ b ∷ xs))
+-- each triplet makes it shorter
+decoding_room : (t : List ℕ) → length (decoding t) + cond (has_triplet t) 1 0 ≤ length t
+unfolding decoding has_triplet
+decoding_room [] = omega arith
+decoding_room (x ∷ []) = omega arith
+decoding_room (x ∷ a ∷ []) = omega arith
+decoding_room (x ∷ a ∷ b ∷ xs) =
+    elim (is_triplet x a b) as (λ v. length (cond v (octet a b ∷ decoding xs) (x ∷ decoding (a ∷ b ∷ xs)))
+    + cond (v || has_triplet (a ∷ b ∷ xs)) 1 0 ≤ length (x ∷ a ∷ b ∷ xs)) [
+      | true ↦ omega (arith, decoding_room xs)
+      | false ↦ omega (arith, decoding_room (a ∷ b ∷ xs))
     ]
 
-decoding-fewer : (t : List ℕ) → has_triplet t ≡ true → length (decoding t) < length t
-unfolding decoding has_triplet
-decoding-fewer [] h = cc
-decoding-fewer (x ∷ []) h = cc
-decoding-fewer (x ∷ a ∷ []) h = cc
-decoding-fewer (x ∷ a ∷ b ∷ xs) h =
-    elim (is_triplet x a b) as (λ v. (v || has_triplet (a ∷ b ∷ xs)) ≡ true
-    → length (cond v (octet a b ∷ decoding xs) (x ∷ decoding (a ∷ b ∷ xs))) < length (x ∷ a ∷ b ∷ xs)) [
-      | true ↦ λ _. omega (arith, decoding-shorter xs)
-      | false ↦ λ e. omega (arith, decoding-fewer (a ∷ b ∷ xs) e)
-    ] h
+pub decoding-shorter : (t : List ℕ) → length (decoding t) ≤ length t
+decoding-shorter t = omega (arith, decoding_room t)
 
 -- and nothing else does
 pub same-decoding : (t : List ℕ) → decoding t ≡ t → has_triplet t ≡ false
-same-decoding t h = elim (has_triplet t) as (λ b. has_triplet t ≡ b
-    → b ≡ false) [ true ↦ λ e. absurd (omega (arith, decoding-fewer t e, ap length h)) | false ↦ λ _. refl ] refl
+same-decoding t h =
+    elim (has_triplet t) as (λ b. length (decoding t) + cond b 1 0 ≤ length t → b ≡ false) [
+      | true ↦ λ room. absurd (omega (arith, room, ap length h))
+      | false ↦ λ _. refl
+    ] (decoding_room t)
 
 -- what the law of decoding says
 pub ruleset decoded_texts = (fragments-joined, same-decoding, decoding-same)

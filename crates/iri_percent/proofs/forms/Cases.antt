@@ -1,10 +1,11 @@
 -- Characters in another case, and characters that are decoded.
-use Rattle.iri_percent.proofs.Common.{◌≡◌, ℕ, suc, ◌<◌, ◌≤◌, true, false, cond, List, [], ◌∷◌, Some, None, length, get_or, refl, sym, ◌∙◌}
-use Rattle.iri_percent.proofs.Common.{ap, subst, arith, append-nil, ltb-true, ltb-false, map, encode_utf8, ltb, scalar, low_scalar}
-use Rattle.iri_percent.proofs.Common.{encode_ascii, Tests, unreserved, first_char, decoded, unreserved_only}
+use Rattle.iri_percent.proofs.Common.{◌≡◌, ℕ, suc, ◌<◌, ◌≤◌, true, false, List, [], ◌∷◌, Some, length, get_or, refl, sym, ◌∙◌}
+use Rattle.iri_percent.proofs.Common.{ap, arith, append-nil, ltb-true, ltb-false, map, encode_utf8, ltb, scalar, low_scalar}
+use Rattle.iri_percent.proofs.Common.{encode_ascii, Tests, unreserved, first_char, decoded}
 use Rattle.std.proofs.lemmas.Str.{inside_one}
 use Rattle.iri_percent.proofs.units.AtStart.{BeginsChar, first_char_is}
 use Rattle.iri_percent.proofs.forms.Stability.{IsCase}
+use Rattle.iri_percent.proofs.characters.Spellings.{only_unreserved}
 
 map_high : (f : ℕ → ℕ) (xs : List ℕ) → ((x : ℕ) → 128 ≤ x → f x ≡ x) → ((k : ℕ) → k < length xs → 128 ≤ get_or xs k 0) → map f xs ≡ xs
 map_high f [] h p = refl
@@ -29,18 +30,7 @@ encode_case f c i =
         ] refl
 
 pub is_decoded : (s : Tests) (os : List ℕ) (c : ℕ) → decoded s os ≡ Some c → (BeginsChar os c) × (unreserved s c ≡ true)
-is_decoded s os c h =
-    elim (first_char os) as (λ o. first_char os ≡ o → unreserved_only s o ≡ Some c → (BeginsChar os c) × (unreserved s c ≡ true)) [
-      | None ↦ λ _ k. cc
-      | Some d ↦ λ e k. at d e k
-    ] refl h
-  where
-    at : (d : ℕ) → first_char os ≡ Some d → unreserved_only s (Some d) ≡ Some c → (BeginsChar os c) × (unreserved s c ≡ true)
-    at d e k =
-        elim (unreserved s d) as (λ b. unreserved s d ≡ b → cond b (Some d) None ≡ Some c → (BeginsChar os c) × (unreserved s c ≡ true)) [
-          | true ↦ λ u l. let same : d ≡ c = cc in subst (λ n. (BeginsChar os n) × (unreserved s n ≡ true)) same (first_char_is os d e, u)
-          | false ↦ λ _ l. cc
-        ] refl k
+is_decoded s os c h = let k = only_unreserved s (first_char os) c h in (first_char_is os c k.0, k.1)
 
 pub case_scalar : (f : ℕ → ℕ) (c : ℕ) → IsCase f → scalar c ≡ true → scalar (f c) ≡ true
 case_scalar f c i h =

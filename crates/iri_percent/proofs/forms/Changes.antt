@@ -5,10 +5,10 @@ use Rattle.iri_percent.proofs.Common.{IsAscii-cons, IsAscii-nil, Tests, IsSpec, 
 use Rattle.iri_percent.proofs.Common.{whole_triplets, normal, decoded, case_of, stays, NoCandidate, Becomes, Gathered, Writes}
 use Rattle.std.proofs.Common.{◌≡◌, ℕ, zero, suc, ◌+◌, ◌-◌, ◌*◌, ◌<◌, ◌≤◌, Bool, true, false, not, ◌&&◌, List, [], ◌∷◌, ◌++◌, Option, Some}
 use Rattle.std.proofs.Common.{None, length, take, drop, get_or, refl, sym, ◌∙◌, ap, subst, arith, append_assoc, length-append, length-drop}
-use Rattle.std.proofs.Common.{cond, drop-drop, ltb-true, ltb-false, get_or-drop, slice_range}
+use Rattle.std.proofs.Common.{cond, append-nil, drop-drop, ltb-true, ltb-false, get_or-drop, slice_range}
 use Rattle.std.specs.Prelude.{MatchOption}
 use Rattle.std.proofs.lemmas.Str.{IsUtf8-encode, IsUtf8-from_ascii, lead_after_ascii}
-use Rattle.std.proofs.lemmas.List.{get_or_append_left}
+use Rattle.std.proofs.lemmas.List.{get_or_append_left, take_all, drop_all}
 use Rattle.iri_grammar.proofs.units.FirstUnits.{hex_is_ascii}
 use Rattle.iri_percent.proofs.characters.HexDigits.{capital_triplet}
 use Rattle.iri_percent.proofs.characters.Spellings.{ascii_decoded, low_decoded, past_ascii, unreserved_low}
@@ -48,11 +48,9 @@ run s lower (x ∷ xs) (suc n) l h =
     }
 
 pub run_all : (s : Tests) (lower : Bool) (t : List ℕ) → NoCandidate lower t (length t) → normal s (case_of lower) t ≡ t
-run_all s lower [] h = normal_nil s (case_of lower)
-run_all s lower (x ∷ xs) h =
-    let first : stays lower x ≡ true = h 0 (omega arith) in
-    normal_plain s (case_of lower) x xs (stays_percent lower x first) ∙ ap (λ y. y ∷ normal s (case_of lower) xs) (stays_case lower x first)
-    ∙ ap (λ l. x ∷ l) (run_all s lower xs (λ k j. h (suc k) (omega arith)))
+run_all s lower t h =
+    (run s lower t (length t) (omega arith) h).text ∙ ap (λ l. take (length t) t ++ normal s (case_of lower) l) (drop_all (length t) t (omega arith))
+    ∙ ap (λ l. take (length t) t ++ l) (normal_nil s (case_of lower)) ∙ append-nil (take (length t) t) ∙ take_all (length t) t (omega arith)
 
 -- nothing is gathered yet
 delimiter_below : (lower : Bool) (x : ℕ) → stays lower x ≡ false → x < 128

@@ -6,15 +6,17 @@ use Rattle.iri_percent.proofs.Common.{unreserved, reg_name_char, userinfo_char, 
 use Rattle.iri_percent.proofs.Common.{is_ascii_unreserved, is_ascii_reg_name, is_ascii_userinfo, is_ascii_pchar, is_ascii_path}
 use Rattle.iri_percent.proofs.Common.{is_ascii_query, is_sub_delim, is_userinfo, is_path, is_path_segment, is_query, is_fragment, both}
 use Rattle.iri_percent.proofs.Common.{by_test, is_reg_name, over, text_over, IsOver, octets, normal, as_it_is, pct, decoded}
+use Rattle.iri_percent.proofs.Common.{is_ascii_hexdigit, is_ascii_uppercase, to_ascii_uppercase, to_ascii_lowercase, class_has_no_percent}
 use Rattle.std.specs.Prelude.{codes}
-use Rattle.std.specs.Char.{is_ascii_hexdigit, is_ascii_uppercase, char_set_contains, to_ascii_uppercase, to_ascii_lowercase}
+use Rattle.std.specs.Char.{char_set_contains}
 use Rattle.std.proofs.lemmas.Str.{chars-encodes, is_utf8-from_IsUtf8}
 use Rattle.iri_grammar.proofs.units.OverLaws.{units-from_over, over-from_units}
+use Rattle.iri_grammar.specs.declared.class.Class.TheVariants.{Pchar}
 use Rattle.iri_percent.proofs.units.AtStart.{Spells, none, more, Spelled, spelled, length-spelled, encode_bytes, encodes_triplet}
 use Rattle.iri_percent.proofs.forms.ByUnits.{normal_nil, normal_plains, normal_decoded, normal_kept}
 use Rattle.iri_percent.proofs.forms.Stability.{IsCase, as_it_is-case, lower-case, upper_hex, encode_percent}
 use Rattle.iri_percent.proofs.forms.Cases.{encode_case, case_scalar, is_decoded}
-use Rattle.iri_percent.proofs.units.OfParts.{reg_name_percent, userinfo_percent, pchar_percent, path_percent, query_percent, fragment_percent}
+use Rattle.iri_percent.proofs.units.OfParts.{reg_name_percent, userinfo_percent, path_percent, query_percent, fragment_percent}
 
 -- ---- texts over a class, by their bytes
 pub data IsText (p : ℕ → Bool) : List ℕ → Type 0 where
@@ -187,7 +189,7 @@ pub pct-reg_name : (s : Tests) (t : List ℕ) → IsSpec s → is_reg_name s t �
 pct-reg_name s t k h = pct-over s (reg_name_char s) t (reg_name_percent s k) (in_reg_name s) h
 
 pub pct-segment : (s : Tests) (t : List ℕ) → IsSpec s → is_path_segment s t ≡ true → is_path_segment s (pct s t) ≡ true
-pct-segment s t k h = pct-over s (pchar s) t (pchar_percent s k) (in_pchar s) h
+pct-segment s t k h = pct-over s (pchar s) t (class_has_no_percent s k Pchar) (in_pchar s) h
 
 pub pct-path : (s : Tests) (t : List ℕ) → IsSpec s → is_path s t ≡ true → is_path s (pct s t) ≡ true
 pct-path s t k h = pct-over s (path_char s) t (path_percent s k) (in_path s) h

@@ -3,11 +3,10 @@ use Rattle.iri_percent.proofs.Common.{◌≡◌, ℕ, ◌<◌, ◌≤◌, true, 
 use Rattle.iri_percent.proofs.Common.{append_assoc, ◌==◌, map, is_ascii_hexdigit, digit_value, to_ascii_uppercase, to_ascii_lowercase}
 use Rattle.iri_percent.proofs.Common.{encode_utf8, nat_tests, append-nil, Tests, IsSpec, unreserved, is_ascii_unreserved, lacks, TextUnit}
 use Rattle.iri_percent.proofs.Common.{Plain, Char, Lone, Stray, IllFormed, octet, octets, first_char, units, units_from, whole_triplets}
-use Rattle.iri_percent.proofs.Common.{plains, normal, as_it_is, pct, written, normal_unit, flat_map}
+use Rattle.iri_percent.proofs.Common.{plains, normal, as_it_is, pct, written, normal_unit, flat_map, by_test, flat_map-append}
 use Rattle.std.proofs.lemmas.Str.Ascii.{lowercase-lowercase, lowercase_ascii, uppercase-uppercase}
-use Rattle.iri_grammar.proofs.splits.CutLaws.{by_test, lacks-other}
+use Rattle.iri_grammar.proofs.splits.CutLaws.{lacks-other}
 use Rattle.iri_grammar.proofs.units.LackedBytes.{lacks-encodes}
-use Rattle.std.proofs.lemmas.Grind.{flat_map-append}
 use Rattle.iri_percent.proofs.units.ByBytes.{written_plains, normal-by_bytes}
 use Rattle.iri_percent.proofs.units.AtStart.{Spells, none, more, octets_other, octets_triplet, octets_spelled, encode_bytes, none_before}
 use Rattle.iri_percent.proofs.units.AtStart.{lacks_first, units_plain, units_plains, units_lone, units_char}
@@ -25,14 +24,8 @@ pub record IsCase (f : ℕ → ℕ) : Type 0 where
 pub as_it_is-case : IsCase as_it_is
 as_it_is-case = record { percent = λ x h. h; twice = λ x. refl; below = λ x h. h; past = λ x h. refl }
 
-lower_percent : (x : ℕ) → (x == 37) ≡ false → (to_ascii_lowercase x == 37) ≡ false
-lower_percent x h = grind (arith, nat_tests)
-
-lower_past : (x : ℕ) → 128 ≤ x → to_ascii_lowercase x ≡ x
-lower_past x h = grind (arith, nat_tests)
-
 pub lower-case : IsCase to_ascii_lowercase
-lower-case = record { percent = lower_percent; twice = lowercase-lowercase; below = lowercase_ascii; past = lower_past }
+lower-case = record { percent = λ x h. grind (arith, nat_tests); twice = lowercase-lowercase; below = lowercase_ascii; past = λ x h. grind (arith, nat_tests) }
 
 -- ---- capital digits
 pub upper_hex : (a : ℕ) → is_ascii_hexdigit a ≡ true → is_ascii_hexdigit (to_ascii_uppercase a) ≡ true
@@ -231,3 +224,9 @@ whole_read s f t k i (char c sp xs h sps r) = let rest = whole_read s f xs k i r
 pub whole-normal : (s : Tests) (f : ℕ → ℕ) (t : List ℕ) → IsSpec s → IsCase f → whole_triplets t ≡ true
     → whole_triplets (normal s f t) ≡ true
 whole-normal s f t k i w = whole_read s f t k i (read t w)
+
+pub pct-whole : (s : Tests) (t : List ℕ) → IsSpec s → whole_triplets t ≡ true → whole_triplets (pct s t) ≡ true
+pct-whole s t k w = whole-normal s as_it_is t k as_it_is-case w
+
+-- what the law of stable forms says
+pub ruleset stable_forms = (pct-whole, pct-stable)

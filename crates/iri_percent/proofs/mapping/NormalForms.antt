@@ -1,18 +1,18 @@
 -- The mapping and triplet normal form, and what the mapping does.
-use Rattle.iri_percent.proofs.Common.{◌≡◌, ℕ, zero, suc, ◌<◌, ◌≤◌, Bool, true, false, cond, List, [], ◌∷◌, ◌++◌, Option, Some}
-use Rattle.iri_percent.proofs.Common.{None, length, map, refl, sym, ◌∙◌, ap, subst, arith, length-append, ltb-true, ltb-false, ◌==◌, ◌/◌}
-use Rattle.iri_percent.proofs.Common.{◌%◌, nat_lt, list_all, is_ascii_hexdigit, to_ascii_uppercase, encode, encodes, scalar}
-use Rattle.iri_percent.proofs.Common.{scalars, chars, IsAscii, IsUtf8, encode_ascii, encodes-chars, scalars-chars, nat_tests, lt-ltb}
-use Rattle.iri_percent.proofs.Common.{IsAscii-cons, IsAscii-nil, Tests, IsSpec, uri_tests, unreserved, is_ascii_unreserved, both, text_over}
-use Rattle.iri_percent.proofs.Common.{octet, octets, first_char, normal, decoded, unreserved_only, triplet, mapped, triplets}
+use Rattle.iri_percent.proofs.Common.{◌≡◌, ℕ, zero, suc, ◌<◌, ◌≤◌, Bool, true, false, cond, List, [], ◌∷◌, ◌++◌, Option, Some, None, length}
+use Rattle.iri_percent.proofs.Common.{map, refl, sym, ◌∙◌, ap, subst, arith, length-append, ltb-true, ltb-false, ◌==◌, ◌/◌, ◌%◌, nat_lt}
+use Rattle.iri_percent.proofs.Common.{list_all, is_ascii_hexdigit, to_ascii_uppercase, encode, encodes, scalar, scalars, chars, IsAscii}
+use Rattle.iri_percent.proofs.Common.{IsUtf8, encode_ascii, encodes-chars, scalars-chars, nat_tests, lt-ltb, IsAscii-cons, IsAscii-nil}
+use Rattle.iri_percent.proofs.Common.{Tests, IsSpec, uri_tests, unreserved, is_ascii_unreserved, both, text_over, octet, octets, normal}
+use Rattle.iri_percent.proofs.Common.{decoded, triplet, mapped, triplets, flat_map}
 use Rattle.std.proofs.lemmas.Str.{IsAscii-append}
 use Rattle.std.proofs.Math.Bool.{or-false}
 use Rattle.iri_percent.proofs.forms.Classes.{IsText, ended, letter, escape, text-from_over, after_spelled}
-use Rattle.iri_percent.proofs.units.AtStart.{Spells, none, more, spelled, length-spelled, octets_triplet, char_first, encode_bytes}
+use Rattle.iri_percent.proofs.units.AtStart.{Spells, none, more, spelled, length-spelled, octets_triplet, encode_bytes}
 use Rattle.iri_percent.proofs.forms.ByUnits.{normal_nil, normal_plain, normal_plains, normal_char, normal_decoded, normal_kept}
 use Rattle.iri_percent.proofs.forms.Cases.{encode_case, is_decoded}
 use Rattle.iri_percent.proofs.forms.Stability.{IsCase, encode_percent, upper_hex}
-use Rattle.iri_percent.proofs.characters.Spellings.{unreserved_low}
+use Rattle.iri_percent.proofs.characters.Spellings.{unreserved_low, ascii_decoded}
 use Rattle.iri_percent.proofs.coding.SpelledTriplets.{hex_below}
 use Rattle.iri_percent.specs.Mapping.{mapped_char}
 use Rattle.iri_percent.proofs.mapping.Texts.{mapped-low, mapped-high, mapped-append, mapped-triplet, mapped-spelled, mapped-spells, is_high}
@@ -20,7 +20,6 @@ use Rattle.iri_percent.proofs.mapping.Texts.{high_past, high_small, first_digit,
 pub use Rattle.iri_percent.proofs.characters.Spellings.{unreserved_low as unreserved_ascii}
 pub use Rattle.iri_percent.proofs.characters.HexDigits.{value_small}
 use Rattle.iri_percent.proofs.characters.HexDigits.{capital_triplet}
-use Rattle.iri_percent.proofs.Common.{flat_map}
 
 -- ---- triplets in capital
 -- triplets of bytes past ASCII, in capital
@@ -42,16 +41,9 @@ ascii_unreserved : (s : Tests) (c : ℕ) → IsSpec s → c < 128 → unreserved
 unfolding unreserved
 ascii_unreserved s c k l = rw (k.ucs_ascii c l) (or-false (is_ascii_unreserved c))
 
-pub low_scalar : (c : ℕ) → c < 128 → scalar c ≡ true
-low_scalar c h = grind (arith, nat_tests)
-
 -- an octet that is an unreserved ASCII character is decoded
 pub ascii-decoded : (s : Tests) (o : ℕ) (os : List ℕ) → is_ascii_unreserved o ≡ true → decoded s (o ∷ os) ≡ Some o
-unfolding unreserved
-ascii-decoded s o os h =
-    let l = unreserved_low o h in
-    let there : first_char (o ∷ os) ≡ Some o = ap (λ z. first_char (z ++ os)) (sym (encode_ascii o l)) ∙ char_first o os (low_scalar o l) in
-    ap (unreserved_only s) there ∙ (rw h refl)
+ascii-decoded s o os h = ascii_decoded s o (o ∷ os) os refl h
 
 -- under URIs, the first octet alone says what is decoded
 pub uri-decoded : (o : ℕ) (os : List ℕ) → is_ascii_unreserved o ≡ false → decoded uri_tests (o ∷ os) ≡ None

@@ -1,10 +1,9 @@
 -- What is in a production is, mapped, in the same production of URIs.
 use Rattle.iri_percent.proofs.Common.{◌≡◌, ℕ, Bool, true, false, not, ◌||◌, List, [], ◌∷◌, ◌++◌, Option, Some, None, refl, sym, ◌∙◌, ap}
 use Rattle.iri_percent.proofs.Common.{subst, arith, nat_lt, option_map, is_ascii_digit, list_all, nat_tests, AuthorityParts, FitsAuthority}
-use Rattle.iri_percent.proofs.Common.{authority_parts, recompose_authority, userinfo_text, Tests, IsSpec, uri_tests, userinfo_char}
-use Rattle.iri_percent.proofs.Common.{reg_name_char, path_char, query_char, fragment_char, is_ascii_userinfo, is_ascii_reg_name}
-use Rattle.iri_percent.proofs.Common.{is_ascii_unreserved, is_ascii_path, is_ascii_query, is_sub_delim, if_there, is_port, is_userinfo}
-use Rattle.iri_percent.proofs.Common.{is_path, is_query, is_fragment, before, delimited, both, is_host, is_reg_name, mapped}
+use Rattle.iri_percent.proofs.Common.{authority_parts, recompose_authority, userinfo_text, Tests, IsSpec, uri_tests, is_ascii_userinfo}
+use Rattle.iri_percent.proofs.Common.{is_ascii_reg_name, is_ascii_unreserved, is_sub_delim, if_there, is_port, is_userinfo, is_path}
+use Rattle.iri_percent.proofs.Common.{is_query, is_fragment, before, delimited, both, is_host, is_reg_name, mapped, class_test, text_over}
 use Rattle.std.specs.Prelude.{IsSome, IsNone}
 use Rattle.std.proofs.Math.Bool.{or-true}
 use Rattle.iri_grammar.specs.Authority.{is_authority}
@@ -13,6 +12,9 @@ use Rattle.iri_grammar.specs.Components.{is_scheme, is_scheme_char}
 use Rattle.iri_grammar.specs.Fault.{query_fault, fragment_fault}
 use Rattle.iri_grammar.proofs.faults.FaultLaws.{passed, no_fault, reference-law, iri-law, absolute-law, relative-law}
 use Rattle.iri_grammar.specs.IpLiteral.{is_ip_literal}
+use Rattle.iri_grammar.proofs.units.ClassLaws.{class_at_ascii, class_has_no_percent}
+use Rattle.iri_grammar.specs.declared.class.Class.{Class}
+use Rattle.iri_grammar.specs.declared.class.Class.TheVariants.{RegName, Userinfo, Path, Query, Fragment}
 use Rattle.iri_grammar.proofs.hosts.LiteralChars.{is_literal_char, ip_literal-chars}
 use Rattle.iri_grammar.specs.Parts.{Parts, Fits, Splits, IsReference, IsIri, IsAbsolute, IsRelative, path_rules, recompose, scheme_text}
 use Rattle.iri_grammar.specs.Parts.{authority_text}
@@ -25,7 +27,6 @@ use Rattle.iri_percent.specs.Mapping.{mapped_parts}
 use Rattle.iri_percent.proofs.mapping.Delimiters.{slash-apart, colon-apart, mapped-lacks, mapped-before, mapped-empty, mapped-slash}
 use Rattle.iri_percent.proofs.mapping.Delimiters.{mapped-slashes}
 use Rattle.iri_percent.proofs.mapping.Texts.{mapped-low, mapped-append, mapped-over, uri-spec}
-use Rattle.iri_percent.proofs.units.OfParts.{reg_name_percent, userinfo_percent, path_percent, query_percent, fragment_percent}
 
 abbrev pub mapped_authority : AuthorityParts → AuthorityParts
 mapped_authority a = record { userinfo = option_map mapped a.userinfo; host = mapped a.host; port = option_map mapped a.port }
@@ -68,36 +69,24 @@ mapped-recomposed_authority a =
     ∙ rw (mapped-userinfo_text a.userinfo, mapped-append a.host (delimited 58 a.port), mapped-delimited 58 a.port refl) refl
 
 -- ---- classes
-low_class : (a u : Bool) → u ≡ false → (a || u) ≡ true → (a || false) ≡ true
-low_class a u e h = ap (λ b. a || b) (sym e) ∙ h
-
-low_query : (a u v : Bool) → u ≡ false → v ≡ false → (a || u || v) ≡ true → (a || false || false) ≡ true
-low_query a u v e f h = ap (λ b. a || b || false) (sym e) ∙ (ap (λ b. a || u || b) (sym f) ∙ h)
+mapped-class : (s : Tests) (c : Class) (x : List ℕ) → IsSpec s → text_over (class_test s c) x ≡ true → text_over (class_test uri_tests c) (mapped x) ≡ true
+mapped-class s c x k h = mapped-over (class_test s c) (class_test uri_tests c) x (class_has_no_percent s k c) (class_has_no_percent uri_tests uri-spec c)
+    (λ b l p. class_at_ascii uri_tests uri-spec c b l ∙ sym (class_at_ascii s k c b l) ∙ p) h
 
 pub mapped-userinfo : (s : Tests) (x : List ℕ) → IsSpec s → is_userinfo s x ≡ true → is_userinfo uri_tests (mapped x) ≡ true
-unfolding userinfo_char
-mapped-userinfo s x k h = mapped-over (userinfo_char s) (userinfo_char uri_tests) x (userinfo_percent s k)
-    (userinfo_percent uri_tests uri-spec) (λ c l p. low_class (is_ascii_userinfo c) (s.ucs c) (k.ucs_ascii c l) p) h
+mapped-userinfo s x k h = mapped-class s Userinfo x k h
 
 mapped-reg_name : (s : Tests) (x : List ℕ) → IsSpec s → is_reg_name s x ≡ true → is_reg_name uri_tests (mapped x) ≡ true
-unfolding reg_name_char
-mapped-reg_name s x k h = mapped-over (reg_name_char s) (reg_name_char uri_tests) x (reg_name_percent s k)
-    (reg_name_percent uri_tests uri-spec) (λ c l p. low_class (is_ascii_reg_name c) (s.ucs c) (k.ucs_ascii c l) p) h
+mapped-reg_name s x k h = mapped-class s RegName x k h
 
 pub mapped-path : (s : Tests) (x : List ℕ) → IsSpec s → is_path s x ≡ true → is_path uri_tests (mapped x) ≡ true
-unfolding path_char
-mapped-path s x k h = mapped-over (path_char s) (path_char uri_tests) x (path_percent s k) (path_percent uri_tests uri-spec)
-    (λ c l p. low_class (is_ascii_path c) (s.ucs c) (k.ucs_ascii c l) p) h
+mapped-path s x k h = mapped-class s Path x k h
 
 pub mapped-query : (s : Tests) (x : List ℕ) → IsSpec s → is_query s x ≡ true → is_query uri_tests (mapped x) ≡ true
-unfolding query_char
-mapped-query s x k h = mapped-over (query_char s) (query_char uri_tests) x (query_percent s k) (query_percent uri_tests uri-spec)
-    (λ c l p. low_query (is_ascii_query c) (s.ucs c) (s.priv c) (k.ucs_ascii c l) (k.priv_ascii c l) p) h
+mapped-query s x k h = mapped-class s Query x k h
 
 pub mapped-fragment : (s : Tests) (x : List ℕ) → IsSpec s → is_fragment s x ≡ true → is_fragment uri_tests (mapped x) ≡ true
-unfolding fragment_char
-mapped-fragment s x k h = mapped-over (fragment_char s) (fragment_char uri_tests) x (fragment_percent s k)
-    (fragment_percent uri_tests uri-spec) (λ c l p. low_class (is_ascii_query c) (s.ucs c) (k.ucs_ascii c l) p) h
+mapped-fragment s x k h = mapped-class s Fragment x k h
 
 -- ---- texts in ASCII stay
 pub each-low : (p : ℕ → Bool) → ((c : ℕ) → p c ≡ true → nat_lt c 128 ≡ true) → (xs : List ℕ) → list_all p xs ≡ true → mapped xs ≡ xs

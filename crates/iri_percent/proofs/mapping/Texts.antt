@@ -1,8 +1,7 @@
 -- The mapping of texts over a class.
-use Rattle.iri_percent.proofs.Common.{◌≡◌, ℕ, ◌+◌, ◌*◌, ◌<◌, ◌≤◌, Bool, true, false, List, [], ◌∷◌, ◌++◌, refl, sym, ◌∙◌, ap, subst}
-use Rattle.iri_percent.proofs.Common.{arith, ltb-true, ◌/◌, ◌%◌, nat_lt, list_all, is_ascii_hexdigit, digit_value}
-use Rattle.iri_percent.proofs.Common.{encode, scalar, encode_ascii, nat_tests, IsSpec, uri_tests, both, text_over, octet, capital_hex}
-use Rattle.iri_percent.proofs.Common.{triplet, mapped}
+use Rattle.iri_percent.proofs.Common.{◌≡◌, ℕ, ◌+◌, ◌*◌, ◌<◌, ◌≤◌, Bool, true, false, List, [], ◌∷◌, ◌++◌, refl, sym, ◌∙◌, ap, subst, arith}
+use Rattle.iri_percent.proofs.Common.{ltb-true, ◌/◌, ◌%◌, nat_lt, list_all, is_ascii_hexdigit, digit_value, encode, scalar, encode_ascii}
+use Rattle.iri_percent.proofs.Common.{nat_tests, IsSpec, uri_tests, both, text_over, octet, capital_hex, triplet, mapped}
 use Rattle.std.specs.Int.{is_in_range}
 pub use Rattle.iri_percent.specs.inside.MapperText.{mapped-append}
 use Rattle.iri_percent.proofs.forms.Classes.{IsText, ended, letter, escape, text-from_over, over-from_text}

@@ -3,9 +3,9 @@ use Rattle.iri_percent.proofs.Common.{◌≡◌, ℕ, zero, suc, ◌+◌, ◌*�
 use Rattle.iri_percent.proofs.Common.{None, length, refl, sym, ◌∙◌, ap, arith, length-append, ◌==◌, is_ascii_hexdigit, len_utf8}
 use Rattle.iri_percent.proofs.Common.{encode_utf8, length-encode, Tests, Plain, Char, is_triplet, octet, octets, first_char, triplet_unit}
 use Rattle.iri_percent.proofs.Common.{byte_unit, first_unit, unit_text, units_from, units, normal, as_it_is, pct, written, flat_map}
+use Rattle.iri_percent.proofs.Common.{flat_map-append}
 use Rattle.std.proofs.lemmas.List.{take-append-le}
 use Rattle.std.proofs.Math.Bool.{and-false}
-use Rattle.std.proofs.lemmas.Grind.{flat_map-append}
 use Rattle.iri_percent.proofs.units.ByBytes.{normal-by_bytes}
 use Rattle.iri_percent.proofs.units.AtStart.{first_char_is, units_plain}
 use Rattle.iri_percent.specs.Units.{IsOutsideTriplets}

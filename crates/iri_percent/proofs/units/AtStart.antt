@@ -4,7 +4,7 @@ use Rattle.iri_percent.proofs.Common.{encode_ascii, length-encode, take_at, drop
 use Rattle.iri_percent.proofs.Common.{octet, octets, first_char, triplet_unit, first_unit, unit_text, units_from, units, lacks, not-true}
 use Rattle.iri_percent.proofs.Common.{not, plains, ltb-true, ◌<◌, two_digits}
 use Rattle.std.proofs.Common.{◌≡◌, ℕ, zero, suc, ◌+◌, ◌*◌, ◌-◌, ◌≤◌, Bool, true, false, cond, ◌&&◌, List, [], ◌∷◌, ◌++◌, Some, None, length}
-use Rattle.std.proofs.Common.{take, drop, refl, sym, ◌∙◌, ap, subst, arith, append_assoc, append-nil, eq-eqb, eqb-true}
+use Rattle.std.proofs.Common.{take, drop, refl, sym, ◌∙◌, ap, subst, arith, append_assoc, append-nil, eq-eqb, eqb-true, ◌↔◌}
 use Rattle.std.specs.Int.{is_in_range}
 use Rattle.std.proofs.lemmas.Str.{chars-append, chars-encodes, IsUtf8-encode}
 use Rattle.std.proofs.lemmas.Bool.{and_from}
@@ -127,6 +127,12 @@ chars_prefix c rest h =
 pub char_first : (c : ℕ) (rest : List ℕ) → scalar c ≡ true → first_char (encode c ++ rest) ≡ Some c
 unfolding first_char
 char_first c rest h = ap (well_formed (encode c ++ rest)) (chars_prefix c rest h) ∙ rw (h, starts_prefix (encode c) rest) refl
+
+pub first_char_split : (os : List ℕ) (c : ℕ) → (first_char os ≡ Some c) ↔ ((scalar c ≡ true) × ((rest : List ℕ) × (os ≡ encode c ++ rest)))
+first_char_split os c = (
+  λ h. let g = first_char_is os c h in (g.is_scalar, (g.rest, g.split)),
+  λ h. ap first_char h.1.1 ∙ char_first c h.1.0 h.0,
+)
 
 -- fewer octets begin with no other character
 pub none_before : (xs ys zs : List ℕ) → ys ≡ xs ++ zs → first_char ys ≡ None → first_char xs ≡ None

@@ -4,7 +4,7 @@ use Rattle.iri_percent.proofs.Common.{drop, refl, sym, ◌∙◌, ap, subst, ari
 use Rattle.iri_percent.proofs.Common.{to_ascii_uppercase, encode_utf8, drop_at, Tests, unreserved, TextUnit, Plain, Char, Lone, Stray}
 use Rattle.iri_percent.proofs.Common.{IllFormed, octets, first_char, triplet_unit, first_unit, unit_text, units_from, units, by_character}
 use Rattle.iri_percent.proofs.Common.{char_unit_text, char_units_from, char_units, plains, byte_units, normal, written, all-lacks}
-use Rattle.std.proofs.lemmas.Grind.{flat_map-append}
+use Rattle.iri_percent.proofs.Common.{flat_map-append}
 use Rattle.iri_percent.specs.Triplets.{unit_form}
 use Rattle.iri_percent.proofs.units.AtStart.{BeginsChar, first_char_is, is_continuation, encode_bytes, units_from_drop, byte_other, units_plain}
 use Rattle.iri_percent.proofs.units.AtStart.{units_plains}

@@ -13,6 +13,7 @@ use Rattle.iri_percent.proofs.mapping.Texts.{is_high, encode-high}
 use Rattle.iri_percent.proofs.units.Joined.{units-text}
 pub use Rattle.iri_percent.proofs.units.AtStart.{units_stray}
 use Rattle.iri_percent.specs.CharUnits.{first_char_unit}
+use Rattle.std.proofs.Common.{◌⊎◌, inl, inr}
 use Rattle.iri_grammar.proofs.units.FirstUnits.{past_hex as high_no_hex}
 
 -- ---- digits after a `%`
@@ -210,47 +211,35 @@ after_plains (o ∷ os) rest (v ∷ before) after c sp e =
     let r = after_plains os rest before after c sp suffix in
     (r.0, sym (ap (λ x. x ∷ before) first) ∙ ap (λ l. Plain o ∷ l) r.1, r.2)
 
--- a unit that is a unit of bytes too, before others
-unit_split : (u v w : TextUnit) (us before after : List TextUnit) (c : ℕ) (sp : List ℕ) → byte_units u ≡ v ∷ []
-    → v ∷ flat_map byte_units us ≡ w ∷ (before ++ Char c sp ∷ after)
-    → (flat_map byte_units us ≡ before ++ Char c sp ∷ after → IsSplit c sp us before) → IsSplit c sp (u ∷ us) (w ∷ before)
-unit_split u v w us before after c sp one e rest =
-    let first : v ≡ w = cc in
-    let suffix : flat_map byte_units us ≡ before ++ Char c sp ∷ after = cc in
-    let r = rest suffix in
-    record {
-      prefix = u ∷ r.prefix;
-      back = r.back;
-      split = ap (λ l. u ∷ l) r.split;
-      same = ap (λ l. l ++ flat_map byte_units r.prefix) one ∙ ap (λ l. v ∷ l) r.same ∙ ap (λ x. x ∷ before) first;
-    }
+-- it stands in the bytes of one unit, or after them
+after_unit : (u : TextUnit) (rest before after : List TextUnit) (c : ℕ) (sp : List ℕ) → byte_units u ++ rest ≡ before ++ Char c sp ∷ after
+    → ((u ≡ Char c sp) × (before ≡ [])) ⊎ ((mid : List TextUnit) × (before ≡ byte_units u ++ mid) × (rest ≡ mid ++ Char c sp ∷ after))
+after_unit (Plain d) rest before after c sp e = inr (after_plains (encode d) rest before after c sp e)
+after_unit (Char d sq) rest [] after c sp e = inl ((cc), refl)
+after_unit (Lone a b) rest [] after c sp e = cc
+after_unit Stray rest [] after c sp e = cc
+after_unit (IllFormed b) rest [] after c sp e = cc
+after_unit (Char d sq) rest (v ∷ before) after c sp e = inr (before, (cc), (cc))
+after_unit (Lone a b) rest (v ∷ before) after c sp e = inr (before, (cc), (cc))
+after_unit Stray rest (v ∷ before) after c sp e = inr (before, (cc), (cc))
+after_unit (IllFormed b) rest (v ∷ before) after c sp e = inr (before, (cc), (cc))
 
 char_split : (us before after : List TextUnit) (c : ℕ) (sp : List ℕ) → flat_map byte_units us ≡ before ++ Char c sp ∷ after
     → IsSplit c sp us before
 char_split [] [] after c sp e = cc
 char_split [] (v ∷ before) after c sp e = cc
-char_split (Plain d ∷ us) before after c sp e =
-    let m = after_plains (encode d) (flat_map byte_units us) before after c sp e in
-    let r = char_split us m.0 after c sp m.2 in
-    record {
-      prefix = Plain d ∷ r.prefix;
-      back = r.back;
-      split = ap (λ l. Plain d ∷ l) r.split;
-      same = ap (λ l. plains (encode d) ++ l) r.same ∙ sym m.1;
-    }
-char_split (Char d sq ∷ us) [] after c sp e =
-    let first : Char d sq ≡ Char c sp = cc in
-    record { prefix = []; back = us; split = ap (λ x. x ∷ us) first; same = refl }
-char_split (Lone a b ∷ us) [] after c sp e = cc
-char_split (Stray ∷ us) [] after c sp e = cc
-char_split (IllFormed b ∷ us) [] after c sp e = cc
-char_split (Char d sq ∷ us) (v ∷ before) after c sp e =
-    unit_split (Char d sq) (Char d sq) v us before after c sp refl e (λ k. char_split us before after c sp k)
-char_split (Lone a b ∷ us) (v ∷ before) after c sp e =
-    unit_split (Lone a b) (Lone a b) v us before after c sp refl e (λ k. char_split us before after c sp k)
-char_split (Stray ∷ us) (v ∷ before) after c sp e = unit_split Stray Stray v us before after c sp refl e (λ k. char_split us before after c sp k)
-char_split (IllFormed b ∷ us) (v ∷ before) after c sp e =
-    unit_split (IllFormed b) (Plain b) v us before after c sp refl e (λ k. char_split us before after c sp k)
+char_split (u ∷ us) before after c sp e =
+    elim (after_unit u (flat_map byte_units us) before after c sp e) [
+      | inl h ↦ record { prefix = []; back = us; split = ap (λ v. v ∷ us) h.0; same = sym h.1 }
+      | inr h ↦
+          let r = char_split us h.0 after c sp h.2 in
+          record {
+            prefix = u ∷ r.prefix;
+            back = r.back;
+            split = ap (λ l. u ∷ l) r.split;
+            same = ap (λ l. byte_units u ++ l) r.same ∙ sym h.1;
+          }
+    ]
 
 -- a unit of bytes that is a character in triplets is a unit of characters, at the same byte
 pub record IsPlaced (c : ℕ) (sp t : List ℕ) (place : ℕ) : Type 0 where

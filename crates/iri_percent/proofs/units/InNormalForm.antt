@@ -84,3 +84,9 @@ pub units-formed : (s : Tests) (t : List ℕ) → IsSpec s → IsUtf8 t → whol
 units-formed s t i u w =
     let same = encodes-chars t u in
     subst (IsFormed s) same (encoded_formed s (chars t) i (read_text (chars t)) (scalars-chars t u) (ap whole_triplets same ∙ w))
+
+pub units-pct : (s : Tests) (t : List ℕ) → IsSpec s → whole_triplets t ≡ true → units (pct s t) ≡ flat_map (normal_unit s as_it_is) (units t)
+units-pct s t i w = units-normal s as_it_is t i as_it_is-case w
+
+-- what the law of units in normal form says
+pub ruleset formed_units = (units-formed, units-pct)

@@ -1,9 +1,8 @@
 -- The units of a text, put together, are the text.
-use Rattle.iri_percent.proofs.Common.{◌≡◌, ℕ, zero, suc, ◌*◌, ◌<◌, true, false, cond, ◌&&◌, List, [], ◌∷◌, ◌++◌, Option, Some}
-use Rattle.iri_percent.proofs.Common.{None, length, take, drop, refl, sym, ◌∙◌, ap, subst, arith, take-append-drop, eqb-true, ◌==◌}
-use Rattle.iri_percent.proofs.Common.{is_ascii_hexdigit, len_utf8, len_utf8_bounds, both, TextUnit, Plain, Stray, is_triplet}
-use Rattle.iri_percent.proofs.Common.{octets, first_char, triplet_unit, byte_unit, first_unit, unit_text, units_from, units}
-use Rattle.iri_percent.proofs.Common.{flat_map}
+use Rattle.iri_percent.proofs.Common.{◌≡◌, ℕ, zero, suc, ◌*◌, ◌<◌, true, false, cond, ◌&&◌, List, [], ◌∷◌, ◌++◌, Option, Some, None, length}
+use Rattle.iri_percent.proofs.Common.{take, drop, refl, sym, ◌∙◌, ap, subst, arith, take-append-drop, eqb-true, ◌==◌, is_ascii_hexdigit}
+use Rattle.iri_percent.proofs.Common.{len_utf8, len_utf8_bounds, both, TextUnit, Plain, Stray, is_triplet, octets, first_char, triplet_unit}
+use Rattle.iri_percent.proofs.Common.{byte_unit, first_unit, unit_text, units_from, units, flat_map}
 use Rattle.iri_percent.proofs.units.AtStart.{units_plain, units_char, units_lone, units_stray}
 use Rattle.iri_percent.proofs.units.Readings.{TextReading, nothing, other, spelled_char, lone_triplet, stray_percent, read_text}
 

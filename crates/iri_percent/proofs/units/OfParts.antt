@@ -1,12 +1,13 @@
 -- Each part of a reference has whole triplets.
-use Rattle.iri_percent.proofs.Common.{◌≡◌, ℕ, Bool, true, false, cond, ◌||◌, List, [], ◌∷◌, ◌++◌, refl, sym, ◌∙◌, ap, arith, ◌==◌, chars}
-use Rattle.iri_percent.proofs.Common.{is_utf8, encode, encodes, encodes-chars, IsUtf8-from_is_utf8, Tests, IsSpec, reg_name_char}
-use Rattle.iri_percent.proofs.Common.{userinfo_char, pchar, path_char, query_char, fragment_char, is_ascii_reg_name, is_ascii_userinfo}
-use Rattle.iri_percent.proofs.Common.{is_ascii_pchar, is_ascii_path, is_ascii_query, is_ascii_unreserved, is_sub_delim, is_userinfo}
-use Rattle.iri_percent.proofs.Common.{is_path, is_path_segment, is_query, is_fragment, lacks, both, by_test, all-lacks, is_host}
-use Rattle.iri_percent.proofs.Common.{is_reg_name, over, text_over, IsOver, two_digits, whole_triplets}
+use Rattle.iri_percent.proofs.Common.{◌≡◌, ℕ, Bool, true, false, cond, ◌||◌, List, [], ◌∷◌, ◌++◌, refl, sym, ◌∙◌, ap, ◌==◌, chars, is_utf8}
+use Rattle.iri_percent.proofs.Common.{encode, encodes, encodes-chars, IsUtf8-from_is_utf8, Tests, IsSpec, reg_name_char, userinfo_char}
+use Rattle.iri_percent.proofs.Common.{pchar, path_char, query_char, fragment_char, is_ascii_reg_name, is_ascii_userinfo}
+use Rattle.iri_percent.proofs.Common.{is_ascii_unreserved, is_sub_delim, is_userinfo, is_path, is_path_segment, is_query, is_fragment}
+use Rattle.iri_percent.proofs.Common.{lacks, both, by_test, all-lacks, is_host, is_reg_name, over, text_over, IsOver, two_digits}
+use Rattle.iri_percent.proofs.Common.{whole_triplets, class_has_no_percent}
 use Rattle.iri_percent.proofs.units.AtStart.{encodes_triplet, lacks_first}
 use Rattle.iri_grammar.specs.IpLiteral.{is_ip_literal}
+use Rattle.iri_grammar.specs.declared.class.Class.TheVariants.{RegName, Userinfo, Pchar, Path, Query, Fragment}
 use Rattle.iri_grammar.proofs.hosts.LiteralChars.{is_literal_char, ip_literal-chars}
 use Rattle.iri_grammar.specs.Over.{done, plain, triplet}
 use Rattle.iri_grammar.proofs.units.OverLaws.{units-from_over}
@@ -52,35 +53,26 @@ text_over-whole p xs n h =
 
 -- no class has `%`
 pub reg_name_percent : (s : Tests) → IsSpec s → reg_name_char s 37 ≡ false
-unfolding reg_name_char is_ascii_reg_name is_ascii_unreserved is_sub_delim
-reg_name_percent s k = rw (k.ucs_ascii 37 (omega arith)) refl
+reg_name_percent s k = class_has_no_percent s k RegName
 
 pub userinfo_percent : (s : Tests) → IsSpec s → userinfo_char s 37 ≡ false
-unfolding userinfo_char is_ascii_userinfo is_ascii_reg_name is_ascii_unreserved is_sub_delim
-userinfo_percent s k = rw (k.ucs_ascii 37 (omega arith)) refl
-
-pub pchar_percent : (s : Tests) → IsSpec s → pchar s 37 ≡ false
-unfolding pchar is_ascii_pchar is_ascii_reg_name is_ascii_unreserved is_sub_delim
-pchar_percent s k = rw (k.ucs_ascii 37 (omega arith)) refl
+userinfo_percent s k = class_has_no_percent s k Userinfo
 
 pub path_percent : (s : Tests) → IsSpec s → path_char s 37 ≡ false
-unfolding path_char is_ascii_path is_ascii_pchar is_ascii_reg_name is_ascii_unreserved is_sub_delim
-path_percent s k = rw (k.ucs_ascii 37 (omega arith)) refl
+path_percent s k = class_has_no_percent s k Path
 
 pub query_percent : (s : Tests) → IsSpec s → query_char s 37 ≡ false
-unfolding query_char is_ascii_query is_ascii_pchar is_ascii_reg_name is_ascii_unreserved is_sub_delim
-query_percent s k = rw (k.ucs_ascii 37 (omega arith), k.priv_ascii 37 (omega arith)) refl
+query_percent s k = class_has_no_percent s k Query
 
 pub fragment_percent : (s : Tests) → IsSpec s → fragment_char s 37 ≡ false
-unfolding fragment_char is_ascii_query is_ascii_pchar is_ascii_reg_name is_ascii_unreserved is_sub_delim
-fragment_percent s k = rw (k.ucs_ascii 37 (omega arith)) refl
+fragment_percent s k = class_has_no_percent s k Fragment
 
 -- ---- the parts
 pub userinfo-whole : (s : Tests) (x : List ℕ) → IsSpec s → is_userinfo s x ≡ true → whole_triplets x ≡ true
 userinfo-whole s x k h = text_over-whole (userinfo_char s) x (userinfo_percent s k) h
 
 pub segment-whole : (s : Tests) (x : List ℕ) → IsSpec s → is_path_segment s x ≡ true → whole_triplets x ≡ true
-segment-whole s x k h = text_over-whole (pchar s) x (pchar_percent s k) h
+segment-whole s x k h = text_over-whole (pchar s) x (class_has_no_percent s k Pchar) h
 
 pub path-whole : (s : Tests) (x : List ℕ) → IsSpec s → is_path s x ≡ true → whole_triplets x ≡ true
 path-whole s x k h = text_over-whole (path_char s) x (path_percent s k) h

@@ -1,44 +1,30 @@
 -- A text has whole triplets exactly where no unit of it is a stray `%`.
-use Rattle.iri_percent.proofs.Common.{◌≡◌, ℕ, suc, Bool, true, false, List, [], ◌∷◌, ◌++◌, refl, sym, ◌∙◌}
-use Rattle.iri_percent.proofs.Common.{ap, arith, not, list_all, flat_map}
-use Rattle.iri_percent.proofs.Common.{encode_utf8, not-true, TextUnit, Plain, Char, Lone, Stray, IllFormed}
-use Rattle.iri_percent.proofs.Common.{units, units_from, whole_triplets, both, char_units, plains, byte_units}
+use Rattle.iri_percent.proofs.Common.{◌≡◌, ℕ, suc, Bool, true, false, List, [], ◌∷◌, ◌++◌, refl, sym, ◌∙◌, ◌&&◌, ap, arith, not, list_all}
+use Rattle.iri_percent.proofs.Common.{flat_map, encode_utf8, not-true, TextUnit, Plain, Char, Lone, Stray, IllFormed, units, units_from}
+use Rattle.iri_percent.proofs.Common.{whole_triplets, both, char_units, plains, byte_units}
 use Rattle.std.proofs.Common.{◌≢◌, ◌↔◌, true≢false}
 use Rattle.std.specs.List.{All}
 use Rattle.std.proofs.lemmas.List.Elements.{All-cons}
 use Rattle.iri_percent.proofs.units.ByBytes.{units-by_chars}
 use Rattle.iri_percent.proofs.units.AtStart.{units_plain, units_lone, units_char, units_stray}
 use Rattle.iri_percent.proofs.units.Readings.{TextReading, nothing, other, spelled_char, lone_triplet, stray_percent, read_text}
-use Rattle.iri_percent.proofs.units.WholeTriplets.{Reading, done, plain, char, lone, whole_plain, whole_triplet, whole_after}
-use Rattle.iri_percent.proofs.units.WholeTriplets.{read}
+use Rattle.iri_percent.proofs.units.WholeTriplets.{whole_plain, whole_triplet, whole_after}
 
 abbrev is_stray : TextUnit → Bool
-is_stray (Plain x) = false
-is_stray (Char c sp) = false
-is_stray (Lone a b) = false
 is_stray Stray = true
-is_stray (IllFormed b) = false
+is_stray _ = false
 
 -- no unit is a stray `%`
 abbrev all_free : List TextUnit → Bool
 all_free us = list_all (λ u. not (is_stray u)) us
 
-free_read : (t : List ℕ) → Reading t → all_free (units t) ≡ true
-unfolding units_from
-free_read _ done = refl
-free_read _ (plain x xs e r) = ap all_free (units_plain x xs e) ∙ free_read xs r
-free_read _ (char c sp xs h k r) = ap all_free (units_char c sp xs h k) ∙ free_read xs r
-free_read _ (lone a b xs p q e r) = ap all_free (units_lone a b xs p q e) ∙ free_read xs r
-
-whole_free : (t : List ℕ) → TextReading t → all_free (units t) ≡ true → whole_triplets t ≡ true
-unfolding whole_triplets
-whole_free _ nothing h = refl
-whole_free _ (other x xs e r) h = whole_plain x xs e ∙ whole_free xs r (sym (ap all_free (units_plain x xs e)) ∙ h)
-whole_free _ (spelled_char c sp xs k sps r) h =
-    whole_after sp (encode_utf8 c) xs sps ∙ whole_free xs r (sym (ap all_free (units_char c sp xs k sps)) ∙ h)
-whole_free _ (lone_triplet a b xs p q n r) h =
-    whole_triplet a b xs p q ∙ whole_free xs r (sym (ap all_free (units_lone a b xs p q n)) ∙ h)
-whole_free _ (stray_percent xs e r) h = let no : all_free (units (37 ∷ xs)) ≡ false = ap all_free (units_stray xs e) in cc
+free_whole : (t : List ℕ) → TextReading t → all_free (units t) ≡ whole_triplets t
+unfolding units_from whole_triplets
+free_whole _ nothing = refl
+free_whole _ (other x xs e r) = ap all_free (units_plain x xs e) ∙ free_whole xs r ∙ sym (whole_plain x xs e)
+free_whole _ (spelled_char c sp xs k sps r) = ap all_free (units_char c sp xs k sps) ∙ free_whole xs r ∙ sym (whole_after sp (encode_utf8 c) xs sps)
+free_whole _ (lone_triplet a b xs p q n r) = ap all_free (units_lone a b xs p q n) ∙ free_whole xs r ∙ sym (whole_triplet a b xs p q)
+free_whole _ (stray_percent xs e r) = ap all_free (units_stray xs e) ∙ ap (λ b. b && whole_triplets xs) (sym e)
 
 -- ---- units of characters
 plains_free : (os : List ℕ) (us : List TextUnit) → all_free (plains os ++ us) ≡ all_free us
@@ -72,15 +58,15 @@ no_stray-from (u ∷ us) h =
     let free = not-true (is_stray u) k.0 in
     All-cons (λ v. v ≢ Stray) u us (λ is. true≢false (sym (ap is_stray is) ∙ free)) (no_stray-from us k.1)
 
+free-iff : (b : Bool) (us : List TextUnit) → all_free us ≡ b → (b ≡ true) ↔ All (λ u. u ≢ Stray) us
+free-iff b us e = (λ w. no_stray-from us (e ∙ w), λ h. sym e ∙ all_free-from us h)
+
 pub whole-iff-no-stray : (t : List ℕ) → (whole_triplets t ≡ true) ↔ All (λ u. u ≢ Stray) (units t)
-whole-iff-no-stray t = (
-  λ w. no_stray-from (units t) (free_read t (read t w)),
-  λ h. whole_free t (read_text t) (all_free-from (units t) h),
-)
+whole-iff-no-stray t = free-iff (whole_triplets t) (units t) (free_whole t (read_text t))
 
 pub whole-iff-no-stray-char : (t : List ℕ) → (whole_triplets t ≡ true) ↔ All (λ u. u ≢ Stray) (char_units t)
-whole-iff-no-stray-char t =
-    let same : all_free (units t) ≡ all_free (char_units t) = ap all_free (units-by_chars t) ∙ bytes_free (char_units t) in (
-      λ w. no_stray-from (char_units t) (sym same ∙ free_read t (read t w)),
-      λ h. whole_free t (read_text t) (same ∙ all_free-from (char_units t) h),
-    )
+whole-iff-no-stray-char t = free-iff (whole_triplets t) (char_units t)
+    (sym (ap all_free (units-by_chars t) ∙ bytes_free (char_units t)) ∙ free_whole t (read_text t))
+
+-- what the law of stray `%` says
+pub ruleset strays = (whole-iff-no-stray, whole-iff-no-stray-char)

@@ -1,7 +1,6 @@
 -- A text without stray `%` is a row of characters as they stand, characters in triplets, and lone triplets.
-use Rattle.iri_percent.proofs.Common.{◌≡◌, ℕ, true, false, List, [], ◌∷◌, ◌++◌, None, refl, sym, ◌∙◌}
-use Rattle.iri_percent.proofs.Common.{◌==◌, is_ascii_hexdigit, encode_utf8, scalar, both, octets}
-use Rattle.iri_percent.proofs.Common.{first_char, two_digits, whole_triplets}
+use Rattle.iri_percent.proofs.Common.{◌≡◌, ℕ, true, false, List, [], ◌∷◌, ◌++◌, None, refl, sym, ◌∙◌, ◌==◌, is_ascii_hexdigit, encode_utf8}
+use Rattle.iri_percent.proofs.Common.{scalar, both, octets, first_char, two_digits, whole_triplets}
 use Rattle.iri_percent.proofs.units.AtStart.{Spells, none, more, hex_apart}
 use Rattle.iri_percent.proofs.units.Readings.{TextReading, nothing, other, spelled_char, lone_triplet, stray_percent, read_text}
 

@@ -6,7 +6,6 @@ use Rattle.iri_grammar.specs.Characters.{percent_sign}
 use Rattle.iri_template.specs.declared.encoded_value.Piece.{Piece}
 use Rattle.iri_template.specs.declared.encoded_value.Piece.TheVariants.{Run, Char}
 use Rattle.iri_template.specs.declared.encoded_value.Reading.{Reading}
-use Rattle.iri_template.specs.declared.held.Begun.TheVariants.{Nothing}
 
 abbrev pub piece_chars : Piece → List ℕ
 piece_chars (Run t) = chars t.now
@@ -25,5 +24,5 @@ pub record IsCut (plain : Bool) (t : List ℕ) (piece : Piece) (rest : List ℕ)
 
 -- a run is read where nothing is held back
 abbrev pub IsPlainRun : Reading → Piece → Type 0
-IsPlainRun r (Run t) = (r.octets ≡ []) × (r.begun ≡ Nothing) × (lacks percent_sign t.now ≡ true)
+IsPlainRun r (Run t) = (r.held ≡ []) × (lacks percent_sign t.now ≡ true)
 IsPlainRun r (Char c) = Unit {0}

@@ -1,5 +1,5 @@
 use Rattle.iri_link.proofs.Common.{◌≡◌, ◌≤◌, ◌<◌, length, take, slice_index}
-use Rattle.iri_link.specs.inside.LaxPieces.{without_end}
+use Rattle.iri_link.specs.inside.Pieces.{without_end}
 use Rattle.iri_link.proofs.runs.len_without_end.Given as goal
 
 -- what follows are blanks

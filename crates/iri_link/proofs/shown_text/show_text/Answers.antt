@@ -1,8 +1,8 @@
 use Rattle.iri_link.proofs.Common.{[], ◌++◌, Ok, sym, ◌∙◌, subst, rules, base_text}
 use Rattle.iri_text.specs.Shown.{Shows}
 use Rattle.iri_text.proofs.Compose.{shown_none, shown_exit, shown_more, shows_all}
-use Rattle.iri_link.specs.inside.LaxPieces.{lax_left, piece_text, place_past}
-use Rattle.iri_link.specs.inside.Pieces.{stands}
+use Rattle.iri_link.specs.inside.Pieces.{left_at, stands}
+use Rattle.iri_link.specs.inside.ShownPieces.{piece_text, place_past}
 use Rattle.iri_link.specs.inside.PlainParams.{params_text}
 use Rattle.iri_link.proofs.PlainLemmas.{none_left}
 use Rattle.iri_link.proofs.ShownLemmas.{to_show, left_later, left_past, all_shown, written_left}
@@ -26,7 +26,7 @@ returns-in_err-show_piece-in-Some g c =
     let rest = c.in-Some.after.now in
     subst (λ t. Shows g.W.TextSink.puts g.W.TextSink.halts g.W.TextSink.stops c.args.sink.now t c.show_piece.new.sink c.from_residual.result)
     (sym (left_past s mode base _ i.done c.pieces.place c.pieces.inside c.pieces.rest.now i.same rest x c.in-Some.ensures))
-    (shown_exit g.met.W.TextSink.rules (written_left s mode base (place_past s c.pieces.place x) (lax_left (stands x) rest)) c.from_residual.ensures.0 i.shown
+    (shown_exit g.met.W.TextSink.rules (written_left s mode base (place_past s c.pieces.place x) (left_at (stands x) rest)) c.from_residual.ensures.0 i.shown
     c.in_err-show_piece-in-Some.ensures.shows)
 
 pub returns-in_err-show_plain-in-Some : goal.returns-in_err-show_plain-in-Some
@@ -41,7 +41,7 @@ returns-in_err-show_plain-in-Some g c =
     subst (λ t. Shows g.W.TextSink.puts g.W.TextSink.halts g.W.TextSink.stops c.args.sink.now t c.show_plain.new.sink c.from_residual-in_err-show_plain-in-Some.result)
     (sym (left_later s mode base _ i.done c.pieces.place c.pieces.inside c.pieces.rest.now i.same c.in-Some.after.now c.in-Some.piece c.in-Some.ensures
     place inside c.in_ok-show_piece-in-Some.ensures.place c.is_inside-inside.ensures c.cut_plain.result.0.now left c.cut_plain.ensures))
-    (shown_exit g.met.W.TextSink.rules (written_left s mode base place (lax_left inside left)) c.from_residual-in_err-show_plain-in-Some.ensures.0
+    (shown_exit g.met.W.TextSink.rules (written_left s mode base place (left_at inside left)) c.from_residual-in_err-show_plain-in-Some.ensures.0
     (shown_more g.met.W.TextSink.rules i.shown c.in_ok-show_piece-in-Some.ensures.shows) c.in_err-show_plain-in-Some.ensures)
 
 pub pieces-preserved : goal.pieces-preserved

@@ -1,31 +1,14 @@
-use Rattle.iri_register.proofs.Common.{sym, ap, ◌∙◌, Some, arith, place, string_bytes}
-use Rattle.iri_register.proofs.SlotLemmas.{at_within, gaps_small, moved_is, place_live}
+use Rattle.iri_register.proofs.Common.{sym, ◌∙◌, place, string_bytes}
+use Rattle.iri_register.proofs.SlotLemmas.{place_is, placed_as_moved}
 use Rattle.iri_register.proofs.entries.find.Goals as goal
 
 pub slot_of-requires : goal.slot_of-requires
 slot_of-requires c = (c.entries.inside.hasher, c.entries.invariant.hashed, c.take_hash.ensures.hash)
 
 pub place_of-requires : goal.place_of-requires
-place_of-requires c =
-    let es = c.entries.inside.map.entries in
-    let w = at_within (string_bytes c.take_hash.new.key.text) es c.in-Some.slot c.in-Some.ensures.here in
-    let k = c.entries.invariant in
-    let m = moved_is k c.in-Some.slot w in
-    let g = gaps_small es c.in-Some.slot in
-    record {
-      blocked = k.blocked;
-      within = omega (arith, w, k.within);
-      up = omega (arith, m, g);
-      small = omega (arith, w, c.slot_of.ensures.small);
-    }
+place_of-requires c = placed_as_moved c.entries.invariant c.in-Some.slot c.in-Some.ensures.within c.slot_of.ensures.small
 
 pub returns-in-Some : goal.returns-in-Some
 returns-in-Some c =
-    let es = c.entries.inside.map.entries in
-    let t = string_bytes c.take_hash.new.key.text in
-    let w = at_within t es c.in-Some.slot c.in-Some.ensures.here in
-    let m = moved_is c.entries.invariant c.in-Some.slot w in
-    let g = gaps_small es c.in-Some.slot in
-    let p = place_live t es c.in-Some.slot c.in-Some.ensures.here c.in-Some.ensures.live in
-    ap Some (omega (arith, c.place_of.ensures, m, g)) ∙ sym p
+    sym (place_is c.entries.invariant _ c.in-Some.slot _ c.in-Some.ensures.here c.in-Some.ensures.live c.in-Some.ensures.within c.place_of.ensures)
     ∙ (λ j. place (c.entries.view_is j) (string_bytes (c.take_hash.ensures.text j)))

@@ -2,7 +2,7 @@ use Rattle.iri_register.proofs.Common.{◌≡◌, ap, sym, subst, ◌∙◌, is_
 use Rattle.iri_register.proofs.Common.{rules, has_lines, is_text, IsKept, key_eq}
 use Rattle.std.proofs.lemmas.List.{length-set}
 use Rattle.iri_register.proofs.HashLemmas.{lookup_as, position_as}
-use Rattle.iri_register.proofs.MapLemmas.{at_position}
+use Rattle.iri_register.proofs.SlotLemmas.{at_position}
 use Rattle.iri_register.proofs.KeyLemmas.{absent_live, dead_at, lookup_gone, slot_given, entries_dead, kept_dead, on_ok}
 use Rattle.iri_register.specs.declared.lines.Lines.TheVariants.{More}
 use Rattle.iri_register.proofs.entries.free_key.Goals as goal

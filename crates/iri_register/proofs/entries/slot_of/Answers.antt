@@ -1,7 +1,7 @@
 use Rattle.std.proofs.Common.{sym, ap, ◌∙◌, is_some, cond, string_bytes}
 use Rattle.iri_register.proofs.HashLemmas.{lookup_as, position_as}
-use Rattle.iri_register.proofs.MapLemmas.{at_position}
-use Rattle.iri_register.proofs.SlotLemmas.{flag_entry, place_dead, place_absent, lookup_absent}
+use Rattle.std.proofs.lemmas.Option.{slice_get_within}
+use Rattle.iri_register.proofs.SlotLemmas.{at_position, flag_entry, place_dead, place_absent, lookup_absent}
 use Rattle.iri_register.proofs.entries.slot_of.Goals as goal
 
 pub returns-else-stays-clause-none : goal.returns-else-stays-clause-none
@@ -23,6 +23,9 @@ returns-then-stays-clause-here c =
 pub returns-then-stays-clause-live : goal.returns-then-stays-clause-live
 returns-then-stays-clause-live c =
     flag_entry c.args.map.now.entries c.in-Some.slot _ _ c.in-Some.ensures.entry ∙ ap (λ b. cond b 1 0) (sym c.stays.ensures ∙ c.if-stays.true)
+
+pub returns-then-stays-clause-within : goal.returns-then-stays-clause-within
+returns-then-stays-clause-within c = slice_get_within c.args.map.now.entries c.in-Some.slot _ c.in-Some.ensures.entry
 
 pub returns-in-None-clause-none : goal.returns-in-None-clause-none
 returns-in-None-clause-none c =

@@ -1,31 +1,98 @@
-use Rattle.iri_template.proofs.Common.{◌∙◌, ap, sym, subst, length, Shows, fewer, written_units, begun_units, octet_units}
-use Rattle.iri_template.proofs.Common.{shows_then, shows_exit}
-use Rattle.iri_template.proofs.HeldUnits.{units_both, nothing_units, fewer_none}
+use Rattle.iri_template.proofs.Common.{◌≡◌, ◌≤◌, ◌++◌, ◌∷◌, [], ◌∙◌, ap, sym, subst, refl, arith, append_assoc, append-nil, length, chars, Ok}
+use Rattle.iri_template.proofs.Common.{Shows, fewer, units, written_units, written_chars, held_unit, shown_none, shown_more, shows_all, true}
+use Rattle.iri_text.proofs.Compose.{shown_exit, shown_then}
+use Rattle.std.proofs.lemmas.List.{take_all}
+use Rattle.iri_template.proofs.HeldUnits.{nothing_left, unit_left, after_unit, short_written}
+use Rattle.iri_template.proofs.Reading.{on_ok}
 use Rattle.iri_template.proofs.encoded_value.put_held.Goals as goal
 
-pub returns-in_err-put_octets-clause-shows : goal.returns-in_err-put_octets-clause-shows
-returns-in_err-put_octets-clause-shows g c =
-    let w = g.W.TextSink in
-    let s = g.S.Spec.tests in
-    let a = c.args.state.now in
-    subst (λ l. Shows w.puts w.halts w.stops c.args.sink.now l c.put_octets.new.sink c.from_residual.result)
-    (sym (units_both s a.left (octet_units a.octets) (begun_units a.begun)))
-    (shows_exit g.met.W.TextSink.rules (written_units s (fewer a.left (length (octet_units a.octets))) (begun_units a.begun))
-    c.from_residual.ensures.0 c.in_err-put_octets.ensures.shows)
+pub units-init : goal.units-init
+units-init g c = record {
+  held = c.requires;
+  far = record { text = []; shown = shown_none g.met.W.TextSink.rules c.args.sink.now; all = refl; left = refl };
+}
 
-pub returns-clause-shows : goal.returns-clause-shows
-returns-clause-shows g c =
-    let w = g.W.TextSink in
+pub units-preserved : goal.units-preserved
+units-preserved g c =
+    let i = c.units.invariant in
+    let a = c.units.state in
+    let b = c.put_unit.new.state in
+    let put = c.in_ok-put_unit.ensures in
+    let some : 3 ≤ length a.held = omega (arith, c.units-test.true, c.len.ensures.len) in
+    let k = after_unit a.held b.held i.held.begun some put.held in
+    let e = unit_left g.S.Spec.tests a.left b.left a.held b.held i.held.begun some put.left put.held in
+    let u = written_units g.S.Spec.tests a.left (held_unit a.held ∷ []) in
+    record {
+      held = record { begun = k.0; room = omega (arith, k.1, i.held.room) };
+      far = record {
+        text = i.far.text ++ u;
+        shown = shown_more g.met.W.TextSink.rules i.far.shown put.shows;
+        all = i.far.all ∙ ap (λ l. i.far.text ++ l) e.0 ∙ sym (append_assoc i.far.text u (written_units g.S.Spec.tests b.left (units b.held)));
+        left = i.far.left ∙ e.1;
+      };
+    }
+
+pub units-smaller : goal.units-smaller
+units-smaller g c =
+    let k = after_unit c.units.state.held c.put_unit.new.state.held c.units.invariant.held.begun
+    (omega (arith, c.units-test.true, c.len.ensures.len)) c.put_unit.ensures.held in
+    omega (arith, k.1)
+
+pub returns-in_err-put_unit-clause-held : goal.returns-in_err-put_unit-clause-held
+returns-in_err-put_unit-clause-held g c =
+    let k = after_unit c.units.state.held c.put_unit.new.state.held c.units.invariant.held.begun
+    (omega (arith, c.units-test.true, c.len.ensures.len)) c.put_unit.ensures.held in
+    record { begun = k.0; room = omega (arith, k.1, c.units.invariant.held.room) }
+
+pub returns-in_err-put_unit-clause-shows : goal.returns-in_err-put_unit-clause-shows
+returns-in_err-put_unit-clause-shows g c =
     let s = g.S.Spec.tests in
-    let a = c.args.state.now in
-    let put = subst (λ m. Shows w.puts w.halts w.stops c.put_octets.new.sink
-    (written_units s m (begun_units a.begun)) c.put_begun.new.sink c.put_begun.result) c.in_ok-put_octets.ensures.left c.put_begun.ensures.shows in
-    subst (λ l. Shows w.puts w.halts w.stops c.args.sink.now l c.put_begun.new.sink c.put_begun.result)
-    (sym (units_both s a.left (octet_units a.octets) (begun_units a.begun)))
-    (shows_then g.met.W.TextSink.rules c.in_ok-put_octets.ensures.shows put)
+    let w = g.W.TextSink in
+    let i = c.units.invariant in
+    let a = c.units.state in
+    let b = c.put_unit.new.state in
+    let e = unit_left s a.left b.left a.held b.held i.held.begun (omega (arith, c.units-test.true, c.len.ensures.len)) c.put_unit.ensures.left
+    c.put_unit.ensures.held in
+    let rest = written_units s b.left (units b.held) in
+    subst (λ l. Shows w.puts w.halts w.stops c.args.sink.now l c.put_unit.new.sink c.from_residual.result)
+    (append_assoc i.far.text (written_units s a.left (held_unit a.held ∷ [])) rest ∙ ap (λ l. i.far.text ++ l) (sym e.0) ∙ sym i.far.all)
+    (shown_exit g.met.W.TextSink.rules rest c.from_residual.ensures.0 i.far.shown c.in_err-put_unit.ensures.shows)
+
+pub returns-then-is_plain-clause-shows : goal.returns-then-is_plain-clause-shows
+returns-then-is_plain-clause-shows g c =
+    let s = g.S.Spec.tests in
+    let w = g.W.TextSink in
+    let i = c.units.invariant.far in
+    let a = c.units.state in
+    subst (λ l. Shows w.puts w.halts w.stops c.args.sink.now l c.units.sink (Ok tt))
+    (sym (i.all ∙ ap (λ l. i.text ++ written_units s a.left (units l)) c.if-is_plain.ensures ∙ ap (λ l. i.text ++ l) (nothing_left s a.left).0
+    ∙ append-nil i.text)) (shows_all i.shown)
 
 pub returns-then-is_plain-clause-left : goal.returns-then-is_plain-clause-left
 returns-then-is_plain-clause-left g c =
-    let a = c.args.state.now in
-    let plain = c.if-is_plain.ensures in
-    sym (ap (λ us. fewer a.left (length us)) (nothing_units a.octets a.begun plain.0 plain.1) ∙ fewer_none a.left)
+    let a = c.units.state in
+    sym (c.units.invariant.far.left ∙ ap (λ l. fewer a.left (length (units l))) c.if-is_plain.ensures ∙ (nothing_left g.S.Spec.tests a.left).1)
+
+pub returns-clause-shows : goal.returns-clause-shows
+returns-clause-shows g c =
+    let s = g.S.Spec.tests in
+    let w = g.W.TextSink in
+    let i = c.units.invariant in
+    let a = c.units.state in
+    let is : chars c.start.result.now ≡ a.held =
+    c.start.ensures.chars ∙ c.start.ensures.text ∙ take_all c.len-len.result a.held (omega (arith, c.len-len.ensures.len)) in
+    let short = short_written s a.left a.held g.met.S.Spec.lawful i.held.begun (omega (arith, c.units-test.false, c.len.ensures.len)) in
+    subst (λ l. Shows w.puts w.halts w.stops c.args.sink.now l c.put_chars-result.new.sink c.put_chars-result.result)
+    (ap (λ cs. i.far.text ++ written_chars s true a.left cs) is ∙ ap (λ l. i.far.text ++ l) short.0 ∙ sym i.far.all)
+    (shown_then g.met.W.TextSink.rules i.far.shown c.put_chars-result.ensures.shows)
+
+pub returns-clause-left : goal.returns-clause-left
+returns-clause-left g c =
+    let i = c.units.invariant in
+    let a = c.units.state in
+    let is : chars c.start.result.now ≡ a.held =
+    c.start.ensures.chars ∙ c.start.ensures.text ∙ take_all c.len-len.result a.held (omega (arith, c.len-len.ensures.len)) in
+    let short = short_written g.S.Spec.tests a.left a.held g.met.S.Spec.lawful i.held.begun
+    (omega (arith, c.units-test.false, c.len.ensures.len)) in
+    on_ok c.put_chars-result.result (c.put_chars-result.ensures.left ∙ ap (λ cs. fewer a.left (length cs)) is ∙ ap (fewer a.left) short.1
+    ∙ sym i.far.left)

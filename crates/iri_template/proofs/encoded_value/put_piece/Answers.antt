@@ -9,11 +9,11 @@ pub returns-in-Run-clause-reads : goal.returns-in-Run-clause-reads
 returns-in-Run-clause-reads g c =
     let w = g.W.TextSink in
     let a = c.args.state.now in
-    let b : Reading = record { octets = a.octets; missing = a.missing; begun = a.begun; left = c.put_chars.new.left } in
+    let b : Reading = record { held = a.held; left = c.put_chars.new.left } in
     let run = c.in-Run.run'.now in
     let u : IsUtf8 run = search rules in
     let plain = subst (λ p. IsPlainRun a p) c.in-Run.is c.requires.plain in
     subst (λ p. Reads (kept_rest g.S.Spec.tests) w.puts w.halts w.stops a c.args.sink.now (piece_chars p) b c.put_chars.new.sink c.put_chars.result)
     (sym c.in-Run.is)
-    (reads_run g.S.Spec.tests g.met.W.TextSink.rules {b = b} (chars run) plain.0 plain.1 (chars_lack run u plain.2)
-    c.put_chars.ensures.shows plain.0 plain.1 c.put_chars.ensures.left)
+    (reads_run g.S.Spec.tests g.met.W.TextSink.rules {b = b} (chars run) plain.0 (chars_lack run u plain.1)
+    c.put_chars.ensures.shows plain.0 c.put_chars.ensures.left)

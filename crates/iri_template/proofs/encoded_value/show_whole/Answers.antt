@@ -20,5 +20,5 @@ returns-clause-shows g c =
     let b = c.show.new.sink in
     whole_then g.S.Spec.tests g.met.W.TextSink.rules c.args.values.now b c.put_held.new.sink (g.T.Show.text c.args.value.now) _ _ c.put_held.result
     c.requires c.in_ok-show.ensures
-    (ap (λ v. value_rest g.S.Spec.tests v b.state []) c.if-not-values.false ∙ kept_end g.S.Spec.tests b.state b.held)
+    (ap (λ v. value_rest g.S.Spec.tests v b.state []) c.if-not-values.false ∙ kept_end g.S.Spec.tests b.state)
     c.put_held.ensures.shows

@@ -1,5 +1,4 @@
-use Rattle.iri_percent.proofs.Common.{◌++◌, ap, ◌∙◌, flat_map, fragment_bytes}
-use Rattle.iri_percent.specs.FragmentViews.{fragments_left}
+use Rattle.iri_percent.proofs.Common.{◌++◌, ap, ◌∙◌, flat_map, fragment_bytes, fragments_left}
 use Rattle.iri_percent.proofs.coding.Fragments.{fragments-joined, fragments-most}
 use Rattle.iri_percent.proofs.decode.PercentDecodedWhatwgBytes.into_bytes.Goals as goal
 

@@ -1,5 +1,4 @@
-use Rattle.iri_percent.proofs.Common.{◌≡◌, ◌≤◌, ◌++◌, length, flat_map, decoding, fragment_bytes}
-use Rattle.iri_percent.specs.FragmentViews.{fragments_left}
+use Rattle.iri_percent.proofs.Common.{◌≡◌, ◌≤◌, ◌++◌, length, flat_map, decoding, fragment_bytes, fragments_left}
 use Rattle.iri_percent.proofs.decode.PercentDecodedWhatwgBytes.into_bytes.Given as goal
 
 -- what is there, and what the fragments still to come give, are the decoding; each fragment is read from some bytes

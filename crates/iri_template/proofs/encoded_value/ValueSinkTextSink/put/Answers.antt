@@ -16,7 +16,7 @@ pub returns-else-self : goal.returns-else-self
 returns-else-self g c =
     let w = g.W.TextSink in
     let a = c.args.self.now in
-    let b : Reading = record { octets = a.state.octets; missing = a.state.missing; begun = a.state.begun; left = c.put_chars.new.left } in
+    let b : Reading = record { held = a.state.held; left = c.put_chars.new.left } in
     value_put g.S.Spec.tests g.met.W.TextSink.rules a _ c.args.piece.now c.put_chars.result c.utf8.piece refl refl
     (subst (λ v. Reads (value_rest g.S.Spec.tests v) w.puts w.halts w.stops a.state a.to.now (chars c.args.piece.now) b
     c.put_chars.new.sink c.put_chars.result) (sym c.if-self.false)
