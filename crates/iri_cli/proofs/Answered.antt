@@ -1,6 +1,6 @@
 -- Lines that were answered one after the other, and how that ends.
-use Rattle.iri_cli.proofs.Common.{◌≡◌, ◌≢◌, ℕ, ◌+◌, ◌≤◌, List, [], ◌∷◌, ◌++◌, ◌&&◌, length, Bool, true, false, if◌then◌else◌, Option, None}
-use Rattle.iri_cli.proofs.Common.{Some, Result, Ok, Err, refl, sym, ◌∙◌, ap, subst, arith, append_assoc, length-append, concat, list_all}
+use Rattle.iri_cli.proofs.Common.{◌≡◌, ◌≢◌, ℕ, ◌≤◌, List, [], ◌∷◌, ◌++◌, ◌&&◌, length, Bool, true, false, if◌then◌else◌, Option, None}
+use Rattle.iri_cli.proofs.Common.{Some, Result, Ok, Err, refl, sym, ◌∙◌, ap, subst, arith, append_assoc, length-append, list_all}
 use Rattle.iri_cli.proofs.Common.{append-nil, Rose, Consumes, IsAtEnd, Appends, AppendsPrefix, KeepsRoom, SinkState, LineState, Advances}
 use Rattle.iri_cli.proofs.Common.{Source, FaultLineTooLong, FaultInputTooLong, Appends-none, room-then, room-so, Rules, Ending, answers}
 use Rattle.iri_cli.proofs.Common.{ended_lines, answered, IsBaseTaken, ending, HasRead, ReadsAll, ReadsSome, ReadsPast, IsGoing, outside, Finishes}
@@ -10,6 +10,7 @@ use Rattle.iri_text.specs.declared.streams.reader.LineFault.{LineFault}
 use Rattle.iri_text.proofs.Puts.{Appends-append, prefix-after, prefix-longer}
 use Rattle.iri_text.proofs.LinesLemmas.{no_cr-shorter}
 use Rattle.iri_cli.specs.inside.Steps.{end_at}
+use Rattle.iri_cli.specs.inside.Going.{Goes, answered_to}
 use Rattle.iri_cli.specs.run.Run.{WantsMemory}
 use Rattle.iri_cli.specs.inside.Answering.{ClosesRun, end_of_error}
 use Rattle.iri_cli.specs.declared.run.answers.AnswerError.TheVariants.{SinkFailed as AnswerFailed, Memory as AnswerMemory}
@@ -26,26 +27,6 @@ pub taken_is : (lo ln : Option (List ℕ)) (x taken : List ℕ) → lo ≡ Some 
 taken_is lo ln x taken known takes at_end =
     let l = left_is ln x taken (subst (λ (s : Option (List ℕ)). Consumes s ln taken) known takes) in
     l.2 ∙ ap (λ (y : List ℕ). taken ++ y) (subst IsAtEnd l.1 at_end) ∙ append-nil taken
-
--- the answers to these lines were written
-abbrev answered_to : Rules → List ℕ → List (List ℕ) → List ℕ
-answered_to rules base rest = concat (answers rules base rest)
-
--- The lines that were given after the base were answered.
-pub record Goes (stands_at : Answering → Type 0) (start : Answering) (reader_old reader : LineState)
-    (left_old left : Option (List ℕ)) (source_old source : ℕ) (sink_old sink : SinkState) (good : Bool) : Type 0 where
-  pub between : List (List ℕ)
-  pub at : stands_at (record start { between = between })
-  pub going : IsGoing start.rules reader
-  -- each line had a byte
-  pub few : length between + length reader.held ≤ reader.taken
-  pub read : (before : Option (List ℕ)) (first : List (List ℕ)) → HasRead start.rules before left_old reader_old first
-      → HasRead start.rules before left reader (first ++ between)
-  pub writes : Appends sink_old.written sink.written (answered_to start.rules start.base between)
-  pub all_good : good ≡ list_all start.rules.is_good (answers start.rules start.base between)
-  pub source_later : source_old ≤ source
-  pub sink_same : sink.faults ≡ sink_old.faults
-  pub room : KeepsRoom sink_old.room_left sink.room_left (answered_to start.rules start.base between) (Unit {0})
 
 -- it isn't the sink that failed
 abbrev pub NotSink : Result Bool AnswerError → Type 0

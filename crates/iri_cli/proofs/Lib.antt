@@ -6,6 +6,7 @@ pub mod LineSteps
 pub mod Reading
 pub mod Ends
 pub mod Answered
+pub mod GoingLemmas
 pub mod BaseLine
 pub mod RunLemmas
 pub mod WriterLemmas

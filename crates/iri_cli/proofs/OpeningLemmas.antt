@@ -1,18 +1,17 @@
 -- How a run begins.
 use Rattle.iri_cli.proofs.Common.{◌≡◌, ℕ, ◌≤◌, Bool, cond, List, [], ◌∷◌, ◌++◌, length, true, Option, None, Ok, refl, sym, ◌∙◌, ap, subst, arith}
 use Rattle.iri_cli.proofs.Common.{⊎_elim, append-nil, Tests, bytes_fault, absolute_fault, LineState, Appends, Appends-none, room-same, SinkState}
-use Rattle.iri_cli.proofs.Common.{refusal, Answering, IsReady, Rules, begun, answered, IsBaseTaken, with_base, after_fixed}
+use Rattle.iri_cli.proofs.Common.{refusal, Answering, IsReady, Rules, begun, answered, IsBaseTaken, with_base}
 use Rattle.iri_cli.proofs.Common.{HasRead, outside, Ran, Memory, Advances, longest_line}
 use Rattle.iri_normal.proofs.canonical_texts.CanonicalTexts.{fault_none}
 use Rattle.iri_cli.specs.run.Buffers.{AreBuffers, IsNew}
 use Rattle.iri_cli.specs.run.Run.{WantsMemory}
-use Rattle.iri_cli.specs.inside.Opening.{BeginsAsCanon, IsFixed, IsPreparedOf, StandsAfter}
+use Rattle.iri_cli.specs.inside.Opening.{BeginsAsCanon, IsPreparedOf, StandsAfter}
 use Rattle.iri_cli.specs.inside.Steps.{GivesBase}
 use Rattle.iri_cli.proofs.BytesLemmas.{refused_none}
 use Rattle.iri_cli.proofs.Answered.{whole_prefix}
-use Rattle.iri_cli.proofs.BaseLine.{gives_base, new_going}
+use Rattle.iri_cli.proofs.BaseLine.{gives_base}
 use Rattle.iri_cli.proofs.Ends.{first_lines, no_fixed, ran_by}
-use Rattle.iri_cli.proofs.Reading.{read_none}
 
 -- the empty text is no base
 refuses_empty : (s : Tests) → refusal s [] ≡ None → ⊥
@@ -52,19 +51,6 @@ module _ (s : Tests) (rules : Rules) (begins : BeginsAsCanon s rules) where
           is_prepared = p;
           is_line = λ _. none;
         }
-
-    -- a fixed base, before the first line
-    pub after_none : (left : Option (List ℕ)) (reader : LineState) (base output : ℕ) (text : List ℕ) → IsFixed s rules line
-        → AreBuffers reader base output → IsPreparedOf s line text → StandsAfter s rules left left reader line text
-    after_none left reader base output text f b p = record {
-      first = [];
-      begins = λ more. ap (λ (x : Option (List ℕ)). after_fixed x more) f.fixed;
-      read = read_none rules left reader b.new.held b.new.taken b.new.ended;
-      going = new_going rules reader (new_reader reader base output b);
-      short = f.short;
-      is_prepared = p;
-      is_line = λ m. absurd (cc (m, f.no_memory));
-    }
 
     module _ (lo lm : Option (List ℕ)) (reader : LineState) (text : List ℕ) (at : StandsAfter s rules lo lm reader line text) where
       -- the command stands after it

@@ -2,6 +2,8 @@
 pub mod Read
 pub mod Answering
 pub mod Steps
+pub mod Going
+pub mod Paged
 pub mod Closes
 pub mod ExpandAt
 pub mod DocsAt
@@ -18,4 +20,3 @@ pub mod StatelessAt
 pub mod RobotsSaid
 pub mod RobotsAt
 pub mod SinkTexts
-pub mod PairsAt

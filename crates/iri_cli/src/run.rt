@@ -84,7 +84,7 @@ fn lines_in<S: Spec, I: Source, O: Sink>(
         LineCommand::Robots(token) => {
             robots_lines::<S, I, O>(setup, token, buffers, source, sink)
         }
-        LineCommand::Pairs => pairs_lines::<S, I, O>(setup, buffers, source, sink),
+        LineCommand::Pairs => pairs_lines::<S, I, O>(setup.mode, buffers, source, sink),
     }
 }
 

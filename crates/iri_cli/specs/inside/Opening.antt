@@ -1,5 +1,5 @@
 -- How a command begins: its base.
-use Rattle.std.specs.Prelude.{◌≡◌, ◌≤◌, ℕ, true, false, List, [], length, Option, Some, None, Result, Ok, Err}
+use Rattle.std.specs.Prelude.{◌≡◌, ◌≤◌, ℕ, true, List, [], length, Option, None, Result, Ok, Err}
 use Rattle.std.specs.declared.alloc.AllocError.{AllocError}
 use Rattle.iri_grammar.specs.Classes.{Tests}
 use Rattle.iri_cli.specs.canon.Answers.{refusal}
@@ -25,13 +25,6 @@ begun rules line = record { rules = rules; base = line; between = [] }
 pub record IsPreparedOf (s : Tests) (line text : List ℕ) : Type 0 where
   pub taken : refusal s line ≡ None
   pub text_is : text ≡ prepared s line
-
--- This is the fixed base of a command. It is taken, and takes no memory.
-pub record IsFixed (s : Tests) (rules : Rules) (base : List ℕ) : Type 0 where
-  pub fixed : rules.fixed_base ≡ Some base
-  pub taken : refusal s base ≡ None
-  pub short : length base ≤ longest_line
-  pub no_memory : rules.base_wants_memory ≡ false
 
 -- The lines up to a base were read, and the reader goes on. The base is taken, and this text is how a run prepares it. Where it may take
 -- memory it is a line.

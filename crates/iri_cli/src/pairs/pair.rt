@@ -1,5 +1,5 @@
 // A line that is a page and a link.
-ghost use Rattle.std.specs.Prelude.{◌≡◌, None, Some, MatchOption};
+ghost use Rattle.std.specs.Prelude.{◌≡◌, ◌∷◌, ◌++◌, None, Some, MatchOption};
 ghost use Rattle.iri_grammar.specs.Cut.{after, before};
 ghost use Rattle.iri_normal.specs.Pairs.{tab};
 
@@ -23,5 +23,34 @@ pub(crate) fn pair_of(line: &[u8]) -> Option<Pair<'_>>
             link: &line[i + 1..],
         }),
         None => None,
+    }
+}
+
+// What follows a tab at the start.
+#[inline(always)]
+fn after_tab(bytes: &[u8]) -> Option<&[u8]>
+    ensures { MatchOption result (Unit {0}) (λ rest. bytes.now ≡ tab ∷ rest.now) }
+{
+    match bytes {
+        [b'\t', rest @ ..] => Some(rest),
+        _ => None,
+    }
+}
+
+/// The link of a line that has this page. Where that isn't the line's page, or it has none, there is none.
+#[tactic(auto, using(crate::proofs::PairsLemmas::line_is))]
+#[inline(always)]
+pub(crate) fn link_on<'a>(line: &'a [u8], page: &str) -> Option<&'a [u8]>
+    ensures { MatchOption result (Unit {0}) (λ link. line.now ≡ page.now ++ tab ∷ link.now) }
+{
+    if line.len() < page.len() {
+        return None;
+    }
+    let (prefix, rest) = line.split_at(page.len());
+    let link = after_tab(rest)?;
+    if prefix == page.as_bytes() {
+        Some(link)
+    } else {
+        None
     }
 }

@@ -1,9 +1,10 @@
 // The lines after the base line.
-ghost use Rattle.std.specs.Prelude.{◌≡◌, ◌≢◌, ◌≤◌, ℕ, List, length};
+ghost use Rattle.std.specs.Prelude.{◌≡◌, ◌≢◌, ◌≤◌, ℕ, List, false, length};
 ghost use Rattle.iri_text.specs.Sink.{KeepsRoom, sink_state};
 ghost use Rattle.iri_normal.specs.Resolver.{base_text};
 ghost use Rattle.iri_cli.specs.run.Run.{outside_state};
 ghost use Rattle.iri_cli.specs.inside.Steps.{end_at, end_of_all};
+ghost use Rattle.iri_cli.specs.inside.Going.{Beginning, FlushedAfter, ComesNext, GoesOn, HasAnswer, ahead};
 ghost use Rattle.iri_cli.specs.inside.Answering.{Answering, AnswersLine, AnswersLines, IsReady, ClosesRun, end_of_error};
 ghost use Rattle.iri_cli.specs.declared.run.end.End.TheVariants.{SinkFailed};
 
@@ -41,7 +42,29 @@ fn error_end(error: AnswerError) -> End
     }
 }
 
-// Answers the line that the reader has. Where the reader holds no LF after it, the sink is flushed.
+// Flushes the sink after an answer, where the reader holds no LF after the line that it has.
+#[inline(always)]
+fn flushed<O: Sink>(
+    answer: Result<bool, AnswerError>,
+    reader: &LineReader,
+    sink: &mut O,
+) -> Result<bool, AnswerError>
+    ensures { let state = sink_state O.written O.faults O.room_left in
+        FlushedAfter (state sink.old) (state sink.new) answer result }
+{
+    if reader.holds_lf() {
+        return answer;
+    }
+    match answer {
+        Ok(good) => match sink.flush() {
+            Ok(()) => Ok(good),
+            Err(Failed) => Err(AnswerError::SinkFailed),
+        },
+        Err(error) => Err(error),
+    }
+}
+
+// Answers the line that the reader has.
 fn answer_line<S: Spec, A: Answers<S>, O: Sink>(
     answers: &mut A,
     resolver: &FixedBaseResolver<'_, S>,
@@ -57,15 +80,48 @@ fn answer_line<S: Spec, A: Answers<S>, O: Sink>(
         (state sink.old) (state sink.new) result }
 {
     let answer = answers.answer(resolver, reader.line(), sink);
-    if reader.holds_lf() {
-        return answer;
+    flushed(answer, reader, sink)
+}
+
+/// Goes to the next line, or to the end of the run.
+#[inline(always)]
+pub(crate) fn next_line<I: Source>(
+    all_good: bool,
+    reader: &mut LineReader,
+    source: &mut I,
+) -> Option<End>
+    requires { reader.old.done ≡ false }
+    ensures { ComesNext reader.old reader.new (I.left source.old) (I.left source.new)
+        (I.faults source.old) (I.faults source.new) all_good result }
+{
+    match reader.advance(source) {
+        Ok(true) => None,
+        Ok(false) => Some(last_end(all_good)),
+        Err(fault) => Some(fault_end(fault)),
     }
-    match answer {
-        Ok(good) => match sink.flush() {
-            Ok(()) => Ok(good),
-            Err(Failed) => Err(AnswerError::SinkFailed),
-        },
-        Err(error) => Err(error),
+}
+
+/// Goes on after an answer to the next line, or to the end of the run.
+#[inline(always)]
+pub(crate) fn go_on<I: Source, O: Sink>(
+    answer: Result<bool, AnswerError>,
+    all_good: &mut bool,
+    reader: &mut LineReader,
+    source: &mut I,
+    sink: &mut O,
+) -> Option<End>
+    requires { let state = outside_state I.left I.faults O.written O.faults O.room_left in
+        (b : Beginning) × HasAnswer b reader.old (state source.old sink.old) all_good.old answer }
+    ensures { let state = outside_state I.left I.faults O.written O.faults O.room_left in
+        (b : Beginning) → HasAnswer b reader.old (state source.old sink.old) all_good.old answer
+        → GoesOn b (ahead reader.old) reader.new (state source.new sink.new) all_good.new result }
+{
+    match flushed(answer, reader, sink) {
+        Ok(good) => {
+            *all_good &= good;
+            next_line(*all_good, reader, source)
+        }
+        Err(error) => Some(error_end(error)),
     }
 }
 

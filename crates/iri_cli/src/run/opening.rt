@@ -3,7 +3,7 @@ ghost use Rattle.std.specs.Prelude.{◌≡◌, ◌≤◌, ℕ, List, None, Optio
 ghost use Rattle.std.specs.Vec.{vec_capacity};
 ghost use Rattle.iri_text.specs.Sink.{sink_state};
 ghost use Rattle.iri_types.specs.Texts.{text};
-ghost use Rattle.iri_cli.specs.inside.Opening.{IsFixed, StandsAfter};
+ghost use Rattle.iri_cli.specs.inside.Opening.{StandsAfter};
 ghost use Rattle.iri_cli.specs.run.Buffers.{AreBuffers};
 ghost use Rattle.iri_cli.specs.run.Limits.{answer_room};
 ghost use Rattle.iri_cli.specs.run.Run.{Ran, Runs, outside, outside_state};
@@ -72,27 +72,6 @@ fn answer_with<S: Spec, A: Answers<S>, I: Source, O: Sink>(
     }
 }
 
-// Prepares a fixed base in a buffer, and answers all lines.
-fn answer_all<S: Spec, A: Answers<S>, I: Source, O: Sink>(
-    start: A::Start,
-    fixed: &str,
-    reader: LineReader,
-    base: &mut Vec<u8>,
-    output: Vec<u8>,
-    source: &mut I,
-    sink: &mut O,
-) -> End
-    requires buffers { AreBuffers reader (vec_capacity base.old) (vec_capacity output) }
-    requires fixed { IsFixed S.tests (A.rules start) fixed.now }
-    ensures { let state = outside_state I.left I.faults O.written O.faults O.room_left in
-        Ran (A.rules start) (state source.old sink.old) (state source.new sink.new) result }
-{
-    match prepare_base::<S>(fixed.as_bytes(), base) {
-        Ok(base) => answer_after::<S, A, I, O>(start, base, reader, output, source, sink),
-        Err(_) => unreachable!(),
-    }
-}
-
 /// Reads a base line and the lines of a command after it, answers each, and gives the program's
 /// status. It allocates nothing but what the command does.
 pub(crate) fn run_lines<S: Spec, A: Answers<S>, I: Source, O: Sink>(
@@ -111,26 +90,5 @@ pub(crate) fn run_lines<S: Spec, A: Answers<S>, I: Source, O: Sink>(
         output,
     } = buffers;
     let end = answer_with::<S, A, I, O>(start, reader, &mut base, output, source, sink);
-    finish(sink, end)
-}
-
-/// The same for a command with a fixed base, of which every line is answered.
-pub(crate) fn run_all<S: Spec, A: Answers<S>, I: Source, O: Sink>(
-    start: A::Start,
-    fixed: &str,
-    buffers: CanonBuffers,
-    source: &mut I,
-    sink: &mut O,
-) -> u8
-    requires { IsFixed S.tests (A.rules start) fixed.now }
-    ensures { let state = outside_state I.left I.faults O.written O.faults O.room_left in
-        Runs (A.rules start) (state source.old sink.old) (state source.new sink.new) result }
-{
-    let CanonBuffers {
-        reader,
-        mut base,
-        output,
-    } = buffers;
-    let end = answer_all::<S, A, I, O>(start, fixed, reader, &mut base, output, source, sink);
     finish(sink, end)
 }

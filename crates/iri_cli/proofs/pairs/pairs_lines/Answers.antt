@@ -1,11 +1,10 @@
-use Rattle.iri_cli.proofs.Common.{arith, refl}
-use Rattle.iri_cli.proofs.PairsLemmas.{no_page_taken}
+use Rattle.iri_cli.proofs.RunLemmas.{closed}
+use Rattle.iri_cli.specs.pairs.Rules.{pairs_rules}
 use Rattle.iri_cli.proofs.pairs.pairs_lines.Goals as goal
 
-pub run_all-requires : goal.run_all-requires
-run_all-requires g c = record {
-  fixed = refl;
-  taken = no_page_taken g.S.Spec.tests g.met.S.Spec.lawful;
-  short = omega arith;
-  no_memory = refl;
+pub returns : goal.returns
+returns g c = record {
+  end = c.finish.ensures.closed;
+  status_is = c.finish.ensures.status_is;
+  ran = closed (pairs_rules g.S.Spec.tests c.args.mode) _ _ _ _ _ _ _ _ _ c.answer_pages-end.ensures c.finish.ensures.closes;
 }

@@ -1,5 +1,5 @@
 use Rattle.iri_cli.proofs.Common.{◌+◌, ◌-◌, length, base_text, sink_state, Answering, IsReady}
-use Rattle.iri_cli.proofs.Answered.{Goes}
+use Rattle.iri_cli.specs.inside.Going.{Goes}
 use Rattle.iri_cli.proofs.run.answering.answer_lines.Given as goal
 
 abbrev pub invariant-loop-answers : goal.invariant-loop-answers
