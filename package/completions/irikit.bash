@@ -19,10 +19,10 @@ _irikit() {
     1:--*) ;;
     1:*) words='uri iri' ;;
     2:robots:* | 2:gen:* | 2:--*) ;;
-    2:canon:*) words='to scheme' ;;
+    2:canon:* | 2:pairs:*) words='to scheme' ;;
     2:links:*) words='lax scheme' ;;
-    3:canon:to) words=uri ;;
-    2:* | 3:robots:* | 3:links:lax | 4:canon:to) words=scheme ;;
+    3:canon:to | 3:pairs:to) words=uri ;;
+    2:* | 3:robots:* | 3:links:lax | 4:canon:to | 4:pairs:to) words=scheme ;;
   esac
   mapfile -t COMPREPLY < <(compgen -W "$words" -- "$current")
 } && complete -F _irikit irikit

@@ -21,9 +21,9 @@ complete -c irikit -n '__irikit_has 1' -a gen -d 'a known amount of work'
 complete -c irikit -n '__irikit_has 1' -a --help -d 'the commands'
 complete -c irikit -n '__irikit_has 1' -a --version -d 'the version'
 complete -c irikit -n '__irikit_has 2 canon parts pairs expand register links docs robots gen' -a 'uri iri'
-complete -c irikit -n '__irikit_has 3 canon' -a 'to scheme'
+complete -c irikit -n '__irikit_has 3 canon pairs' -a 'to scheme'
 complete -c irikit -n '__irikit_has 3 parts' -a scheme
-complete -c irikit -n '__irikit_has 4 canon; and string match -q "* to *" -- (commandline -pc)' -a uri
-complete -c irikit -n '__irikit_has 5 canon; and string match -q "* to uri *" -- (commandline -pc)' -a scheme
+complete -c irikit -n '__irikit_has 4 canon pairs; and string match -q "* to *" -- (commandline -pc)' -a uri
+complete -c irikit -n '__irikit_has 5 canon pairs; and string match -q "* to uri *" -- (commandline -pc)' -a scheme
 complete -c irikit -n '__irikit_has 3 links' -a lax
-complete -c irikit -n '__irikit_has 3 parts pairs expand register links docs; or __irikit_has 4 robots links' -a scheme
+complete -c irikit -n '__irikit_has 3 parts expand register links docs; or __irikit_has 4 robots links' -a scheme

@@ -15,6 +15,8 @@ RUNS = [
     ("robots uri examplebot scheme", "https://a:443\nr user-agent: *\nr disallow: /x\nu x\nu //a:443/y\n", True),
     ("pairs uri", "http://a/b\tc\nhttp://a/b\t%4\nq\nHTTP://%41/x/../y\t../d\na\tb\n", False),
     ("pairs iri scheme", "http://a:80\t\u00e9\nhttp://a:80\t\n", False),
+    ("pairs iri to uri", "http://a/b\t\u00e9\nhttp://a/b\t%4\nq\nhttp://\u00e9/\t../d\na\tb\n", False),
+    ("pairs iri to uri scheme", "http://\u00e9:80\t\u00e9\nhttp://a:80\t\n", False),
     ("gen uri 100", "", False),
     ("expand uri", "http://a/b\ns v x\nl l a\nl l b\na p k w\nt {v}/{l*}{?p*}\ns v \u00e9\nu l\nt {+v}{#l}\nt {\nq\nt x\n", True),
     ("register uri", "http://a/b\n" + "".join(f"a {n % 40}/../x{n % 30}\n" for n in range(60)) + "d x3\nf x4\na %4\nq\n", True),

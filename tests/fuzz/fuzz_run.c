@@ -50,7 +50,7 @@ void check_run(struct input input)
 		"register uri", "links iri", "docs uri", "robots uri examplebot", "pairs uri", "pairs iri scheme", "gen uri 9", "--help",
 		"canon  uri", "docs", "expand iri scheme", "register uri scheme", "links uri scheme", "docs iri scheme",
 		"robots uri examplebot scheme", "links uri lax", "links iri lax scheme", "canon uri to uri", "canon iri to uri scheme", "parts uri scheme",
-		"pairs uri to uri", "links lax"};
+		"pairs uri to uri", "pairs iri to uri scheme", "links lax"};
 	size_t number = (input.first >> 2) % (sizeof words / sizeof *words);
 	struct bytes to = {0};
 	check_output(words[number], input.whole, &to);

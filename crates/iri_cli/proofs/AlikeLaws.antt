@@ -29,7 +29,7 @@ use Rattle.iri_register.specs.Commands.{entries_of_commands, Add, Remove}
 use Rattle.iri_register.specs.Entries.{Entry, line_count, place}
 use Rattle.iri_robots.specs.Records.{FileRecord}
 use Rattle.iri_cli.specs.declared.run.words.LineCommand.{LineCommand}
-use Rattle.iri_cli.specs.declared.run.words.LineCommand.TheVariants.{Canon, ToUri, Parts as TakesApart, Expand, Register, Links, LaxLinks, Docs, Robots, Pairs}
+use Rattle.iri_cli.specs.declared.run.words.LineCommand.TheVariants.{Canon, ToUri, Parts as TakesApart, Expand, Register, Links, LaxLinks, Docs, Robots, Pairs, PairsToUri}
 use Rattle.iri_cli.specs.expand.Answers.{answer_to as expand_to}
 use Rattle.iri_cli.specs.expand.Lines.{ExpandLine, changes, expands, bad as no_template, values_after, line_of as expand_line}
 use Rattle.iri_cli.specs.inside.Opening.{IsPreparedOf, begun}
@@ -190,6 +190,7 @@ module _ (s : Tests) (line text : List ℕ) (k : IsSpec s) (p : IsPreparedOf s l
     alike Docs = record { answer = λ between. documents_same; closing = λ between. refl; wants_memory = λ between l. refl }
     alike (Robots token) = robots_alike token.now
     alike Pairs = record { answer = λ between l. refl; closing = λ between. refl; wants_memory = λ between l. refl }
+    alike PairsToUri = record { answer = λ between l. refl; closing = λ between. refl; wants_memory = λ between l. refl }
 
     -- a command that writes to a buffer stands at the prepared base
     pub writer_at : (command : LineCommand) (output : ℕ) → length text ≤ longest_line → answer_room ≤ output

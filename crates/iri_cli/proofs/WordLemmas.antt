@@ -12,7 +12,7 @@ use Rattle.iri_cli.specs.declared.help.Notice.TheVariants.{Help, Version}
 use Rattle.iri_cli.specs.declared.run.words.Command.{Command}
 use Rattle.iri_cli.specs.declared.run.words.Command.TheVariants.{Lines, Gen, Tell}
 use Rattle.iri_cli.specs.declared.run.words.LineCommand.{LineCommand}
-use Rattle.iri_cli.specs.declared.run.words.LineCommand.TheVariants.{Canon, ToUri, Parts, Expand, Register, Links, LaxLinks, Docs, Robots, Pairs}
+use Rattle.iri_cli.specs.declared.run.words.LineCommand.TheVariants.{Canon, ToUri, Parts, Expand, Register, Links, LaxLinks, Docs, Robots, Pairs, PairsToUri}
 use Rattle.iri_cli.specs.declared.run.words.Grammar.{Grammar}
 use Rattle.iri_cli.specs.declared.run.words.Grammar.TheVariants.{Uri, Iri}
 
@@ -57,6 +57,10 @@ one_line_command s m Default LaxLinks Links e f = cc f
 one_line_command s m Scheme LaxLinks Links e f = let last = ap (λ (ws : List (List ℕ)). letter 0 (get_or ws 0 [])) f in absurd (omega (arith, last))
 one_line_command s m n Docs Docs e f = ap (rules_of Docs s) (one_mode m n (ap length f))
 one_line_command s m n Pairs Pairs e f = ap (rules_of Pairs s) (one_mode m n (ap length f))
+one_line_command s m n PairsToUri PairsToUri e f =
+    ap (rules_of PairsToUri s) (one_mode m n (ap (λ (ws : List (List ℕ)). length (drop 2 ws)) f))
+one_line_command s m n Pairs PairsToUri e f = absurd (no_mode m n f)
+one_line_command s m n PairsToUri Pairs e f = absurd (no_mode n m (sym f))
 one_line_command s m n (Robots t) (Robots u) e f =
     ap (λ x. robots_rules s x t.now) (one_mode m n (ap (λ (ws : List (List ℕ)). length (drop 1 ws)) f))
     ∙ ap (λ (ws : List (List ℕ)). robots_rules s n (get_or ws 0 [])) f

@@ -23,6 +23,7 @@ irikit: canonical texts of URI and IRI references (RFC 3986, RFC 3987)
   irikit canon GRAMMAR [scheme]          answers each reference line by its canonical text against a base
   irikit canon GRAMMAR to uri [scheme]   the same as canon, each text mapped to a URI (RFC 3987 3.1)
   irikit pairs GRAMMAR [scheme]          answers each line, a page, a tab and a link, by the link's canonical text against its page
+  irikit pairs GRAMMAR to uri [scheme]   the same as pairs, each text mapped to a URI
   irikit parts GRAMMAR [scheme]          answers each reference line by its canonical text and the text's components, as JSON
   irikit expand GRAMMAR [scheme]         answers each URI template by the canonical text of its expansion (RFC 6570)
   irikit register GRAMMAR [scheme]       keeps each link once, with the numbers of its lines, and writes them at the end

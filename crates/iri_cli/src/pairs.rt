@@ -3,31 +3,30 @@ ghost use Rattle.std.specs.Prelude.{◌≡◌, ◌≤◌, ◌+◌, length, true}
 ghost use Rattle.std.specs.Vec.{vec_capacity};
 ghost use Rattle.iri_normal.specs.Resolver.{base_text};
 ghost use Rattle.iri_cli.specs.inside.Going.{Beginning, GoesOn, ahead};
-ghost use Rattle.iri_cli.specs.inside.Paged.{IsPage, WaitsBy};
-ghost use Rattle.iri_cli.specs.pairs.Rules.{pairs_rules};
+ghost use Rattle.iri_cli.specs.inside.Paged.{IsPage, WaitsBy, paged_rules};
 ghost use Rattle.iri_cli.specs.run.Buffers.{AreBuffers};
 ghost use Rattle.iri_cli.specs.run.Limits.{answer_room, longest_line};
 ghost use Rattle.iri_cli.specs.run.Run.{Ran, Runs, outside_state};
 
+pub(crate) mod link;
 pub(crate) mod pair;
 
-use crate::canon::put_answer;
+use crate::pairs::link::{LinkText, put_link};
 use crate::pairs::pair::{link_on, pair_of};
 use crate::run::answering::{go_on, next_line};
 use crate::run::buffers::CanonBuffers;
 use crate::run::end::{End, finish};
 use crate::run::puts::{put_bad_line, put_line, say_good};
 use iri_grammar::spec::Spec;
-use iri_normal::mode::CanonMode;
 use iri_normal::resolver::FixedBaseResolver;
 use iri_text::{Failed, LineReader, Sink, Source};
 use iri_types::split::SplitView;
 use std::alloc::AllocError;
 
-/// What answers each link by its canonical text against its page, by the rules of a mode, and whether all answers so far are good.
+/// What answers each link on its page, and whether all answers so far are good.
 #[derive(Drop)]
 struct Pairs {
-    mode: CanonMode,
+    text: LinkText,
     output: Vec<u8>,
     all_good: bool,
 }
@@ -56,21 +55,21 @@ fn answer_page<S: Spec, I: Source, O: Sink>(
     requires page { IsPage S.tests (base_text resolver.now) }
     requires output { answer_room ≤ vec_capacity pairs.old.output }
     requires waits { let state = outside_state I.left I.faults O.written O.faults O.room_left in
-        (b : Beginning) × WaitsBy (pairs_rules S.tests pairs.old.mode) b reader.old (state source.old sink.old) pairs.old.all_good }
+        (b : Beginning) × WaitsBy (paged_rules S.tests pairs.old.text) b reader.old (state source.old sink.old) pairs.old.all_good }
     ensures goes { let state = outside_state I.left I.faults O.written O.faults O.room_left in
         (b : Beginning)
-        → WaitsBy (pairs_rules S.tests pairs.old.mode) b reader.old (state source.old sink.old) pairs.old.all_good
+        → WaitsBy (paged_rules S.tests pairs.old.text) b reader.old (state source.old sink.old) pairs.old.all_good
         → GoesOn b (ahead reader.old + 1) reader.new (state source.new sink.new) pairs.new.all_good result }
-    ensures mode { pairs.new.mode ≡ pairs.old.mode }
+    ensures by { pairs.new.text ≡ pairs.old.text }
     ensures output { answer_room ≤ vec_capacity pairs.new.output }
 {
-    let mode = pairs.mode;
+    let text = pairs.text;
     let page = resolver.base().as_str();
     'links: loop {
         let Some(link) = link_on(reader.line(), page) else {
             return None;
         };
-        let answer = put_answer::<S, O>(sink, &mut pairs.output, mode, resolver, link);
+        let answer = put_link::<S, O>(sink, &mut pairs.output, text, resolver, link);
         match go_on(answer, &mut pairs.all_good, reader, source, sink) {
             Some(end) => return Some(end),
             None => (),
@@ -89,12 +88,12 @@ fn answer_from<S: Spec, I: Source, O: Sink>(
     requires held { longest_line ≤ vec_capacity held.old }
     requires output { answer_room ≤ vec_capacity pairs.old.output }
     requires waits { let state = outside_state I.left I.faults O.written O.faults O.room_left in
-        (b : Beginning) × WaitsBy (pairs_rules S.tests pairs.old.mode) b reader.old (state source.old sink.old) pairs.old.all_good }
+        (b : Beginning) × WaitsBy (paged_rules S.tests pairs.old.text) b reader.old (state source.old sink.old) pairs.old.all_good }
     ensures goes { let state = outside_state I.left I.faults O.written O.faults O.room_left in
         (b : Beginning)
-        → WaitsBy (pairs_rules S.tests pairs.old.mode) b reader.old (state source.old sink.old) pairs.old.all_good
+        → WaitsBy (paged_rules S.tests pairs.old.text) b reader.old (state source.old sink.old) pairs.old.all_good
         → GoesOn b (ahead reader.old) reader.new (state source.new sink.new) pairs.new.all_good result }
-    ensures mode { pairs.new.mode ≡ pairs.old.mode }
+    ensures by { pairs.new.text ≡ pairs.old.text }
     ensures held { longest_line ≤ vec_capacity held.new }
     ensures output { answer_room ≤ vec_capacity pairs.new.output }
 {
@@ -104,10 +103,10 @@ fn answer_from<S: Spec, I: Source, O: Sink>(
             match SplitView::<S, _>::absolute_from_bytes(held) {
                 Ok(page) => {
                     let resolver = FixedBaseResolver::of_split(page);
-                    let answer = put_answer::<S, O>(
+                    let answer = put_link::<S, O>(
                         sink,
                         &mut pairs.output,
-                        pairs.mode,
+                        pairs.text,
                         &resolver,
                         pair.link,
                     );
@@ -143,7 +142,7 @@ fn answer_pages<S: Spec, I: Source, O: Sink>(
     requires buffers { AreBuffers reader.old (vec_capacity held.old) (vec_capacity pairs.old.output) }
     requires good { pairs.old.all_good ≡ true }
     ensures { let state = outside_state I.left I.faults O.written O.faults O.room_left in
-        Ran (pairs_rules S.tests pairs.old.mode)
+        Ran (paged_rules S.tests pairs.old.text)
         (state source.old sink.old) (state source.new sink.new) result }
 {
     if let Err(Failed) = sink.flush() {
@@ -161,15 +160,15 @@ fn answer_pages<S: Spec, I: Source, O: Sink>(
     }
 }
 
-/// The lines of `pairs`, by the rules of a mode.
+/// The lines of `pairs`, by what links are answered by.
 pub(crate) fn pairs_lines<S: Spec, I: Source, O: Sink>(
-    mode: CanonMode,
+    text: LinkText,
     buffers: CanonBuffers,
     source: &mut I,
     sink: &mut O,
 ) -> u8
     ensures { let state = outside_state I.left I.faults O.written O.faults O.room_left in
-        Runs (pairs_rules S.tests mode)
+        Runs (paged_rules S.tests text)
         (state source.old sink.old) (state source.new sink.new) result }
 {
     let CanonBuffers {
@@ -178,7 +177,7 @@ pub(crate) fn pairs_lines<S: Spec, I: Source, O: Sink>(
         output,
     } = buffers;
     let mut pairs = Pairs {
-        mode,
+        text,
         output,
         all_good: true,
     };

@@ -3,7 +3,7 @@ ghost use Rattle.std.specs.Prelude.{◌≡◌, ℕ, List, [], ◌∷◌, codes, 
 ghost use Rattle.iri_cli.specs.run.Words.{HasToken, IsCommand, mode_words, rules_of, tests_of, word_of};
 ghost use Rattle.iri_cli.specs.docs.Expansions.{AnswersAreExpansions};
 ghost use Rattle.iri_cli.specs.links.FieldValues.{AnswersAreLinks, LaxAnswersAreLinks};
-ghost use Rattle.iri_cli.specs.pairs.OfCanon.{AnswersAreOfCanon};
+ghost use Rattle.iri_cli.specs.pairs.OfCanon.{AnswersAreOfCanon, AnswersAreOfCanonUris};
 ghost use Rattle.iri_cli.specs.parts.Answers.{AnswersAreTakenApart};
 ghost use Rattle.iri_cli.specs.register.Shared.{LiveLinesShareEntries};
 ghost use Rattle.iri_cli.specs.robots.Verdicts.{AnswersAreVerdicts};
@@ -37,6 +37,7 @@ use crate::expand::Expand;
 use crate::generator::generate;
 use crate::help::tell;
 use crate::links::{LaxLinks, Links};
+use crate::pairs::link::LinkText;
 use crate::pairs::pairs_lines;
 use crate::parts::Parts;
 use crate::register::Registers;
@@ -84,7 +85,12 @@ fn lines_in<S: Spec, I: Source, O: Sink>(
         LineCommand::Robots(token) => {
             robots_lines::<S, I, O>(setup, token, buffers, source, sink)
         }
-        LineCommand::Pairs => pairs_lines::<S, I, O>(setup.mode, buffers, source, sink),
+        LineCommand::Pairs => {
+            pairs_lines::<S, I, O>(LinkText::Canonical(setup.mode), buffers, source, sink)
+        }
+        LineCommand::PairsToUri => {
+            pairs_lines::<S, I, O>(LinkText::Mapped(setup.mode), buffers, source, sink)
+        }
     }
 }
 
@@ -231,6 +237,11 @@ pub fn run<I: Source, O: Sink>(alloc: Global, words: &[String], source: &mut I, 
     ensures pairs { (mode : CanonMode) (grammar : Grammar)
         → IsCommand (map string_bytes words.now) (Command.Lines LineCommand.Pairs mode grammar)
         → AnswersAreOfCanon (tests_of grammar) mode }
+
+    // `pairs` with `to uri`: the same of `canon` with `to uri`.
+    ensures pair_uris { (mode : CanonMode) (grammar : Grammar)
+        → IsCommand (map string_bytes words.now) (Command.Lines LineCommand.PairsToUri mode grammar)
+        → AnswersAreOfCanonUris (tests_of grammar) mode }
 {
     obey(alloc, command_of(words), source, sink)
 }

@@ -1,11 +1,15 @@
 // The answers of `canon` with `to uri`: canonical texts of IRIs, mapped to URIs (RFC 3987 section 3.1).
-ghost use Rattle.std.specs.Prelude.{[], ◌∷◌, ◌++◌, codes};
+ghost use Rattle.std.specs.Prelude.{◌≢◌, [], ◌∷◌, ◌++◌, Err, codes, false};
 ghost use Rattle.iri_text.specs.LineEnds.{line_feed};
-ghost use Rattle.iri_text.specs.Sink.{PutsAll, sink_state};
+ghost use Rattle.iri_text.specs.Sink.{KeepsRoom, PutsAll, sink_state};
 ghost use Rattle.iri_types.specs.SplitText.{split_text};
 ghost use Rattle.iri_percent.specs.Mapping.{mapped};
 ghost use Rattle.iri_normal.specs.NormalForm.{canonical_in};
 ghost use Rattle.iri_normal.specs.Resolver.{base_text};
+ghost use Rattle.iri_cli.specs.canon.Rules.{is_ok};
+ghost use Rattle.iri_cli.specs.declared.run.answers.AnswerError.TheVariants.{SinkFailed};
+ghost use Rattle.iri_cli.specs.inside.Answering.{PutsAnswer};
+ghost use Rattle.iri_cli.specs.to_uri.Answers.{uri_answer};
 
 use crate::canon::text::CanonicalText;
 use crate::run::answers::{AnswerError, Answers};
@@ -59,6 +63,25 @@ fn put_good<S: Spec, O: Sink>(
     sink.put_all(b"\n")
 }
 
+/// Puts the answer to a line, its canonical text mapped to a URI, and says whether it is good.
+pub(crate) fn put_uri_answer<S: Spec, O: Sink>(
+    sink: &mut O,
+    mode: CanonMode,
+    resolver: &FixedBaseResolver<'_, S>,
+    line: &[u8],
+) -> Result<bool, AnswerError>
+    ensures puts { let state = sink_state O.written O.faults O.room_left in
+        PutsAnswer is_ok (state sink.old) (state sink.new) false
+        (uri_answer S.tests mode (base_text resolver.now) line.now) result }
+    ensures room { KeepsRoom (O.room_left sink.old) (O.room_left sink.new)
+        (uri_answer S.tests mode (base_text resolver.now) line.now) (result ≢ Err SinkFailed) }
+{
+    match SplitView::<S, Reference>::try_from_bytes(line) {
+        Ok(reference) => say_good(true, put_good(sink, mode, resolver, &reference)),
+        Err(error) => say_good(false, put_bad(sink, error.kind().description())),
+    }
+}
+
 /// Answers each line by its canonical text against a base, mapped to a URI, by the rules of a mode.
 #[derive(Drop)]
 pub struct ToUri {
@@ -93,10 +116,7 @@ impl<S: Spec> Answers<S> for ToUri {
         line: &[u8],
         sink: &mut O,
     ) -> Result<bool, AnswerError> {
-        match SplitView::<S, Reference>::try_from_bytes(line) {
-            Ok(reference) => say_good(true, put_good(sink, self.mode, resolver, &reference)),
-            Err(error) => say_good(false, put_bad(sink, error.kind().description())),
-        }
+        put_uri_answer::<S, O>(sink, self.mode, resolver, line)
     }
 
     fn close<O: Sink>(&mut self, _sink: &mut O) -> Result<(), Failed> {

@@ -9,7 +9,7 @@ use Rattle.iri_cli.specs.run.Words.{IsCommand, mode_words, named, word_of}
 use Rattle.iri_cli.specs.declared.run.words.Command.{Command}
 use Rattle.iri_cli.specs.declared.run.words.Command.TheVariants.{Lines, Gen, Tell}
 use Rattle.iri_cli.specs.declared.run.words.LineCommand.{LineCommand}
-use Rattle.iri_cli.specs.declared.run.words.LineCommand.TheVariants.{Canon, ToUri, Parts, Expand, Register, Links, LaxLinks, Docs, Robots, Pairs}
+use Rattle.iri_cli.specs.declared.run.words.LineCommand.TheVariants.{Canon, ToUri, Parts, Expand, Register, Links, LaxLinks, Docs, Robots, Pairs, PairsToUri}
 use Rattle.iri_cli.specs.declared.run.words.Grammar.{Grammar}
 use Rattle.iri_percent.specs.declared.canon_mode.CanonMode.{CanonMode}
 use Rattle.iri_percent.specs.declared.canon_mode.CanonMode.TheVariants.{Default, Scheme}
@@ -50,6 +50,8 @@ few_after (Robots token) Default third fourth fifth sixth more e = cc e
 few_after (Robots token) Scheme third fourth fifth sixth more e = cc e
 few_after Pairs Default third fourth fifth sixth more e = cc e
 few_after Pairs Scheme third fourth fifth sixth more e = cc e
+few_after PairsToUri Default third fourth fifth sixth more e = cc e
+few_after PairsToUri Scheme third fourth fifth sixth more e = cc e
 
 -- no command has six words
 pub six_words : (first second third fourth fifth sixth : List ℕ) (more : List (List ℕ)) (command : Command)

@@ -10,7 +10,7 @@ use Rattle.iri_cli.specs.docs.Expansions.{AnswersAreExpansions}
 use Rattle.iri_cli.specs.generator.References.{gen_text}
 use Rattle.iri_cli.specs.help.Notices.{MakesText, Tells, notice_text}
 use Rattle.iri_cli.specs.links.FieldValues.{AnswersAreLinks, LaxAnswersAreLinks}
-use Rattle.iri_cli.specs.pairs.OfCanon.{AnswersAreOfCanon}
+use Rattle.iri_cli.specs.pairs.OfCanon.{AnswersAreOfCanon, AnswersAreOfCanonUris}
 use Rattle.iri_cli.specs.parts.Answers.{AnswersAreTakenApart}
 use Rattle.iri_cli.specs.register.Shared.{LiveLinesShareEntries}
 use Rattle.iri_cli.specs.robots.Verdicts.{AnswersAreVerdicts}
@@ -21,7 +21,7 @@ use Rattle.iri_cli.specs.declared.run.words.Command.{Command}
 use Rattle.iri_cli.specs.declared.run.words.Command.TheVariants.{Lines, Gen, Tell}
 use Rattle.iri_cli.specs.declared.run.words.Grammar.{Grammar}
 use Rattle.iri_cli.specs.declared.run.words.LineCommand.{LineCommand}
-use Rattle.iri_cli.specs.declared.run.words.LineCommand.TheVariants.{Canon, ToUri, Parts, Register, Links, LaxLinks, Docs, Pairs}
+use Rattle.iri_cli.specs.declared.run.words.LineCommand.TheVariants.{Canon, ToUri, Parts, Register, Links, LaxLinks, Docs, Pairs, PairsToUri}
 use Rattle.iri_cli.specs.declared.help.Notice.{Notice}
 
 -- The contract of the program's `run`.
@@ -48,6 +48,8 @@ pub record RunsWords (words : List (List ℕ)) (old new : Outside) (status : ℕ
       → AnswersAreVerdicts (tests_of grammar) mode token
   pub pairs : (mode : CanonMode) (grammar : Grammar) → IsCommand words (Lines Pairs mode grammar)
       → AnswersAreOfCanon (tests_of grammar) mode
+  pub pair_uris : (mode : CanonMode) (grammar : Grammar) → IsCommand words (Lines PairsToUri mode grammar)
+      → AnswersAreOfCanonUris (tests_of grammar) mode
 
 -- The words are a command over lines, or `gen`.
 abbrev pub TakesMemory : List (List ℕ) → Type 0

@@ -74,6 +74,7 @@ fn help(rt: HostRuntime) -> Result<(), Fail> {
         "canon GRAMMAR [scheme]",
         "canon GRAMMAR to uri [scheme]",
         "pairs GRAMMAR [scheme]",
+        "pairs GRAMMAR to uri [scheme]",
         "parts GRAMMAR [scheme]",
         "expand GRAMMAR [scheme]",
         "register GRAMMAR [scheme]",

@@ -9,7 +9,7 @@ use Rattle.iri_cli.specs.docs.Rules.{docs_rules}
 use Rattle.iri_cli.specs.expand.Rules.{expand_rules}
 use Rattle.iri_cli.specs.generator.References.{most_references}
 use Rattle.iri_cli.specs.links.Rules.{lax_rules, links_rules}
-use Rattle.iri_cli.specs.pairs.Rules.{pairs_rules}
+use Rattle.iri_cli.specs.pairs.Rules.{pairs_rules, pairs_to_uri_rules}
 use Rattle.iri_cli.specs.parts.Rules.{parts_rules}
 use Rattle.iri_cli.specs.register.Rules.{register_rules}
 use Rattle.iri_cli.specs.robots.Rules.{robots_rules}
@@ -20,7 +20,7 @@ use Rattle.iri_cli.specs.declared.run.words.Grammar.TheVariants.{Uri, Iri}
 use Rattle.iri_cli.specs.declared.run.words.Command.{Command}
 use Rattle.iri_cli.specs.declared.run.words.Command.TheVariants.{Lines, Gen, Tell}
 use Rattle.iri_cli.specs.declared.run.words.LineCommand.{LineCommand}
-use Rattle.iri_cli.specs.declared.run.words.LineCommand.TheVariants.{Canon, ToUri, Parts, Expand, Register, Links, LaxLinks, Docs, Robots, Pairs}
+use Rattle.iri_cli.specs.declared.run.words.LineCommand.TheVariants.{Canon, ToUri, Parts, Expand, Register, Links, LaxLinks, Docs, Robots, Pairs, PairsToUri}
 use Rattle.iri_cli.specs.declared.help.Notice.{Notice}
 use Rattle.iri_cli.specs.declared.help.Notice.TheVariants.{Help, Version}
 
@@ -56,6 +56,7 @@ named LaxLinks = record { word = codes "links"; after = codes "lax" ∷ []; rule
 named Docs = record { word = codes "docs"; after = []; rules = docs_rules }
 named (Robots token) = record { word = codes "robots"; after = token.now ∷ []; rules = λ s mode. robots_rules s mode token.now }
 named Pairs = record { word = codes "pairs"; after = []; rules = pairs_rules }
+named PairsToUri = record { word = codes "pairs"; after = codes "to" ∷ codes "uri" ∷ []; rules = pairs_to_uri_rules }
 
 -- the token of `robots` is a product token (RFC 9309 section 2.2.1)
 abbrev pub HasToken : LineCommand → Type 0

@@ -22,7 +22,7 @@ pub enum Grammar {
     Iri,
 }
 
-/// A command over the lines of an input, of which the first is the base, but for `Pairs`.
+/// A command over the lines of an input, of which the first is the base, but for `Pairs` and `PairsToUri`.
 #[derive(Clone, Copy)]
 pub enum LineCommand<'a> {
     /// To answer each reference line by its canonical text.
@@ -46,6 +46,8 @@ pub enum LineCommand<'a> {
     Robots(&'a str),
     /// To answer each page and link by the link's canonical text against the page.
     Pairs,
+    /// The same, with each text mapped to a URI.
+    PairsToUri,
 }
 
 /// What the words after the program's name ask for.
@@ -189,6 +191,9 @@ pub fn command_of_four<'a>(
         "canon" if is_to_uri(word, last) => {
             Some(Command::Lines(LineCommand::ToUri, CanonMode::Default, grammar))
         }
+        "pairs" if is_to_uri(word, last) => {
+            Some(Command::Lines(LineCommand::PairsToUri, CanonMode::Default, grammar))
+        }
         _ => None,
     }
 }
@@ -208,6 +213,9 @@ pub fn command_of_five<'a>(
     match name {
         "canon" if is_to_uri(first, second) && is_scheme(last) => {
             Some(Command::Lines(LineCommand::ToUri, CanonMode::Scheme, grammar))
+        }
+        "pairs" if is_to_uri(first, second) && is_scheme(last) => {
+            Some(Command::Lines(LineCommand::PairsToUri, CanonMode::Scheme, grammar))
         }
         _ => None,
     }

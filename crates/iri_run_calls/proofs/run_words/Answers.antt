@@ -38,6 +38,7 @@ returns c =
             docs = run.docs;
             robots = run.robots;
             pairs = run.pairs;
+            pair_uris = run.pair_uris;
           });
       out = c.copy_over.ensures;
       len = refl;

@@ -1,6 +1,7 @@
 use Rattle.iri_cli.proofs.Common.{◌∙◌, None, Some, ap, arith, begun, outside_state, refl, room-so, subst, sym, true}
 use Rattle.iri_cli.specs.inside.Going.{Waits}
-use Rattle.iri_cli.specs.pairs.Rules.{no_page, pairs_rules}
+use Rattle.iri_cli.specs.inside.Paged.{paged_rules}
+use Rattle.iri_cli.specs.pairs.Rules.{no_page}
 use Rattle.iri_cli.proofs.Answered.{fails_first}
 use Rattle.iri_cli.proofs.GoingLemmas.{goes_next}
 use Rattle.iri_cli.proofs.PairsLemmas.{ends_run, first_goes, from_first}
@@ -8,7 +9,7 @@ use Rattle.iri_cli.proofs.pairs.answer_pages.Goals as goal
 
 pub returns-in-Err : goal.returns-in-Err
 returns-in-Err g c =
-    fails_first (begun (pairs_rules g.S.Spec.tests c.args.pairs.now.mode) no_page) _ _ _ _ _ _ c.flush.ensures.kept c.in-Err.ensures.cause
+    fails_first (begun (paged_rules g.S.Spec.tests c.args.pairs.now.text) no_page) _ _ _ _ _ _ c.flush.ensures.kept c.in-Err.ensures.cause
     (omega arith) c.flush.ensures.later (room-so (λ h. absurd (cc h)) c.in-Err.ensures.room)
 
 pub next_line-requires : goal.next_line-requires
@@ -17,7 +18,7 @@ next_line-requires g c = c.requires.buffers.new.going
 pub returns-in-Some : goal.returns-in-Some
 returns-in-Some g c =
     let s = g.S.Spec.tests in
-    let m = c.args.pairs.now.mode in
+    let m = c.args.pairs.now.text in
     let k = g.met.S.Spec.lawful in
     let state = outside_state g.I.Source.left g.I.Source.faults g.O.Sink.written g.O.Sink.faults g.O.Sink.room_left in
     let around = state c.args.source.now c.args.sink.now in
@@ -29,7 +30,7 @@ returns-in-Some g c =
 pub pages-init : goal.pages-init
 pages-init g c =
     let s = g.S.Spec.tests in
-    let m = c.args.pairs.now.mode in
+    let m = c.args.pairs.now.text in
     let k = g.met.S.Spec.lawful in
     let state = outside_state g.I.Source.left g.I.Source.faults g.O.Sink.written g.O.Sink.faults g.O.Sink.room_left in
     let around = state c.args.source.now c.args.sink.now in
@@ -51,7 +52,7 @@ pub pages-preserved : goal.pages-preserved
 pages-preserved g c =
     let i = c.pages.invariant in
     let next = c.in-None-answer_from.ensures.goes _ i.0 in (
-      (i.0.0 ∙ ap (pairs_rules g.S.Spec.tests) (sym c.answer_from.ensures.mode), next.0),
+      (i.0.0 ∙ ap (paged_rules g.S.Spec.tests) (sym c.answer_from.ensures.by), next.0),
       c.answer_from.ensures.held,
       c.answer_from.ensures.output,
     )
@@ -61,4 +62,4 @@ pages-smaller g c = (c.in-None-answer_from.ensures.goes _ c.pages.invariant.0).1
 
 pub returns-in-Some-answer_from : goal.returns-in-Some-answer_from
 returns-in-Some-answer_from g c =
-    ends_run g.S.Spec.tests c.args.pairs.now.mode _ _ _ _ c.requires.buffers.new (c.in-Some-answer_from.ensures.goes _ c.pages.invariant.0)
+    ends_run g.S.Spec.tests c.args.pairs.now.text _ _ _ _ c.requires.buffers.new (c.in-Some-answer_from.ensures.goes _ c.pages.invariant.0)

@@ -1,7 +1,7 @@
 use Rattle.iri_cli.proofs.Common.{map, string_bytes, outside_state, tests_of}
 use Rattle.iri_cli.specs.declared.run.words.Command.TheVariants.{Lines, Gen, Tell}
 use Rattle.iri_cli.proofs.BytesLemmas.{canonical_answers, grammar_is_spec}
-use Rattle.iri_cli.proofs.PairsLemmas.{answers_are_of_canon}
+use Rattle.iri_cli.proofs.PairsLemmas.{answers_are_of_canon, answers_are_of_canon_uris}
 use Rattle.iri_cli.proofs.ToolLaws.{answers_are_expansions, answers_are_links, answers_are_verdicts, live_lines_share_entries}
 use Rattle.iri_cli.proofs.LinksLemmas.{lax_answers_are_links}
 use Rattle.iri_cli.proofs.PartsLemmas.{answers_are_taken_apart}
@@ -36,4 +36,5 @@ returns g c =
       docs = λ mode grammar _ base line. answers_are_expansions (tests_of grammar) mode base line;
       robots = λ mode grammar token _. answers_are_verdicts (tests_of grammar) mode token;
       pairs = λ mode grammar _. answers_are_of_canon (tests_of grammar) mode (grammar_is_spec grammar);
+      pair_uris = λ mode grammar _. answers_are_of_canon_uris (tests_of grammar) mode (grammar_is_spec grammar);
     }
