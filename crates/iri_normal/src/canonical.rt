@@ -11,7 +11,7 @@ ghost use Rattle.iri_normal.specs.Resolver.{base_text};
 
 use crate::mode::CanonMode;
 use crate::resolver::FixedBaseResolver;
-use crate::unchanged::{cut_lowered, lacks_triplets, show_after, show_lowered};
+use crate::unchanged::{cut_lowered, lacks_triplets, show_after, show_after_apart, show_lowered};
 use iri_grammar::error::Error as GrammarError;
 use iri_grammar::spec::Spec;
 use iri_owned::owned::RiString;
@@ -60,6 +60,24 @@ fn show_resolved<'a, S: Spec, W: TextSink>(
         .show(sink)
 }
 
+// The same of a reference that goes no quicker way, or is asked last for one since few references have an authority and no scheme.
+#[inline(always)]
+fn show_rarer<'a, S: Spec, W: TextSink>(
+    sink: &mut W,
+    resolver: &FixedBaseResolver<'a, S>,
+    reference: &SplitView<'a, S, Reference>,
+) -> Result<(), Stop>
+    ensures { Shows W.puts W.halts W.stops sink.old
+        (canonical S.tests (base_text resolver.now) (split_text reference.now)) sink.new result }
+{
+    if let Some(before) = resolver.before_authority(reference) {
+        let bare = lacks_triplets(reference.parts());
+        let text = reference.view().as_str();
+        return show_after_apart::<S, W>(sink, before, text, bare);
+    }
+    show_resolved::<S, W>(sink, CanonMode::Default, resolver, reference)
+}
+
 /// Shows the canonical text of a reference against a resolver's base to a sink: the reference resolved (RFC 3986
 /// section 5.2) and put into normal form (section 6.2.2). Allocates nothing.
 ///
@@ -95,7 +113,7 @@ pub fn show_canonical<'a, S: Spec, W: TextSink>(
         let bare = lacks_triplets(reference.parts());
         return show_lowered::<S, W>(sink, prefix, rest, bare);
     }
-    show_resolved::<S, W>(sink, CanonMode::Default, resolver, reference)
+    show_rarer(sink, resolver, reference)
 }
 
 /// Shows the canonical text of a reference against a resolver's base to a sink, by the rules of a mode. Allocates

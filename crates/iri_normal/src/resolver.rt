@@ -277,7 +277,7 @@ impl<'a, S: Spec> FixedBaseResolver<'a, S> {
         match (reference.scheme(), reference.authority()) {
             (Some(_), authority) => stays_by_scheme(authority, reference.path()),
             (None, None) => self.keeps_port && !self.lacks_path(reference.path()),
-            _ => false,
+            (None, Some(authority)) => stays_by_scheme(Some(authority), reference.path()),
         }
     }
 
@@ -312,6 +312,28 @@ impl<'a, S: Spec> FixedBaseResolver<'a, S> {
             (None, None) => self.base_before(parts),
             _ => None,
         }
+    }
+
+    // The same of a reference with an authority and no scheme: the base's scheme, and the colon after it.
+    #[inline(always)]
+    pub(crate) fn before_authority(
+        &self,
+        reference: &SplitView<'a, S, Reference>,
+    ) -> Option<Before<'a>>
+        ensures { MatchOption result (Unit {0}) (λ b. EndsCanonical S.tests (base_text self.now) (split_text reference.now)
+            b.prefix.now b.directory.now) }
+    {
+        let parts = reference.parts();
+        let (None, Some(_)) = (parts.scheme(), parts.authority()) else {
+            return None;
+        };
+        if parts.seen().dots || !keeps_prefix::<S>(parts) || self.base.parts().seen().capitals {
+            return None;
+        }
+        Some(Before {
+            prefix: self.scheme_str(),
+            directory: ":",
+        })
     }
 
     /// The text of a reference resolved against the base (RFC 3986 section 5.2): its dot segments are removed, but the

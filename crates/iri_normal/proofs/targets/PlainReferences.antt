@@ -308,6 +308,38 @@ own-put s base r k f h p = at r.scheme refl h
     at None e none = cc
     at (Some x) e some = parts-unchanged s base r [] [] k f (own-before s (split_of base) r x e f p)
 
+-- an authority of its own, under the base's scheme
+own-authority : (s : Tests) (r : Parts) → r.scheme ≡ None → KeepsPrefix s r
+    → authority_text (option_map (normal_authority s) r.authority) ≡ prefix_in s false r
+own-authority s r h p =
+    ap (λ o. scheme_text (option_map lowered o) ++ authority_text (option_map (normal_authority s) r.authority)) (sym h) ∙ p.0
+
+authority-before : (s : Tests) (b r : Parts) (x a : List ℕ) → b.scheme ≡ Some x → lowered x ≡ x → r.scheme ≡ None → r.authority ≡ Some a
+    → KeepsPrefix s r → StandBefore s b r (x ++ 58 ∷ []) [] (prefix_in s false r)
+unfolding target
+authority-before s b r x a e l h k p =
+    let own = authority_text (option_map (normal_authority s) r.authority) in
+    let before : prefix_in s true (target b r) ≡ scheme_text (option_map lowered b.scheme) ++ own = rw (h, k) refl in
+    record {
+      path = rw (h, k) refl;
+      query = rw (h, k) refl;
+      fragment = rw (h, k) refl;
+      plain = rw nothing-is_no_dot refl;
+      ends = refl;
+      unguarded = rw (h, k) refl;
+      text = append-nil (prefix_in s true (target b r))
+          ∙ (before ∙ (ap (λ o. scheme_text (option_map lowered o) ++ own) e
+          ∙ (ap (λ y. (y ++ 58 ∷ []) ++ own) l ∙ ap (λ y. (x ++ 58 ∷ []) ++ y) (own-authority s r h p))));
+      percent = p.1;
+    }
+
+pub authority-put : (s : Tests) (base : List ℕ) (r : Parts) (x a : List ℕ) → IsSpec s → Fits s r → (split_of base).scheme ≡ Some x
+    → list_all is_small x ≡ true → r.scheme ≡ None → r.authority ≡ Some a → KeepsPrefix s r → EndsParts s base r x (58 ∷ [])
+authority-put s base r x a k f e small h j p t same n =
+    let before = authority-before s (split_of base) r x a e (small-lowered x small) h j p in
+    let ends = parts-unchanged s base r (x ++ 58 ∷ []) [] k f before t same n in
+    record { text = ends.text ∙ append_assoc x (58 ∷ []) (pct s t); whole = ends.whole; bare = ends.bare }
+
 -- its own prefix is put into lower case
 pub lowered-before : (s : Tests) (t first second x : List ℕ) → IsSpec s → Fits s (split_of t) → (split_of t).scheme ≡ Some x
     → if_there is_plain_authority (split_of t).authority ≡ true → has_dot_segment (split_of t).path ≡ false → t ≡ first ++ second

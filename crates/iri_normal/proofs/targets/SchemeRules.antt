@@ -102,6 +102,12 @@ pub own-stays : (b r : Parts) (x : List ℕ) → r.scheme ≡ Some x → ends_in
 unfolding target
 own-stays b r x e a p = let same : target b r ≡ r = rw e refl in subst StaysByScheme (sym same) (a, p)
 
+-- one with an authority and no scheme
+pub hosted-stays : (b r : Parts) (a : List ℕ) → r.scheme ≡ None → r.authority ≡ Some a → ends_in_port (Some a) ≡ false
+    → is_empty r.path ≡ false → StaysByScheme (target b r)
+unfolding target
+hosted-stays b r a h k e p = (rw (h, k) e, rw (h, k) p)
+
 after-some : (m p : List ℕ) → is_empty p ≡ false → is_empty (m ++ p) ≡ false
 after-some [] p h = h
 after-some (x ∷ xs) p h = refl
