@@ -80,14 +80,16 @@ static const char *page_of(struct bytes *page, struct text base)
 	return (const char *)page->at;
 }
 
-/* A line on a page has the answer that `canon` gives with the page as base, whatever page the line before has, or none. */
-static void check_pairs(struct soak *soak)
+/* A line on a page has the answer that `canon` gives with the page as base, whatever page the line before has, or none; with `to uri` that
+ * mapped to a URI. */
+static void check_pairs(struct soak *soak, int to_uri)
 {
 	struct asked asked = {0};
-	struct bytes page = {0}, other = {0};
+	struct bytes page = {0}, other = {0}, wanted = {0};
 	const char *on_page = page_of(&page, soak->reading.base), *on_other = page_of(&other, other_base(soak));
 	for (size_t i = 0; i < soak->count; i++) {
-		ask(soak, &asked, on_page, soak->lines[i], soak->answers[i], "a link on a page has its answer against that base");
+		struct text answer = to_uri ? mapped(soak->answers[i], &wanted) : soak->answers[i];
+		ask(soak, &asked, on_page, soak->lines[i], answer, "a link on a page has its answer against that base");
 		if (below(&soak->spelling, 4) == 0)
 			ask(soak, &asked, on_other, WORD("x:y"), WORD("ok x:y"), "a link with a scheme has one text on every page");
 		if (below(&soak->spelling, 32) == 0)
@@ -95,9 +97,10 @@ static void check_pairs(struct soak *soak)
 		if (below(&soak->spelling, 32) == 0)
 			ask(soak, &asked, "", WORD("http://a/b"), WORD("bad line"), "a line without a tab");
 	}
-	check(soak, &asked, soak->reading.base, "pairs", mode_of(soak));
+	check(soak, &asked, soak->reading.base, "pairs", to_uri ? in_mode(soak, "to uri", "to uri scheme") : mode_of(soak));
 	free(page.at);
 	free(other.at);
+	free(wanted.at);
 }
 
 /* A text by scheme rules stays itself without them. */
@@ -310,7 +313,8 @@ int main(int argc, char **argv)
 	begin(&soak);
 	check_other_base(&soak);
 	check_spellings(&soak);
-	check_pairs(&soak);
+	check_pairs(&soak, 0);
+	check_pairs(&soak, 1);
 	check_to_uri(&soak);
 	check_parts(&soak);
 	check_lax(&soak);
