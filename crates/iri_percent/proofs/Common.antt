@@ -37,7 +37,6 @@ pub use Rattle.iri_text.proofs.Compose.{shown_more, shown_exit, shows_all, HasSh
 pub use Rattle.iri_text.specs.Shown.{Shows}
 pub use Rattle.iri_percent.specs.ByteForm.{normal_unit, written}
 pub use Rattle.iri_percent.specs.CharUnits.{char_units, by_character, char_unit_text, plains, byte_units}
-unfoldable pub use Rattle.iri_percent.specs.CharUnits.{char_units_from}
 pub use Rattle.iri_percent.specs.Decoding.{Octet, Percent, fragment_bytes}
 unfoldable pub use Rattle.iri_percent.specs.Decoding.{decoding, has_triplet, fragments}
 pub use Rattle.iri_percent.specs.Encoding.{keeps, encoded_char}
@@ -50,7 +49,7 @@ pub use Rattle.iri_percent.specs.Triplets.{decoded, unreserved_only, pct, as_it_
 unfoldable pub use Rattle.iri_percent.specs.Triplets.{normal}
 pub use Rattle.iri_percent.specs.Units.{octet, octets, Plain, Char, Lone, units, two_digits, TextUnit, Stray, IllFormed, triplet_unit}
 pub use Rattle.iri_percent.specs.Units.{first_unit, unit_text, is_triplet, byte_unit}
-unfoldable pub use Rattle.iri_percent.specs.Units.{whole_triplets, first_char, units_from}
+unfoldable pub use Rattle.iri_percent.specs.Units.{whole_triplets, first_char, read_from}
 pub use Rattle.iri_percent.specs.inside.MapRuns.{goes_on}
 pub use Rattle.iri_percent.specs.inside.Octets.{char_from, is_octet}
 pub use Rattle.iri_percent.specs.inside.Pieces.{case_of, stays, NoCandidate, Becomes, Gathered, Writes}

@@ -54,23 +54,27 @@ abbrev pub first_unit : ℕ → List ℕ → TextUnit
 first_unit x (a ∷ b ∷ xs) = cond (is_triplet x a b) (triplet_unit a b (x ∷ a ∷ b ∷ xs) (first_char (octets (x ∷ a ∷ b ∷ xs)))) (byte_unit x)
 first_unit x xs = byte_unit x
 
+-- the bytes of a unit, where what stands outside triplets has these
+abbrev pub text_by : (ℕ → List ℕ) → TextUnit → List ℕ
+text_by bytes (Plain c) = bytes c
+text_by bytes (Char c spelling) = spelling
+text_by bytes (Lone a b) = percent_sign ∷ a ∷ b ∷ []
+text_by bytes Stray = percent_sign ∷ []
+text_by bytes (IllFormed b) = b ∷ []
+
 -- the bytes of a unit that is read byte by byte
 abbrev pub unit_text : TextUnit → List ℕ
-unit_text (Plain c) = c ∷ []
-unit_text (Char c spelling) = spelling
-unit_text (Lone a b) = percent_sign ∷ a ∷ b ∷ []
-unit_text Stray = percent_sign ∷ []
-unit_text (IllFormed b) = b ∷ []
+unit_text u = text_by (λ c. c ∷ []) u
 
--- what is left to read, where so many bytes at its start belong to a unit already
-unfoldable pub units_from : ℕ → List ℕ → List TextUnit
-units_from n [] = []
-units_from (suc n) (x ∷ xs) = units_from n xs
-units_from zero (x ∷ xs) = first_unit x xs ∷ units_from (length (unit_text (first_unit x xs)) - 1) xs
+-- a text read from the left, by its first unit and the bytes of that; so many bytes at the start belong to a unit already
+unfoldable pub read_from : (ℕ → List ℕ → TextUnit) → (TextUnit → List ℕ) → ℕ → List ℕ → List TextUnit
+read_from first bytes n [] = []
+read_from first bytes (suc n) (x ∷ xs) = read_from first bytes n xs
+read_from first bytes zero (x ∷ xs) = first x xs ∷ read_from first bytes (length (bytes (first x xs)) - 1) xs
 
--- a text read from the left, byte by byte
+-- a text read byte by byte
 abbrev pub units : List ℕ → List TextUnit
-units t = units_from 0 t
+units t = read_from first_unit unit_text 0 t
 
 abbrev pub two_digits : List ℕ → Bool
 two_digits (a ∷ b ∷ xs) = is_ascii_hexdigit a && is_ascii_hexdigit b

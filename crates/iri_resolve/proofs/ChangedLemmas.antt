@@ -191,7 +191,7 @@ step-changes s m t u SlashPath h = placed-gives (λ z. z ≢ t) (λ p. record t 
 
 -- ---- a decoded place
 units-nil : units [] ≡ []
-unfolding Rattle.iri_percent.specs.Units.units_from
+unfolding Rattle.iri_percent.specs.Units.read_from
 units-nil = refl
 
 units-seam : (t r : List ℕ) → Reading t → whole_triplets t ≡ true → leads (octets r) ≡ true → units (t ++ r) ≡ units t ++ units r

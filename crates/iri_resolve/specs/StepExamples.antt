@@ -6,7 +6,7 @@ use Rattle.iri_grammar.specs.Classes.{uri_tests, iri_tests, unreserved, is_ascii
 use Rattle.iri_grammar.specs.Authority.{authority_parts, recompose_authority}
 use Rattle.iri_grammar.specs.Parts.{Parts}
 use Rattle.iri_percent.specs.Units.{whole_triplets, first_char}
-use Rattle.iri_percent.specs.CharUnits.{char_units_from}
+use Rattle.iri_percent.specs.Units.{read_from}
 use Rattle.iri_percent.specs.NormalHost.{is_ascii_host}
 use Rattle.iri_percent.specs.SchemeRules.{default_port}
 use Rattle.iri_percent.specs.Triplets.{normal}
@@ -105,7 +105,7 @@ long_way = record {
 
 list : steps_of uri_tests Scheme long_way ≡ SchemeLetter 0 ∷ Decode Authority 0 ∷ HostLetter 2 ∷ Decode Authority 3 ∷ Decode Path 1
     ∷ Decode Path 3 ∷ Dots ∷ HexDigit Fragment 1 ∷ HexDigit Fragment 2 ∷ DefaultPort ∷ []
-unfolding steps_of plain_steps scheme_steps authority_steps path_steps component_steps normal char_units_from is_ascii_host authority_parts
+unfolding steps_of plain_steps scheme_steps authority_steps path_steps component_steps normal read_from is_ascii_host authority_parts
     default_port dots is_dot_segment first_char chars encode unreserved is_ascii_unreserved
 list = refl
 
@@ -114,6 +114,6 @@ abbrev kept_port : Parts
 kept_port = record { scheme = Some (codes "ws"); authority = Some (codes "x:80"); path = []; query = None; fragment = None }
 
 no_list : steps_of uri_tests Default kept_port ≡ []
-unfolding steps_of plain_steps scheme_steps authority_steps path_steps component_steps normal char_units_from is_ascii_host authority_parts
+unfolding steps_of plain_steps scheme_steps authority_steps path_steps component_steps normal read_from is_ascii_host authority_parts
     dots is_dot_segment
 no_list = refl

@@ -5,7 +5,7 @@ use Rattle.std.specs.Str.{is_utf8, chars}
 use lib.Utf8.{encode}
 use Rattle.iri_grammar.specs.Characters.{percent_sign}
 use Rattle.iri_grammar.specs.Classes.{unreserved, is_ascii_unreserved}
-use Rattle.iri_percent.specs.CharUnits.{char_units_from}
+use Rattle.iri_percent.specs.Units.{read_from}
 use Rattle.iri_percent.specs.Triplets.{normal}
 use Rattle.iri_percent.specs.Units.{first_char}
 use Rattle.iri_robots.specs.Compared.{compared}
@@ -74,15 +74,15 @@ not_utf8 = refl
 
 -- ---- the compared form: RFC 9309 section 2.2.2, and a `%` that begins no triplet
 baz : compared (codes "/foo/bar/%62%61%7A") ≡ codes "/foo/bar/baz"
-unfolding compared normal char_units_from first_char chars encode unreserved is_ascii_unreserved
+unfolding compared normal read_from first_char chars encode unreserved is_ascii_unreserved
 baz = refl
 
 tsu : compared (codes "/foo/bar/" ++ encode 0x30C4) ≡ codes "/foo/bar/%E3%83%84"
-unfolding compared normal char_units_from first_char chars encode unreserved is_ascii_unreserved
+unfolding compared normal read_from first_char chars encode unreserved is_ascii_unreserved
 tsu = refl
 
 stray : compared (codes "%2%2a%") ≡ codes "%2%2A%"
-unfolding compared normal char_units_from first_char chars encode unreserved is_ascii_unreserved
+unfolding compared normal read_from first_char chars encode unreserved is_ascii_unreserved
 stray = refl
 
 -- ---- groups: RFC 9309 section 5.1, `foobot`, `barbot` and `bazbot`

@@ -16,7 +16,7 @@ use lib.Utf8.{encode, encodes}
 use Rattle.iri_grammar.specs.Classes.{IsSpec}
 use Rattle.iri_percent.specs.CharUnits.{plains}
 use Rattle.iri_percent.specs.Mapping.{triplets}
-use Rattle.iri_percent.specs.Units.{Char, Stray, is_triplet, octet, octets, first_char, two_digits, unit_text, units_from, well_formed}
+use Rattle.iri_percent.specs.Units.{Char, Stray, is_triplet, octet, octets, first_char, two_digits, unit_text, read_from, well_formed}
 use Rattle.iri_percent.proofs.units.AtStart.{Spells, none, more, first_char_is, char_first, hex_apart, octets_other, octets_spelled, spelled}
 use Rattle.iri_percent.proofs.units.AtStart.{length-spelled, units_plain, units_plains, unit_lone, units_lone, unit_char, units_char, units_stray}
 
@@ -279,7 +279,7 @@ after_unit t d b h e =
 
 -- where nothing is held back
 pub nothing_left : (s : Tests) (left : Option ℕ) → (written_units s left (units []) ≡ []) × (fewer left (length (units [])) ≡ left)
-unfolding units_from
+unfolding read_from
 nothing_left s None = (refl, refl)
 nothing_left s (Some n) = let e : n - 0 ≡ n = omega arith in (ap (flat_map (kept_unit s)) (take-nil n), ap Some e)
 
@@ -308,7 +308,7 @@ short_each s (x ∷ t) k b h = ap (λ l. l ∷ map (kept_unit s) (plains t)) (st
     percent (a ∷ d ∷ t) b h = absurd (omega (arith, h))
 
 short_apart : (t r : List ℕ) → is_begun t ≡ true → length t < 3 → Ends t r → units (t ++ r) ≡ short_units t ++ units r
-unfolding units_from
+unfolding read_from
 short_apart [] r b h e = refl
 short_apart (x ∷ []) [] b h e = ap (λ y. units (y ∷ [])) (eqb-true x 37 b) ∙ units_stray [] refl
 short_apart (x ∷ []) (c ∷ r) b h e = ap (λ y. units (y ∷ c ∷ r)) (eqb-true x 37 b) ∙ units_stray (c ∷ r) (no_two r)
@@ -331,7 +331,7 @@ short_apart (x ∷ a ∷ []) r b h e =
 short_apart (x ∷ a ∷ d ∷ t) r b h e = absurd (omega (arith, h))
 
 short_is : (t : List ℕ) → is_begun t ≡ true → length t < 3 → units t ≡ short_units t
-unfolding units_from
+unfolding read_from
 short_is t b h = ap units (sym (append-nil t)) ∙ short_apart t [] b h tt ∙ append-nil (short_units t)
 
 pub short_written : (s : Tests) (left : Option ℕ) (t : List ℕ) → IsSpec s → is_begun t ≡ true → length t < 3

@@ -6,11 +6,11 @@ use Rattle.iri_normal.proofs.Common.{two_digits, dots, guard, normal_path, ends_
 use Rattle.iri_normal.proofs.segments.Slashes.{end_slash}
 use Rattle.iri_normal.proofs.normal_forms.Paths.{dots-over}
 use Rattle.iri_normal.proofs.targets.Targets.{slash_in_path}
-use Rattle.iri_percent.specs.CharUnits.{char_units_from}
+use Rattle.iri_percent.specs.Units.{read_from}
 
 -- ---- parts without a stray `%`, and a path in two pieces
 pub pct_nil : (s : Tests) → pct s [] ≡ []
-unfolding normal char_units_from
+unfolding normal read_from
 pct_nil s = refl
 
 pct_at : (s : Tests) (init p : List ℕ) → pct s ((init ++ 47 ∷ []) ++ p) ≡ pct s (init ++ 47 ∷ []) ++ pct s p

@@ -8,7 +8,7 @@ use Rattle.iri_percent.proofs.units.AtStart.{Spells, none, more, spelled, octets
 use Rattle.iri_percent.proofs.units.AtStart.{encode_bytes, continuation_none, units_plain, units_lone, units_char, lacks_first}
 
 pub normal_nil : (s : Tests) (f : ℕ → ℕ) → normal s f [] ≡ []
-unfolding normal Rattle.iri_percent.specs.CharUnits.char_units_from
+unfolding normal Rattle.iri_percent.specs.Units.read_from
 normal_nil s f = refl
 
 by_units : (s : Tests) (f : ℕ → ℕ) (t : List ℕ) (u : TextUnit) (xs : List ℕ) → units t ≡ u ∷ units xs

@@ -2,7 +2,7 @@
 use Rattle.iri_percent.proofs.Common.{◌≡◌, ℕ, ◌<◌, ◌≤◌, true, false, cond, List, [], ◌∷◌, ◌++◌, None, refl, sym, ◌∙◌, ap, subst, arith}
 use Rattle.iri_percent.proofs.Common.{append_assoc, ◌==◌, map, is_ascii_hexdigit, digit_value, to_ascii_uppercase, to_ascii_lowercase}
 use Rattle.iri_percent.proofs.Common.{encode_utf8, nat_tests, append-nil, Tests, IsSpec, unreserved, is_ascii_unreserved, lacks, TextUnit}
-use Rattle.iri_percent.proofs.Common.{Plain, Char, Lone, Stray, IllFormed, octet, octets, first_char, units, units_from, whole_triplets}
+use Rattle.iri_percent.proofs.Common.{Plain, Char, Lone, Stray, IllFormed, octet, octets, first_char, units, read_from, whole_triplets}
 use Rattle.iri_percent.proofs.Common.{plains, normal, as_it_is, pct, written, normal_unit, flat_map, by_test, flat_map-append}
 use Rattle.std.proofs.lemmas.Str.Ascii.{lowercase-lowercase, lowercase_ascii, uppercase-uppercase}
 use Rattle.iri_grammar.proofs.splits.CutLaws.{lacks-other}
@@ -128,7 +128,7 @@ lone_stays s f a b xs k i p q n r =
 
 -- ---- the units of the normal form
 units_nil : units [] ≡ []
-unfolding units_from
+unfolding read_from
 units_nil = refl
 
 units_read : (s : Tests) (f : ℕ → ℕ) (t : List ℕ) → IsSpec s → IsCase f → Reading t → units (normal s f t) ≡ flat_map (normal_unit s f) (units t)

@@ -2,7 +2,7 @@
 use Rattle.iri_percent.proofs.Common.{◌≡◌, ℕ, zero, suc, ◌+◌, ◌*◌, ◌-◌, ◌≤◌, true, false, cond, ◌&&◌, List, [], ◌∷◌, ◌++◌, Option, Some}
 use Rattle.iri_percent.proofs.Common.{None, length, refl, sym, ◌∙◌, ap, arith, length-append, ◌==◌, is_ascii_hexdigit, len_utf8}
 use Rattle.iri_percent.proofs.Common.{encode_utf8, length-encode, Tests, Plain, Char, is_triplet, octet, octets, first_char, triplet_unit}
-use Rattle.iri_percent.proofs.Common.{byte_unit, first_unit, unit_text, units_from, units, normal, as_it_is, pct, written, flat_map}
+use Rattle.iri_percent.proofs.Common.{byte_unit, first_unit, unit_text, read_from, units, normal, as_it_is, pct, written, flat_map}
 use Rattle.iri_percent.proofs.Common.{flat_map-append}
 use Rattle.std.proofs.lemmas.List.{take-append-le}
 use Rattle.std.proofs.Math.Bool.{and-false}
@@ -74,18 +74,19 @@ pub unit_within : (x : ℕ) (xs : List ℕ) → length (unit_text (first_unit x 
 unit_within x xs = let f = unit_prefix x xs in omega (arith, ap length f.split, length-append (unit_text (first_unit x xs)) f.rest)
 
 -- the units before a delimiter, the delimiter, and the units after it
-units_from_delimiter : (m n : ℕ) (a b : List ℕ) → IsOutsideTriplets m → n ≤ length a → units_from n (a ++ m ∷ b) ≡ units_from n a ++ Plain m ∷ units b
-unfolding units_from
-units_from_delimiter m zero [] b k h = units_plain m b k.percent
-units_from_delimiter m (suc n) [] b k h = absurd (omega arith)
-units_from_delimiter m (suc n) (x ∷ a) b k h = units_from_delimiter m n a b k (omega arith)
-units_from_delimiter m zero (x ∷ a) b k h =
+read_from_delimiter : (m n : ℕ) (a b : List ℕ) → IsOutsideTriplets m → n ≤ length a
+    → read_from first_unit unit_text n (a ++ m ∷ b) ≡ read_from first_unit unit_text n a ++ Plain m ∷ units b
+unfolding read_from
+read_from_delimiter m zero [] b k h = units_plain m b k.percent
+read_from_delimiter m (suc n) [] b k h = absurd (omega arith)
+read_from_delimiter m (suc n) (x ∷ a) b k h = read_from_delimiter m n a b k (omega arith)
+read_from_delimiter m zero (x ∷ a) b k h =
     let w = unit_within x a in
-    ap (λ u. u ∷ units_from (length (unit_text u) - 1) (a ++ m ∷ b)) (first_candidate m x a b k)
-    ∙ ap (λ us. first_unit x a ∷ us) (units_from_delimiter m (length (unit_text (first_unit x a)) - 1) a b k (omega arith))
+    ap (λ u. u ∷ read_from first_unit unit_text (length (unit_text u) - 1) (a ++ m ∷ b)) (first_candidate m x a b k)
+    ∙ ap (λ us. first_unit x a ∷ us) (read_from_delimiter m (length (unit_text (first_unit x a)) - 1) a b k (omega arith))
 
 pub units_delimiter : (m : ℕ) (a b : List ℕ) → IsOutsideTriplets m → units (a ++ m ∷ b) ≡ units a ++ Plain m ∷ units b
-units_delimiter m a b k = units_from_delimiter m 0 a b k (omega arith)
+units_delimiter m a b k = read_from_delimiter m 0 a b k (omega arith)
 
 pub normal_delimiter : (s : Tests) (f : ℕ → ℕ) (m : ℕ) (a b : List ℕ) → IsOutsideTriplets m → normal s f (a ++ m ∷ b) ≡ normal s f a ++ f m ∷ normal s f b
 normal_delimiter s f m a b k =

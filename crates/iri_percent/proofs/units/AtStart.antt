@@ -1,8 +1,8 @@
 -- How a text is read: octets, characters and units at its start.
 use Rattle.iri_percent.proofs.Common.{◌==◌, ◌/◌, list_all, is_ascii_hexdigit, len_utf8, chars, ltb, encode, encodes, next, scalar, scalars}
 use Rattle.iri_percent.proofs.Common.{encode_ascii, length-encode, take_at, drop_at, nat_tests, both, Plain, Char, Lone, Stray, is_triplet}
-use Rattle.iri_percent.proofs.Common.{octet, octets, first_char, triplet_unit, first_unit, unit_text, units_from, units, lacks, not-true}
-use Rattle.iri_percent.proofs.Common.{not, plains, ltb-true, ◌<◌, two_digits}
+use Rattle.iri_percent.proofs.Common.{octet, octets, first_char, triplet_unit, first_unit, unit_text, read_from, units, lacks, not-true}
+use Rattle.iri_percent.proofs.Common.{not, plains, ltb-true, ◌<◌, two_digits, TextUnit}
 use Rattle.std.proofs.Common.{◌≡◌, ℕ, zero, suc, ◌+◌, ◌*◌, ◌-◌, ◌≤◌, Bool, true, false, cond, ◌&&◌, List, [], ◌∷◌, ◌++◌, Some, None, length}
 use Rattle.std.proofs.Common.{take, drop, refl, sym, ◌∙◌, ap, subst, arith, append_assoc, append-nil, eq-eqb, eqb-true, ◌↔◌}
 use Rattle.std.specs.Int.{is_in_range}
@@ -213,11 +213,24 @@ continuation_none b bs k =
 
 -- ---- units
 -- bytes that belong to a unit already
-pub units_from_drop : (n : ℕ) (t : List ℕ) → units_from n t ≡ units (drop n t)
-unfolding units_from
-units_from_drop zero t = refl
-units_from_drop (suc n) [] = refl
-units_from_drop (suc n) (x ∷ xs) = units_from_drop n xs
+pub read_from_drop : (first : ℕ → List ℕ → TextUnit) (bytes : TextUnit → List ℕ) (n : ℕ) (t : List ℕ)
+    → read_from first bytes n t ≡ read_from first bytes 0 (drop n t)
+unfolding read_from
+read_from_drop first bytes zero t = refl
+read_from_drop first bytes (suc n) [] = refl
+read_from_drop first bytes (suc n) (x ∷ xs) = read_from_drop first bytes n xs
+
+-- a unit, and what is read after its bytes
+pub read_unit : (first : ℕ → List ℕ → TextUnit) (bytes : TextUnit → List ℕ) (x : ℕ) (ys xs : List ℕ) (u : TextUnit)
+    → first x (ys ++ xs) ≡ u → length (bytes u) ≡ length (x ∷ ys)
+    → read_from first bytes 0 (x ∷ (ys ++ xs)) ≡ u ∷ read_from first bytes 0 xs
+unfolding read_from
+read_unit first bytes x ys xs u h n =
+    let less : length (bytes u) - 1 ≡ length ys = omega (arith, n) in
+    ap (λ v. v ∷ read_from first bytes (length (bytes v) - 1) (ys ++ xs)) h
+    ∙ ap (λ m. u ∷ read_from first bytes m (ys ++ xs)) less
+    ∙ ap (λ us. u ∷ us) (read_from_drop first bytes (length ys) (ys ++ xs)
+    ∙ ap (read_from first bytes 0) (drop_at ys xs (length ys) refl))
 
 pub byte_other : (x : ℕ) (xs : List ℕ) → (x == 37) ≡ false → first_unit x xs ≡ Plain x
 byte_other x [] h = rw h refl
@@ -225,8 +238,7 @@ byte_other x (a ∷ []) h = rw h refl
 byte_other x (a ∷ b ∷ xs) h = rw h refl
 
 pub units_plain : (x : ℕ) (xs : List ℕ) → (x == 37) ≡ false → units (x ∷ xs) ≡ Plain x ∷ units xs
-unfolding units_from
-units_plain x xs h = ap (λ u. u ∷ units_from (length (unit_text u) - 1) xs) (byte_other x xs h)
+units_plain x xs h = read_unit first_unit unit_text x [] xs (Plain x) (byte_other x xs h) refl
 
 pub units_plains : (ys xs : List ℕ) → lacks 37 ys ≡ true → units (ys ++ xs) ≡ plains ys ++ units xs
 units_plains [] xs h = refl
@@ -241,8 +253,7 @@ unit_lone a b xs p q n =
 
 pub units_lone : (a b : ℕ) (xs : List ℕ) → is_ascii_hexdigit a ≡ true → is_ascii_hexdigit b ≡ true
     → first_char (octets (37 ∷ a ∷ b ∷ xs)) ≡ None → units (37 ∷ a ∷ b ∷ xs) ≡ Lone a b ∷ units xs
-unfolding units_from
-units_lone a b xs p q n = ap (λ u. u ∷ units_from (length (unit_text u) - 1) (a ∷ b ∷ xs)) (unit_lone a b xs p q n)
+units_lone a b xs p q n = read_unit first_unit unit_text 37 (a ∷ b ∷ []) xs (Lone a b) (unit_lone a b xs p q n) refl
 
 pub unit_char : (c a b : ℕ) (xs : List ℕ) → is_ascii_hexdigit a ≡ true → is_ascii_hexdigit b ≡ true
     → first_char (octets (37 ∷ a ∷ b ∷ xs)) ≡ Some c → first_unit 37 (a ∷ b ∷ xs) ≡ Char c (take (3 * len_utf8 c) (37 ∷ a ∷ b ∷ xs))
@@ -252,7 +263,6 @@ unit_char c a b xs p q n =
     ∙ ap (triplet_unit a b (37 ∷ a ∷ b ∷ xs)) n
 
 units_char_at : (c : ℕ) (sp os xs : List ℕ) → scalar c ≡ true → Spells sp os → os ≡ encode c → units (sp ++ xs) ≡ Char c sp ∷ units xs
-unfolding units_from
 units_char_at c sp os xs h none e = let b = encode_bytes c in let no : [] ≡ b.lead ∷ b.tail = e ∙ b.split in cc
 units_char_at c sp os xs h (more a b sp' os' p q k) e =
     let whole : octets (37 ∷ a ∷ b ∷ (sp' ++ xs)) ≡ encode c ++ octets xs =
@@ -264,19 +274,15 @@ units_char_at c sp os xs h (more a b sp' os' p q k) e =
     let taken : take (3 * len_utf8 c) (37 ∷ a ∷ b ∷ (sp' ++ xs)) ≡ 37 ∷ a ∷ b ∷ sp' = take_at (37 ∷ a ∷ b ∷ sp') xs (3 * len_utf8 c) long in
     let unit : first_unit 37 (a ∷ b ∷ (sp' ++ xs)) ≡ Char c (37 ∷ a ∷ b ∷ sp') =
     unit_char c a b (sp' ++ xs) p q first ∙ ap (λ l. Char c l) taken in
-    let less : length (37 ∷ a ∷ b ∷ sp') - 1 ≡ length (a ∷ b ∷ sp') = omega arith in
-    ap (λ u. u ∷ units_from (length (unit_text u) - 1) (a ∷ b ∷ (sp' ++ xs))) unit
-    ∙ ap (λ us. Char c (37 ∷ a ∷ b ∷ sp') ∷ us) (ap (λ n. units_from n (a ∷ b ∷ (sp' ++ xs))) less
-    ∙ units_from_drop (length (a ∷ b ∷ sp')) (a ∷ b ∷ (sp' ++ xs)) ∙ ap units (drop_at (a ∷ b ∷ sp') xs (length (a ∷ b ∷ sp')) refl))
+    read_unit first_unit unit_text 37 (a ∷ b ∷ sp') xs (Char c (37 ∷ a ∷ b ∷ sp')) unit refl
 
 pub units_char : (c : ℕ) (sp xs : List ℕ) → scalar c ≡ true → Spells sp (encode c) → units (sp ++ xs) ≡ Char c sp ∷ units xs
 units_char c sp xs h k = units_char_at c sp (encode c) xs h k refl
 
 pub units_stray : (xs : List ℕ) → two_digits xs ≡ false → units (37 ∷ xs) ≡ Stray ∷ units xs
-unfolding units_from
-units_stray [] h = refl
-units_stray (a ∷ []) h = refl
-units_stray (a ∷ b ∷ xs) h =
-    ap (λ v. cond v (triplet_unit a b (37 ∷ a ∷ b ∷ xs) (first_char (octets (37 ∷ a ∷ b ∷ xs)))) Stray
-    ∷ units_from (length (unit_text (cond v (triplet_unit a b (37 ∷ a ∷ b ∷ xs) (first_char (octets (37 ∷ a ∷ b ∷ xs)))) Stray)) - 1)
-    (a ∷ b ∷ xs)) h
+units_stray xs h = read_unit first_unit unit_text 37 [] xs Stray (stray xs h) refl
+  where
+    stray : (xs : List ℕ) → two_digits xs ≡ false → first_unit 37 xs ≡ Stray
+    stray [] h = refl
+    stray (a ∷ []) h = refl
+    stray (a ∷ b ∷ xs) h = ap (λ v. cond v (triplet_unit a b (37 ∷ a ∷ b ∷ xs) (first_char (octets (37 ∷ a ∷ b ∷ xs)))) Stray) h

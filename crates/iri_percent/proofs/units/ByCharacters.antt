@@ -1,12 +1,12 @@
 -- The units of a text, character by character and byte by byte.
-use Rattle.iri_percent.proofs.Common.{◌≡◌, ℕ, zero, suc, ◌-◌, ◌≤◌, true, false, ◌&&◌, List, [], ◌∷◌, ◌++◌, Some, length, drop}
+use Rattle.iri_percent.proofs.Common.{◌≡◌, ℕ, ◌≤◌, true, false, ◌&&◌, List, [], ◌∷◌, ◌++◌, Some, length}
 use Rattle.iri_percent.proofs.Common.{refl, sym, ◌∙◌, ap, subst, arith, ltb-true, ltb-false, ◌==◌, nat_lt}
-use Rattle.iri_percent.proofs.Common.{flat_map, list_all, is_ascii_hexdigit, chars, IsUtf8, encode, encodes, scalar, scalars, drop_at}
+use Rattle.iri_percent.proofs.Common.{flat_map, list_all, is_ascii_hexdigit, chars, IsUtf8, encode, encodes, scalar, scalars}
 use Rattle.iri_percent.proofs.Common.{encode_ascii, encodes-chars, scalars-chars, nat_tests, both, TextUnit, Plain, Char, Lone, Stray}
-use Rattle.iri_percent.proofs.Common.{IllFormed, octet, octets, first_char, first_unit, unit_text, units_from, units}
-use Rattle.iri_percent.proofs.Common.{two_digits, by_character, char_unit_text, char_units_from, char_units, plains, byte_units}
+use Rattle.iri_percent.proofs.Common.{IllFormed, octet, octets, first_char, first_unit, unit_text, read_from, units}
+use Rattle.iri_percent.proofs.Common.{two_digits, by_character, char_unit_text, char_units, plains, byte_units}
 use Rattle.iri_percent.proofs.units.AtStart.{Spells, none, more, octets_other, octets_triplet, octets_spelled, char_first}
-use Rattle.iri_percent.proofs.units.AtStart.{encode_bytes, encodes_triplet, byte_other, units_plain, units_lone, units_char}
+use Rattle.iri_percent.proofs.units.AtStart.{encode_bytes, encodes_triplet, read_unit, byte_other, units_plain, units_lone, units_char}
 use Rattle.iri_percent.proofs.units.ByBytes.{percent_same, units-by_chars, normal-by_bytes}
 use Rattle.iri_percent.proofs.units.Readings.{TextReading, nothing, other, spelled_char, lone_triplet, stray_percent, read_text}
 use Rattle.iri_percent.proofs.mapping.Texts.{is_high, encode-high}
@@ -104,27 +104,15 @@ octets_encoded cs (stray_percent cs' e r) w =
     ap octets (encodes_percent cs') ∙ octets_stray (encodes cs') (two_encoded cs' (suffix (37 ∷ []) cs' w) ∙ e) ∙ sym (octets_stray cs' e)
 
 -- ---- units
--- characters that belong to a unit already
-char_units_from_drop : (n : ℕ) (t : List ℕ) → char_units_from n t ≡ char_units (drop n t)
-unfolding char_units_from
-char_units_from_drop zero t = refl
-char_units_from_drop (suc n) [] = refl
-char_units_from_drop (suc n) (x ∷ xs) = char_units_from_drop n xs
-
 -- a unit that begins with `%`
 pub percent_unit : (sp xs : List ℕ) (u : TextUnit) (us : List TextUnit) → units (37 ∷ (sp ++ xs)) ≡ u ∷ us → unit_text u ≡ 37 ∷ sp
     → char_units (37 ∷ (sp ++ xs)) ≡ u ∷ char_units xs
-unfolding units_from char_units_from
+unfolding read_from
 percent_unit sp xs u us h e =
     let first : first_unit 37 (sp ++ xs) ≡ u = cc in
     let k = percent_same (sp ++ xs) (first_char (37 ∷ (sp ++ xs))) in
-    let less : length (37 ∷ sp) - 1 ≡ length sp = omega arith in
-    ap (λ v. v ∷ char_units_from (length (char_unit_text v) - 1) (sp ++ xs)) k.unit
-    ∙ ap (λ l. first_unit 37 (sp ++ xs) ∷ char_units_from (length l - 1) (sp ++ xs)) k.text
-    ∙ ap (λ v. v ∷ char_units_from (length (unit_text v) - 1) (sp ++ xs)) first
-    ∙ ap (λ l. u ∷ char_units_from (length l - 1) (sp ++ xs)) e
-    ∙ ap (λ l. u ∷ l) (ap (λ n. char_units_from n (sp ++ xs)) less ∙ char_units_from_drop (length sp) (sp ++ xs)
-    ∙ ap char_units (drop_at sp xs (length sp) refl))
+    let text : char_unit_text u ≡ 37 ∷ sp = ap char_unit_text (sym first) ∙ k.text ∙ ap unit_text first ∙ e in
+    read_unit first_char_unit char_unit_text 37 sp xs u (k.unit ∙ first) (ap length text)
 
 pub char_units_char : (c : ℕ) (sp os xs : List ℕ) → scalar c ≡ true → Spells sp os → os ≡ encode c
     → char_units (sp ++ xs) ≡ Char c sp ∷ char_units xs
@@ -135,7 +123,6 @@ char_units_char c sp os xs h (more a b sp' os' p q k) e =
 
 -- a character outside triplets
 pub char_units_plain : (c : ℕ) (xs : List ℕ) → scalar c ≡ true → (c == 37) ≡ false → char_units (encode c ++ xs) ≡ Plain c ∷ char_units xs
-unfolding char_units_from
 char_units_plain c xs h n =
     let b = encode_bytes c in
     let whole : encode c ++ xs ≡ b.lead ∷ (b.tail ++ xs) = ap (λ l. l ++ xs) b.split in
@@ -143,16 +130,11 @@ char_units_plain c xs h n =
     let unit : first_char_unit b.lead (b.tail ++ xs) ≡ Plain c =
     ap (λ u. by_character u (first_char (b.lead ∷ (b.tail ++ xs)))) (byte_other b.lead (b.tail ++ xs) (b.percent ∙ n))
     ∙ ap (λ o. by_character (Plain b.lead) o) first in
-    let less : length (b.lead ∷ b.tail) - 1 ≡ length b.tail = omega arith in
-    ap char_units whole
-    ∙ ap (λ u. u ∷ char_units_from (length (char_unit_text u) - 1) (b.tail ++ xs)) unit
-    ∙ ap (λ l. Plain c ∷ char_units_from (length l - 1) (b.tail ++ xs)) b.split
-    ∙ ap (λ l. Plain c ∷ l) (ap (λ n. char_units_from n (b.tail ++ xs)) less ∙ char_units_from_drop (length b.tail) (b.tail ++ xs)
-    ∙ ap char_units (drop_at b.tail xs (length b.tail) refl))
+    ap char_units whole ∙ read_unit first_char_unit char_unit_text b.lead b.tail xs (Plain c) unit (ap length b.split)
 
 -- the units of a list of characters, and those of its UTF-8
 units_encoded : (cs : List ℕ) → TextReading cs → scalars cs ≡ true → char_units (encodes cs) ≡ units cs
-unfolding units_from char_units_from
+unfolding read_from
 units_encoded cs nothing w = refl
 units_encoded cs (other c cs' e r) w =
     let k = both (scalar c) (scalars cs') w in

@@ -2,7 +2,7 @@
 use Rattle.iri_percent.proofs.Common.{◌≡◌, ℕ, true, false, cond, List, [], ◌∷◌, ◌++◌, None, refl, sym, ◌∙◌, ap, subst, ◌==◌, map}
 use Rattle.iri_percent.proofs.Common.{is_ascii_hexdigit, to_ascii_uppercase, chars, IsUtf8, encode, encodes, scalar, scalars, encodes-chars}
 use Rattle.iri_percent.proofs.Common.{scalars-chars, map-id, Tests, IsSpec, unreserved, both, Plain, Char, Lone, octets, first_char, units}
-use Rattle.iri_percent.proofs.Common.{two_digits, whole_triplets, char_units, char_units_from, pct, as_it_is, normal_unit, flat_map}
+use Rattle.iri_percent.proofs.Common.{two_digits, whole_triplets, char_units, read_from, pct, as_it_is, normal_unit, flat_map}
 use Rattle.iri_percent.specs.Triplets.{unit_in_form}
 use Rattle.iri_percent.proofs.units.AtStart.{Spells, encodes_triplet, units_lone}
 use Rattle.iri_percent.proofs.forms.ByUnits.{normal_nil, normal_plains, normal_lone, normal_char}
@@ -55,7 +55,7 @@ lone_formed s a b xs i p q n w k =
     ∙ sym (ap (map (unit_in_form s)) (percent_unit (a ∷ b ∷ []) xs (Lone a b) (units xs) (units_lone a b xs p q n) refl))
 
 nothing_formed : (s : Tests) → char_units [] ≡ map (unit_in_form s) (char_units [])
-unfolding char_units_from
+unfolding read_from
 nothing_formed s = refl
 
 encoded_formed : (s : Tests) (cs : List ℕ) → IsSpec s → TextReading cs → scalars cs ≡ true → whole_triplets (encodes cs) ≡ true → IsFormed s (encodes cs)

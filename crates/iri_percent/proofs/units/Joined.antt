@@ -2,7 +2,7 @@
 use Rattle.iri_percent.proofs.Common.{◌≡◌, ℕ, zero, suc, ◌*◌, ◌<◌, true, false, cond, ◌&&◌, List, [], ◌∷◌, ◌++◌, Option, Some, None, length}
 use Rattle.iri_percent.proofs.Common.{take, drop, refl, sym, ◌∙◌, ap, subst, arith, take-append-drop, eqb-true, ◌==◌, is_ascii_hexdigit}
 use Rattle.iri_percent.proofs.Common.{len_utf8, len_utf8_bounds, both, TextUnit, Plain, Stray, is_triplet, octets, first_char, triplet_unit}
-use Rattle.iri_percent.proofs.Common.{byte_unit, first_unit, unit_text, units_from, units, flat_map}
+use Rattle.iri_percent.proofs.Common.{byte_unit, first_unit, unit_text, read_from, units, flat_map}
 use Rattle.iri_percent.proofs.units.AtStart.{units_plain, units_char, units_lone, units_stray}
 use Rattle.iri_percent.proofs.units.Readings.{TextReading, nothing, other, spelled_char, lone_triplet, stray_percent, read_text}
 
@@ -45,7 +45,7 @@ unit_prefix x (a ∷ b ∷ xs) =
     ] refl
 
 joined : (t : List ℕ) → TextReading t → flat_map unit_text (units t) ≡ t
-unfolding units_from
+unfolding read_from
 joined _ nothing = refl
 joined _ (other x xs e r) = ap (flat_map unit_text) (units_plain x xs e) ∙ ap (λ l. x ∷ l) (joined xs r)
 joined _ (spelled_char c sp xs h k r) = ap (flat_map unit_text) (units_char c sp xs h k) ∙ ap (λ l. sp ++ l) (joined xs r)

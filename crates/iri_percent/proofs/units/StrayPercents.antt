@@ -1,6 +1,6 @@
 -- A text has whole triplets exactly where no unit of it is a stray `%`.
 use Rattle.iri_percent.proofs.Common.{◌≡◌, ℕ, suc, Bool, true, false, List, [], ◌∷◌, ◌++◌, refl, sym, ◌∙◌, ◌&&◌, ap, arith, not, list_all}
-use Rattle.iri_percent.proofs.Common.{flat_map, encode_utf8, not-true, TextUnit, Plain, Char, Lone, Stray, IllFormed, units, units_from}
+use Rattle.iri_percent.proofs.Common.{flat_map, encode_utf8, not-true, TextUnit, Plain, Char, Lone, Stray, IllFormed, units, read_from}
 use Rattle.iri_percent.proofs.Common.{whole_triplets, both, char_units, plains, byte_units}
 use Rattle.std.proofs.Common.{◌≢◌, ◌↔◌, true≢false}
 use Rattle.std.specs.List.{All}
@@ -19,7 +19,7 @@ abbrev all_free : List TextUnit → Bool
 all_free us = list_all (λ u. not (is_stray u)) us
 
 free_whole : (t : List ℕ) → TextReading t → all_free (units t) ≡ whole_triplets t
-unfolding units_from whole_triplets
+unfolding read_from whole_triplets
 free_whole _ nothing = refl
 free_whole _ (other x xs e r) = ap all_free (units_plain x xs e) ∙ free_whole xs r ∙ sym (whole_plain x xs e)
 free_whole _ (spelled_char c sp xs k sps r) = ap all_free (units_char c sp xs k sps) ∙ free_whole xs r ∙ sym (whole_after sp (encode_utf8 c) xs sps)
