@@ -8,7 +8,7 @@ pub use Rattle.std.proofs.lemmas.List.{nil_from_length, drop_all}
 pub use Rattle.std.proofs.lemmas.Str.{chars-nil, is_utf8-from_IsUtf8, len_utf8_bounds, IsCharBoundary-at_seam, IsCharBoundary-after_ascii}
 pub use Rattle.std.specs.Char.{encode_utf8, is_ascii_hexdigit, len_utf8, is_ascii_digit}
 pub use Rattle.std.specs.List.{flat_map, list_all}
-pub use Rattle.std.specs.Prelude.{OnOk, ◌==◌, nat_le, ◌⊎◌}
+pub use Rattle.std.specs.Prelude.{OnOk, ◌==◌, nat_le}
 pub use Rattle.std.specs.Str.{IsUtf8, chars, is_utf8, encode_utf8_all, IsCharBoundary}
 pub use Rattle.std.specs.Str.Iter.{chars_rest}
 pub use Rattle.std.specs.Str.Lossy.{utf8_valid_len}

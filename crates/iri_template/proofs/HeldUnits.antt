@@ -1,22 +1,24 @@
 -- The units of what is held back of a value, and of what follows it.
-use Rattle.iri_template.proofs.Common.{◌≡◌, ℕ, zero, suc, ◌+◌, ◌*◌, ◌-◌, ◌<◌, ◌≤◌, ◌⊎◌, ◌≢◌, Bool, true, false, cond, not, ◌&&◌, List, [], ◌∷◌}
+use Rattle.iri_template.proofs.Common.{◌≡◌, ℕ, zero, suc, ◌+◌, ◌*◌, ◌-◌, ◌<◌, ◌≤◌, Bool, true, false, cond, not, ◌&&◌, List, [], ◌∷◌}
 use Rattle.iri_template.proofs.Common.{◌++◌, Option, Some, None, length, take, drop, map, refl, sym, ◌∙◌, ap, subst, arith, append_assoc, append-nil}
 use Rattle.iri_template.proofs.Common.{◌==◌, length-append, length-drop, flat_map, is_ascii_hexdigit, encode_utf8, len_utf8, len_utf8_bounds, both, nat_tests}
 use Rattle.iri_template.proofs.Common.{Tests, any_char, TextUnit, units, limited, kept_unit, encoded_char, lacks, fewer, written_units}
-use Rattle.iri_template.proofs.Common.{by_test, IsUtf8, chars, chars-nil, written_chars, stays, is_begun, goes_on, held_unit, unit_len, is_used_up}
+use Rattle.iri_template.proofs.Common.{by_test, IsUtf8, chars, written_chars, stays, is_begun, goes_on, held_unit, unit_len, is_used_up}
 use Rattle.iri_template.proofs.Common.{is_ascii_any, is_ascii_reg_name, is_ascii_unreserved, is_sub_delim, is_gen_delim}
-use Rattle.iri_template.specs.inside.Held.{IsSettled}
 use Rattle.std.proofs.Common.{eqb-true, ◌%◌, inl, inr}
 use Rattle.std.proofs.lemmas.Bool.{cases_lt}
 use Rattle.std.proofs.lemmas.Grind.{flat_map-append}
-use Rattle.std.proofs.lemmas.List.{take-append-drop, take-append-le, take-map, length-map}
+use Rattle.std.proofs.lemmas.List.{take-append-drop, take-append-le, take-map, length-map, length-take-le}
 use Rattle.std.proofs.lemmas.Str.{encode_ascii, encodes-chars, length-encode}
-use Rattle.std.proofs.Math.Seq.{take-append_seam, drop-append_seam, take-nil}
+use Rattle.std.proofs.lemmas.Str.Ascii.{IsAscii-cons, IsAscii-nil}
+use Rattle.std.specs.Str.{IsAscii}
+use Rattle.iri_grammar.proofs.units.FirstUnits.{hex_is_ascii}
+use Rattle.std.proofs.Math.Seq.{take-append_seam, take-nil}
 use lib.Utf8.{encode, encodes}
 use Rattle.iri_grammar.specs.Classes.{IsSpec}
 use Rattle.iri_percent.specs.CharUnits.{plains}
 use Rattle.iri_percent.specs.Mapping.{triplets}
-use Rattle.iri_percent.specs.Units.{Char, Stray, is_triplet, octet, octets, first_char, two_digits, unit_text, read_from, well_formed}
+use Rattle.iri_percent.specs.Units.{Char, Stray, is_triplet, octet, octets, first_char, two_digits, unit_text, read_from}
 use Rattle.iri_percent.proofs.units.AtStart.{Spells, none, more, first_char_is, char_first, hex_apart, octets_other, octets_spelled, spelled}
 use Rattle.iri_percent.proofs.units.AtStart.{length-spelled, units_plain, units_plains, unit_lone, units_lone, unit_char, units_char, units_stray}
 
@@ -153,6 +155,31 @@ abbrev pub octets_of : Option ℕ → ℕ
 octets_of None = 1
 octets_of (Some c) = len_utf8 c
 
+spelled_ascii : (t os : List ℕ) → Spells t os → IsAscii t
+spelled_ascii t os none = IsAscii-nil
+spelled_ascii t os (more a b sp os' p q k) = IsAscii-cons 37 (a ∷ b ∷ sp) (omega arith)
+    (IsAscii-cons a (b ∷ sp) (hex_is_ascii a p) (IsAscii-cons b sp (hex_is_ascii b q) (spelled_ascii sp os' k)))
+
+-- a text that begins with the octets of a character
+pub record BeginsOctets (t : List ℕ) (c : ℕ) : Type 0 where
+  pub within : 3 * len_utf8 c ≤ length t
+  pub ascii : IsAscii (take (3 * len_utf8 c) t)
+  pub unit : (r : List ℕ) → units (take (3 * len_utf8 c) t ++ r) ≡ Char c (take (3 * len_utf8 c) t) ∷ units r
+
+pub begins_octets : (t : List ℕ) (c : ℕ) → first_char (octets t) ≡ Some c → BeginsOctets t c
+begins_octets t c e =
+    let g = first_char_is (octets t) c e in
+    let k = spelled (encode c) g.rest t g.split in
+    let long : length k.sp ≡ 3 * len_utf8 c = length-spelled k.sp (encode c) k.spells ∙ ap (λ n. 3 * n) (length-encode c) in
+    let taken : k.sp ≡ take (3 * len_utf8 c) t =
+    sym (ap (take (3 * len_utf8 c)) k.text ∙ ap (λ n. take n (k.sp ++ k.xs)) (sym long) ∙ take-append_seam k.sp k.xs) in
+    record {
+      within = omega (arith, long, ap length k.text, length-append k.sp k.xs);
+      ascii = subst IsAscii taken (spelled_ascii k.sp (encode c) k.spells);
+      unit = subst (λ (sp : List ℕ). (r : List ℕ) → units (sp ++ r) ≡ Char c sp ∷ units r) taken
+          (λ r. units_char c k.sp r g.is_scalar k.spells);
+    }
+
 pub record IsUnit (t : List ℕ) : Type 0 where
   pub n : ℕ
   pub some : 0 < n
@@ -179,25 +206,20 @@ unit_at a b t p q =
           }
       | Some c ↦ λ e.
           let whole = 37 ∷ a ∷ b ∷ t in
-          let g = first_char_is (octets whole) c e in
-          let sp = spelled (encode c) g.rest whole g.split in
-          let long : length sp.sp ≡ 3 * len_utf8 c = length-spelled sp.sp (encode c) sp.spells ∙ ap (λ n. 3 * n) (length-encode c) in
-          let taken : take (3 * len_utf8 c) whole ≡ sp.sp =
-          ap (take (3 * len_utf8 c)) sp.text ∙ ap (λ n. take n (sp.sp ++ sp.xs)) (sym long) ∙ take-append_seam sp.sp sp.xs in
-          let left : drop (3 * len_utf8 c) whole ≡ sp.xs =
-          ap (drop (3 * len_utf8 c)) sp.text ∙ ap (λ n. drop n (sp.sp ++ sp.xs)) (sym long) ∙ drop-append_seam sp.sp sp.xs in
-          let is : held_unit whole ≡ Char c sp.sp = unit_char c a b t p q e ∙ ap (λ l. Char c l) taken in
+          let k = begins_octets whole c e in
+          let is = unit_char c a b t p q e in
           let size = len_utf8_bounds c in
+          let sp = take (3 * len_utf8 c) whole in
+          let left = drop (3 * len_utf8 c) whole in
           record {
             n = len_utf8 c;
             some = omega (arith, size.0);
-            within = omega (arith, long, ap length sp.text, length-append sp.sp sp.xs);
-            len = ap (λ u. length (unit_text u)) is ∙ long;
+            within = k.within;
+            len = ap (λ u. length (unit_text u)) is ∙ length-take-le (3 * len_utf8 c) whole k.within;
             count = ap octets_of e;
-            text = λ s. ap (kept_unit s) is ∙ sym taken;
-            settled = λ r none. ap (λ l. units (l ++ r)) sp.text ∙ ap units (append_assoc sp.sp sp.xs r)
-                ∙ units_char c sp.sp (sp.xs ++ r) g.is_scalar sp.spells ∙ ap (λ u. u ∷ units (sp.xs ++ r)) (sym is)
-                ∙ ap (λ l. held_unit whole ∷ units (l ++ r)) (sym left);
+            text = λ s. ap (kept_unit s) is;
+            settled = λ r none. ap (λ l. units (l ++ r)) (sym (take-append-drop (3 * len_utf8 c) whole)) ∙ ap units (append_assoc sp left r)
+                ∙ k.unit (left ++ r) ∙ ap (λ u. u ∷ units (left ++ r)) (sym is);
           }
     ] refl
 
@@ -209,7 +231,7 @@ unit_of (x ∷ a ∷ d ∷ t) b h =
     let p = triplet_parts x a d (both (is_triplet x a d) (is_begun t) b).0 in
     subst (λ y. IsUnit (y ∷ a ∷ d ∷ t)) (sym p.0) (unit_at a d t p.1.0 p.1.1)
 
--- nothing that follows changes it
+-- ---- as many octets as a character has at most
 four_octets : (n : ℕ) (t : List ℕ) → is_begun t ≡ true → length t ≡ 3 * n → (os : List ℕ) × (Spells t os) × (length os ≡ n)
 four_octets zero [] b h = ([], none, refl)
 four_octets zero (x ∷ t) b h = absurd (omega (arith, h))
@@ -237,18 +259,14 @@ none_beyond os zs h e =
           cc
     ] refl
 
-none_settled : (t : List ℕ) → is_begun t ≡ true → (length t ≡ 12) ⊎ (first_char (octets t) ≢ None)
-    → (r : List ℕ) → first_char (octets t) ≡ None → first_char (octets (t ++ r)) ≡ None
-none_settled t b (inr some) r e = absurd (some e)
-none_settled t b (inl twelve) r e =
+-- what follows as many octets as a character has at most changes no unit
+pub unit_settled : (t r : List ℕ) → is_begun t ≡ true → length t ≡ 12 → units (t ++ r) ≡ held_unit t ∷ units (drop (unit_len t) t ++ r)
+unit_settled t r b twelve =
+    let u = unit_of t b (omega (arith, twelve)) in
     let f = four_octets 4 t b twelve in
     let bare : octets t ≡ f.0 = ap octets (sym (append-nil t)) ∙ octets_spelled t f.0 [] f.1 ∙ append-nil f.0 in
-    ap first_char (octets_spelled t f.0 r f.1) ∙ none_beyond f.0 (octets r) f.2 (ap first_char (sym bare) ∙ e)
-
-pub unit_settled : (t r : List ℕ) → is_begun t ≡ true → IsSettled t → units (t ++ r) ≡ held_unit t ∷ units (drop (unit_len t) t ++ r)
-unit_settled t r b k =
-    let u = unit_of t b k.some in
-    u.settled r (none_settled t b k.whole r) ∙ ap (λ n. held_unit t ∷ units (drop n t ++ r)) (sym u.len)
+    u.settled r (λ e. ap first_char (octets_spelled t f.0 r f.1) ∙ none_beyond f.0 (octets r) f.2 (ap first_char (sym bare) ∙ e))
+    ∙ ap (λ n. held_unit t ∷ units (drop n t ++ r)) (sym u.len)
 
 -- where nothing follows
 unit_first : (t : List ℕ) → is_begun t ≡ true → 3 ≤ length t → units t ≡ held_unit t ∷ units (drop (unit_len t) t)
@@ -361,25 +379,17 @@ held_apart (suc k) t r h b e =
           ∙ ap (λ us. us ++ units r) (sym (unit_first t b long ∙ ap (λ n. held_unit t ∷ units (drop n t)) u.len))
     ]
 
--- the text of the first unit, where it may be written
-unit_whole : (s : Tests) (t : List ℕ) → is_begun t ≡ true → 3 ≤ length t → take (unit_len t) t ≡ kept_unit s (held_unit t) ++ []
-unit_whole s t b h = let u = unit_of t b h in ap (λ n. take n t) u.len ∙ sym (append-nil (take (3 * u.n) t)) ∙ ap (λ l. l ++ []) (sym (u.text s))
+-- the text of a unit, where it may be written
+pub one_written : (s : Tests) (left : Option ℕ) (u : TextUnit) → cond (is_used_up left) [] (kept_unit s u) ≡ written_units s left (u ∷ [])
+one_written s None u = sym (append-nil (kept_unit s u))
+one_written s (Some zero) u = refl
+one_written s (Some (suc n)) u = sym (append-nil (kept_unit s u)) ∙ ap (λ us. flat_map (kept_unit s) (u ∷ us)) (sym (take-nil n))
 
 pub unit_written : (s : Tests) (left : Option ℕ) (t : List ℕ) → is_begun t ≡ true → 3 ≤ length t
-    → take (cond (is_used_up left) 0 (unit_len t)) t ≡ written_units s left (held_unit t ∷ [])
-unit_written s None t b h = unit_whole s t b h
-unit_written s (Some zero) t b h = refl
-unit_written s (Some (suc n)) t b h = unit_whole s t b h ∙ ap (λ us. flat_map (kept_unit s) (held_unit t ∷ us)) (sym (take-nil n))
-
-no_char : first_char [] ≡ None
-unfolding first_char
-no_char = ap (well_formed []) chars-nil
-
-pub char_settled : (t : List ℕ) (c : ℕ) → first_char (octets t) ≡ Some c → IsSettled t
-char_settled [] c h = let none = no_char in cc
-char_settled (x ∷ []) c h = let none = no_char in cc
-char_settled (x ∷ a ∷ []) c h = let none = no_char in cc
-char_settled (x ∷ a ∷ b ∷ t) c h = record { some = omega arith; whole = inr (λ n. cc) }
+    → cond (is_used_up left) [] (take (unit_len t) t) ≡ written_units s left (held_unit t ∷ [])
+unit_written s left t b h =
+    let u = unit_of t b h in
+    ap (cond (is_used_up left) []) (ap (λ n. take n t) u.len ∙ sym (u.text s)) ∙ one_written s left (held_unit t)
 
 -- how long it is, by the character with which the text begins
 pub unit_counted : (t : List ℕ) (o : Option ℕ) → is_begun t ≡ true → 3 ≤ length t → first_char (octets t) ≡ o → unit_len t ≡ 3 * octets_of o

@@ -5,18 +5,23 @@
 ghost use Rattle.std.specs.Prelude.{◌≡◌, ◌≤◌, ◌∷◌, [], ◌-◌, ◌==◌, true, false, length, take, drop, cond, OnOk, None, MatchOption};
 ghost use Rattle.std.specs.Bool.{OnTrue};
 ghost use Rattle.std.specs.Str.{chars};
+ghost use Rattle.iri_grammar.specs.Classes.{any_char};
+ghost use Rattle.iri_percent.specs.Encoding.{encoded};
 ghost use Rattle.iri_percent.specs.Units.{units};
 ghost use Rattle.iri_text.specs.Shown.{Shows};
 ghost use Rattle.iri_template.specs.Expansion.{limited, shown_text};
 ghost use Rattle.iri_template.specs.inside.Held.{fewer, goes_on, is_begun, is_used_up, held_unit, unit_len, written_units, written_chars};
 ghost use Rattle.iri_template.specs.inside.Reads.{IsHeld, Reads, kept_rest};
-ghost use Rattle.iri_template.specs.inside.Pieces.{IsCut, IsPlainRun, piece_chars};
+ghost use Rattle.iri_template.specs.inside.Pieces.{IsCut, IsPieceWhere, piece_chars};
 
 use crate::byte_count::is_within;
 use crate::held::Held;
+use iri_grammar::class::Class;
 use iri_grammar::cutting::cut_before;
+use iri_grammar::over::past_run;
 use iri_grammar::spec::Spec;
 use iri_percent::PercentEncoded;
+use iri_percent::character::triplets_char;
 use iri_text::{Show, Stop, TextSink};
 use std::marker::PhantomData;
 
@@ -83,13 +88,24 @@ fn cut_chars(text: &str, most: u16) -> (&str, u16)
     (&text[..text.len() - chars.as_str().len()], 0)
 }
 
+// Writes a text in which reserved characters stay. Where all are characters of a reference in ASCII, it is put as it
+// stands and isn't read again by characters (131 instructions a line of `expand`, 3 %, 2026-12-01).
+pub(crate) fn put_reserved<S: Spec, W: TextSink>(sink: &mut W, text: &str) -> Result<(), Stop>
+    ensures { Shows W.puts W.halts W.stops sink.old (encoded (any_char S.tests) text.now) sink.new result }
+{
+    if past_run(Class::Any, text).is_empty() {
+        return sink.put(text);
+    }
+    PercentEncoded::<&str, S>::characters(text).show(sink)
+}
+
 #[tactic(auto, unfolding(iri_percent::specs::Encoding::encoded))]
 fn put_all<S: Spec, W: TextSink>(sink: &mut W, allow: bool, text: &str) -> Result<(), Stop>
     ensures { Shows W.puts W.halts W.stops sink.old
         (written_chars S.tests allow None (chars text.now)) sink.new result }
 {
     if allow {
-        PercentEncoded::<&str, S>::characters(text).show(sink)
+        put_reserved::<S, W>(sink, text)
     } else {
         PercentEncoded::<&str, S>::unreserve(text).show(sink)
     }
@@ -137,28 +153,31 @@ fn is_plain(state: &Reading) -> bool
     state.held.len() == 0
 }
 
-// How many bytes of a unit are written that has so many.
-fn written_len(left: Option<u16>, len: usize) -> usize
-    ensures written { result ≡ cond (is_used_up left) 0 len }
-    ensures within { result ≤ len }
+// Writes the percent-encoded octets of one character, or a lone one, where a character may be written.
+fn put_octets<W: TextSink>(sink: &mut W, left: &mut Option<u16>, octets: &str) -> Result<(), Stop>
+    ensures shows { Shows W.puts W.halts W.stops sink.old (cond (is_used_up left.old) [] octets.now) sink.new result }
+    ensures left { left.new ≡ fewer left.old 1 }
 {
-    if is_used_up(left) { 0 } else { len }
+    if is_used_up(*left) {
+        return Ok(());
+    }
+    *left = left.map(|n| n.saturating_sub(1));
+    sink.put(octets)
 }
 
-// Writes the first unit of what is held back, which has so many bytes, where it may be written.
-// Called in two places: in line, a byte of octets costs 124 instructions, else 127 (2026-12-01).
+// Writes the first unit of what is held back, where it may be written.
+// Called in two places: in line, a byte of lone octets costs 130 instructions, else 133 (2026-12-01).
 #[inline(always)]
-fn put_unit<S: Spec, W: TextSink>(sink: &mut W, state: &mut Reading, len: usize) -> Result<(), Stop>
+fn put_unit<S: Spec, W: TextSink>(sink: &mut W, state: &mut Reading) -> Result<(), Stop>
     requires begun { is_begun state.old.held ≡ true }
     requires some { 3 ≤ length state.old.held }
-    requires len { len ≡ unit_len state.old.held }
     ensures shows { Shows W.puts W.halts W.stops sink.old
         (written_units S.tests state.old.left (held_unit state.old.held ∷ [])) sink.new result }
     ensures left { state.new.left ≡ fewer state.old.left 1 }
     ensures held { state.new.held ≡ drop (unit_len state.old.held) state.old.held }
 {
-    let result = sink.put(state.held.start(written_len(state.left, len)));
-    state.left = state.left.map(|n| n.saturating_sub(1));
+    let len = state.held.unit_len();
+    let result = put_octets(sink, &mut state.left, state.held.start(len));
     state.held.release(len);
     result
 }
@@ -173,8 +192,7 @@ fn put_held<S: Spec, W: TextSink>(sink: &mut W, state: &mut Reading) -> Result<(
     ensures held { IsHeld state.new }
 {
     'units: while state.held.len() >= 3 {
-        let len = state.held.unit_len();
-        put_unit::<S, W>(sink, state, len)?;
+        put_unit::<S, W>(sink, state)?;
     }
     if is_plain(state) {
         return Ok(());
@@ -185,7 +203,8 @@ fn put_held<S: Spec, W: TextSink>(sink: &mut W, state: &mut Reading) -> Result<(
     result
 }
 
-// Takes a character that goes on with what is held back, and writes the first unit of that once nothing changes it.
+// Takes a character that goes on with what is held back, and writes the first unit of that once it has as many bytes as
+// the longest spelling of a character: four octets of three.
 #[tactic(auto, using(crate::proofs::HeldUnits::on_ascii))]
 fn take_char<S: Spec, W: TextSink>(sink: &mut W, state: &mut Reading, c: u8) -> Result<(), Stop>
     requires held { IsHeld state.old }
@@ -195,10 +214,10 @@ fn take_char<S: Spec, W: TextSink>(sink: &mut W, state: &mut Reading, c: u8) -> 
     ensures held { IsHeld state.new }
 {
     state.held.push(c);
-    match state.held.settled_len() {
-        Some(len) => put_unit::<S, W>(sink, state, len),
-        None => Ok(()),
+    if state.held.len() < 12 {
+        return Ok(());
     }
+    put_unit::<S, W>(sink, state)
 }
 
 #[tactic(auto, using(crate::proofs::HeldUnits::on_ascii))]
@@ -219,18 +238,25 @@ fn put_char<S: Spec, W: TextSink>(sink: &mut W, state: &mut Reading, c: char) ->
     put_plain::<S, W>(sink, &mut state.left, c)
 }
 
-// What is read at once: a run without `%`, or a character.
+// What is read at once: a run without `%`, the percent-encoded octets of a character, or a character.
 #[derive(Clone, Copy)]
 pub(crate) enum Piece<'t> {
     Run(&'t str),
+    Octets(&'t str),
     Char(char),
 }
 
-// What is read first of a text, a run where nothing is held back; and what follows. None where the text is empty.
+// What is read first of a text, and what follows: a run or octets only where nothing is held back. None where the text is
+// empty. A byte of octets that are read at once costs 71 instructions, of those read by characters 124 (2026-12-01).
+#[inline(always)]
 fn next_piece(text: &str, plain: bool) -> Option<(Piece<'_>, &str)>
     ensures { MatchOption result (length text.now ≡ 0) (λ p. IsCut plain text.now p.0 p.1.now) }
 {
     if plain {
+        if let Some(c) = triplets_char(text.as_bytes()) {
+            let (octets, rest) = text.split_at(3 * c.len_utf8());
+            return Some((Piece::Octets(octets), rest));
+        }
         let (run, rest) = cut_before(text, b'%');
         if !run.is_empty() {
             return Some((Piece::Run(run), rest));
@@ -247,13 +273,14 @@ fn put_piece<S: Spec, W: TextSink>(
     piece: Piece<'_>,
 ) -> Result<(), Stop>
     requires held { IsHeld state.old }
-    requires plain { IsPlainRun state.old piece }
+    requires plain { IsPieceWhere (state.old.held ≡ []) piece }
     ensures reads { Reads (kept_rest S.tests) W.puts W.halts W.stops state.old sink.old
         (piece_chars piece.entry) state.new sink.new result }
     ensures held { IsHeld state.new }
 {
     match piece {
         Piece::Run(run) => put_chars::<S, W>(sink, &mut state.left, true, run),
+        Piece::Octets(octets) => put_octets(sink, &mut state.left, octets),
         Piece::Char(c) => put_char::<S, W>(sink, state, c),
     }
 }

@@ -1,9 +1,6 @@
 //! Expansions that are written: their expressions (RFC 6570 section 3.2.1), and the literals between them (section 3.1).
 ghost use Rattle.std.specs.Prelude.{◌≡◌, ◌≤◌, ◌<◌, ◌+◌, ◌*◌, ◌^◌, ◌||◌, [], ◌∷◌, false, cond, None, map, length, IfErr};
 ghost use Rattle.std.specs.Prelude.{OnOk, ◌-◌};
-ghost use Rattle.iri_grammar.specs.Classes.{any_char};
-ghost use Rattle.iri_percent.specs.Encoding.{encoded};
-ghost use Rattle.iri_text.specs.Shown.{Shows};
 ghost use Rattle.iri_template.specs.Expansion.{row_of, value_texts};
 ghost use Rattle.iri_template.specs.Fault.{text_fault};
 ghost use Rattle.iri_template.specs.Portions.{varspec_portion, varspec_portions, portions};
@@ -19,6 +16,7 @@ ghost use Rattle.iri_template.specs.inside.PartEnds.{PartEnds, PartCalls, calls_
 ghost use Rattle.iri_template.specs.Variables.{varspecs_left};
 
 use crate::dynamic_context::DynamicContext;
+use crate::encoded_value::put_reserved;
 use crate::error::{Error, ErrorKind};
 use crate::operator::Operator;
 use crate::part::Part;
@@ -27,11 +25,8 @@ use crate::type_check::TypeCheck;
 use crate::value_writer::{ExpressionState, ValueWriter};
 use crate::varspec::VarSpec;
 use crate::varspecs::VarSpecs;
-use iri_grammar::class::Class;
-use iri_grammar::over::past_run;
 use iri_grammar::spec::Spec;
-use iri_percent::PercentEncoded;
-use iri_text::{Show, Stop, TextSink};
+use iri_text::{Stop, TextSink};
 
 // Looks at the value that the context tells next: whether the varspec has no use for it.
 fn looks_mistyped<C: DynamicContext>(context: &mut C, varspec: VarSpec<'_>) -> bool
@@ -157,17 +152,6 @@ fn write_result(put: Result<(), Stop>, begin: usize) -> Result<(), Error>
     put.map_err(|_| Error::new(ErrorKind::WriteFailed, begin))
 }
 
-// Writes literals. Those of ASCII stay, and are put without being read again by characters (136 instructions a line of
-// `expand`, 3 %, 2026-12-01).
-fn put_literals<S: Spec, W: TextSink>(sink: &mut W, literals: &str) -> Result<(), Stop>
-    ensures { Shows W.puts W.halts W.stops sink.old (encoded (any_char S.tests) literals.now) sink.new result }
-{
-    if past_run(Class::Any, literals).is_empty() {
-        return sink.put(literals);
-    }
-    PercentEncoded::<&str, S>::characters(literals).show(sink)
-}
-
 // Writes a part. `begin` is the place of the literals and percent-encoded octets to which it belongs, where it is one.
 fn write_part<C: DynamicContext, S: Spec, W: TextSink>(
     sink: &mut W,
@@ -189,7 +173,7 @@ fn write_part<C: DynamicContext, S: Spec, W: TextSink>(
         Part::Expression(operator, varspecs) => {
             write_varspecs::<C, S, W>(sink, context, operator, varspecs)
         }
-        Part::Literals(literals) => write_result(put_literals::<S, W>(sink, literals), begin),
+        Part::Literals(literals) => write_result(put_reserved::<S, W>(sink, literals), begin),
         Part::Triplet(triplet) => write_result(sink.put(triplet), begin),
     }
 }

@@ -1,8 +1,8 @@
 //! What is held back of a value that comes in pieces: percent-encoded octets of a character whose others may follow,
 //! and the beginning of one more.
-ghost use Rattle.std.specs.Prelude.{◌≡◌, ◌≤◌, ◌<◌, ◌++◌, ◌∷◌, [], length, take, drop, true, IfNone, IfSome};
+ghost use Rattle.std.specs.Prelude.{◌≡◌, ◌≤◌, ◌<◌, ◌++◌, ◌∷◌, [], length, take, drop, true};
 ghost use Rattle.std.specs.Str.{chars};
-ghost use Rattle.iri_template.specs.inside.Held.{IsSettled, goes_on, is_begun, unit_len};
+ghost use Rattle.iri_template.specs.inside.Held.{goes_on, is_begun, unit_len};
 
 use iri_percent::character::triplets_char;
 use std::marker::Model;
@@ -60,21 +60,6 @@ impl Held {
     {
         self.buf[self.len] = c;
         self.len += 1;
-    }
-
-    // How many bytes its first unit has, where nothing that follows changes it.
-    pub(crate) fn settled_len(&self) -> Option<usize>
-        requires { is_begun self.now ≡ true }
-        ensures settled { IfSome result (λ n. IsSettled self.now × (n ≡ unit_len self.now)) }
-        ensures room { IfNone result (length self.now < 12) }
-    {
-        if self.len % 3 > 0 {
-            return None;
-        }
-        match triplets_char(&self.buf[..self.len]) {
-            Some(c) => Some(3 * c.len_utf8()),
-            None => { if self.len == 12 { Some(3) } else { None } }
-        }
     }
 
     // How many bytes its first unit has.

@@ -1,11 +1,11 @@
 -- What is held back of a value that comes in pieces: triplets of a character whose others may follow, and the beginning of one more.
-use Rattle.std.specs.Prelude.{◌≡◌, ◌≢◌, ◌≤◌, ◌⊎◌, ℕ, zero, ◌-◌, ◌%◌, Bool, true, false, cond, ◌&&◌, ◌==◌, List, [], ◌∷◌, Option, Some, None, length}
+use Rattle.std.specs.Prelude.{ℕ, zero, ◌-◌, ◌%◌, Bool, true, false, cond, ◌&&◌, ◌==◌, List, [], ◌∷◌, Option, Some, None, length}
 use Rattle.std.specs.Char.{is_ascii_hexdigit}
 use Rattle.std.specs.List.{flat_map}
 use Rattle.iri_grammar.specs.Characters.{percent_sign}
 use Rattle.iri_grammar.specs.Classes.{Tests, any_char, unreserved}
 use Rattle.iri_percent.specs.Encoding.{encoded_char}
-use Rattle.iri_percent.specs.Units.{TextUnit, Stray, is_triplet, octets, first_char, first_unit, unit_text}
+use Rattle.iri_percent.specs.Units.{TextUnit, Stray, is_triplet, first_unit, unit_text}
 use Rattle.iri_template.specs.Expansion.{limited, kept_unit}
 
 -- ---- how much may still be written
@@ -52,8 +52,3 @@ held_unit (x ∷ xs) = first_unit x xs
 -- how many bytes that has
 abbrev pub unit_len : List ℕ → ℕ
 unit_len t = length (unit_text (held_unit t))
-
--- nothing that follows changes it: it is a character, or as many octets as one has begin none
-pub record IsSettled (t : List ℕ) : Type 0 where
-  pub some : 3 ≤ length t
-  pub whole : (length t ≡ 12) ⊎ (first_char (octets t) ≢ None)

@@ -8,43 +8,45 @@ use Rattle.iri_template.proofs.encoded_value.take_char.Goals as goal
 begun_now : (t u : List ℕ) (c : ℕ) → is_begun t ≡ true → goes_on t c ≡ true → u ≡ t ++ c ∷ [] → is_begun u ≡ true
 begun_now t u c b h e = ap is_begun e ∙ begun_more t c b h
 
-pub settled_len-requires : goal.settled_len-requires
-settled_len-requires g c = begun_now c.args.state.now.held c.push.new.self c.args.c c.requires.held.begun c.requires.goes_on c.push.ensures
-
 pub put_unit-requires-clause-begun : goal.put_unit-requires-clause-begun
 put_unit-requires-clause-begun g c = begun_now c.args.state.now.held c.push.new.self c.args.c c.requires.held.begun c.requires.goes_on c.push.ensures
 
-pub put_unit-requires-clause-some : goal.put_unit-requires-clause-some
-put_unit-requires-clause-some g c = c.in-Some.ensures.settled.0.some
-
-pub returns-in-Some-clause-reads : goal.returns-in-Some-clause-reads
-returns-in-Some-clause-reads g c =
+pub returns-clause-reads : goal.returns-clause-reads
+returns-clause-reads g c =
     let a = c.args.state.now in
     let t = c.push.new.self in
     let put = c.put_unit.ensures in
     let b = begun_now a.held t c.args.c c.requires.held.begun c.requires.goes_on c.push.ensures in
+    let twelve : length t ≡ 12 = omega (
+      arith,
+      ap length c.push.ensures,
+      length-append a.held (c.args.c ∷ []),
+      c.requires.held.room,
+      c.len.ensures.len,
+      c.if-len-lt12.false,
+    ) in
     reads_units g.S.Spec.tests g.met.W.TextSink.rules (c.args.c ∷ []) (held_unit t ∷ []) put.shows
-    (λ r. ap units (joined_text a.held t c.args.c r c.push.ensures) ∙ unit_settled t r b c.in-Some.ensures.settled.0
+    (λ r. ap units (joined_text a.held t c.args.c r c.push.ensures) ∙ unit_settled t r b twelve
     ∙ ap (λ l. held_unit t ∷ units (l ++ r)) (sym put.held)) put.left
 
-pub returns-in-Some-clause-held : goal.returns-in-Some-clause-held
-returns-in-Some-clause-held g c =
+pub returns-clause-held : goal.returns-clause-held
+returns-clause-held g c =
     let a = c.args.state.now in
     let t = c.push.new.self in
     let put = c.put_unit.ensures in
     let b = begun_now a.held t c.args.c c.requires.held.begun c.requires.goes_on c.push.ensures in
-    let left = after_unit t c.put_unit.new.state.held b c.in-Some.ensures.settled.0.some put.held in
     let len : length t ≤ 12 = omega (arith, ap length c.push.ensures, length-append a.held (c.args.c ∷ []), c.requires.held.room) in
+    let left = after_unit t c.put_unit.new.state.held b (omega (arith, c.len.ensures.len, c.if-len-lt12.false)) put.held in
     record { begun = left.0; room = omega (arith, left.1, len) }
 
-pub returns-in-None-clause-reads : goal.returns-in-None-clause-reads
-returns-in-None-clause-reads g c =
+pub returns-then-len-lt12-clause-reads : goal.returns-then-len-lt12-clause-reads
+returns-then-len-lt12-clause-reads g c =
     let a = c.args.state.now in
     reads_silently g.met.W.TextSink.rules (λ r. ap (λ l. written_units g.S.Spec.tests a.left (units l))
     (joined_text a.held c.push.new.self c.args.c r c.push.ensures))
 
-pub returns-in-None-clause-held : goal.returns-in-None-clause-held
-returns-in-None-clause-held g c = record {
+pub returns-then-len-lt12-clause-held : goal.returns-then-len-lt12-clause-held
+returns-then-len-lt12-clause-held g c = record {
   begun = begun_now c.args.state.now.held c.push.new.self c.args.c c.requires.held.begun c.requires.goes_on c.push.ensures;
-  room = c.in-None.ensures.room;
+  room = omega (arith, c.len.ensures.len, c.if-len-lt12.true);
 }

@@ -5,7 +5,7 @@ use Rattle.iri_grammar.specs.ClassTests.{ascii_test}
 use Rattle.iri_grammar.specs.declared.class.Class.TheVariants.{Any}
 use Rattle.iri_grammar.proofs.units.ClassLaws.{class_has_ascii}
 use Rattle.iri_percent.proofs.coding.EncodedRuns.{past_ascii, encoded-none}
-use Rattle.iri_template.proofs.expansion_writer.put_literals.Goals as goal
+use Rattle.iri_template.proofs.encoded_value.put_reserved.Goals as goal
 
 -- ASCII characters of references stay
 stay : (s : Tests) → IsSpec s → (t : List ℕ) → IsUtf8 t → length (drop (run_of (ascii_test Any) t) t) ≡ 0 → t ≡ encoded (any_char s) t
@@ -17,7 +17,7 @@ stay s l t u h =
 pub returns-then-is_empty : goal.returns-then-is_empty
 returns-then-is_empty g c =
     let w = g.W.TextSink in
-    let t = c.args.literals.now in
+    let t = c.args.text.now in
     let none : length c.past_run.result.now ≡ 0 = grind (arith, nat_tests, c.is_empty.ensures, c.if-is_empty.true) in
     subst (λ x. Shows w.puts w.halts w.stops c.args.sink.now x c.put.new.self c.put.result)
-    (stay g.S.Spec.tests g.met.S.Spec.lawful t c.utf8.literals (ap length (sym c.past_run.ensures) ∙ none)) c.put.ensures
+    (stay g.S.Spec.tests g.met.S.Spec.lawful t c.utf8.text (ap length (sym c.past_run.ensures) ∙ none)) c.put.ensures
