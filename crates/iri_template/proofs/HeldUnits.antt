@@ -8,7 +8,7 @@ use Rattle.iri_template.proofs.Common.{is_ascii_any, is_ascii_reg_name, is_ascii
 use Rattle.std.proofs.Common.{eqb-true, ◌%◌, inl, inr}
 use Rattle.std.proofs.lemmas.Bool.{cases_lt}
 use Rattle.std.proofs.lemmas.Grind.{flat_map-append}
-use Rattle.std.proofs.lemmas.List.{take-append-drop, take-append-le, take-map, length-map, length-take-le}
+use Rattle.std.proofs.lemmas.List.{take-append-drop, take-append-le, take-map, length-map, length-take-le, take_at}
 use Rattle.std.proofs.lemmas.Str.{encode_ascii, encodes-chars, length-encode}
 use Rattle.std.proofs.lemmas.Str.Ascii.{IsAscii-cons, IsAscii-nil}
 use Rattle.std.specs.Str.{IsAscii}
@@ -16,9 +16,10 @@ use Rattle.iri_grammar.proofs.units.FirstUnits.{hex_is_ascii}
 use Rattle.std.proofs.Math.Seq.{take-append_seam, take-nil}
 use lib.Utf8.{encode, encodes}
 use Rattle.iri_grammar.specs.Classes.{IsSpec}
+use Rattle.iri_template.specs.inside.Pieces.{IsOctets}
 use Rattle.iri_percent.specs.CharUnits.{plains}
 use Rattle.iri_percent.specs.Mapping.{triplets}
-use Rattle.iri_percent.specs.Units.{Char, Stray, is_triplet, octet, octets, first_char, two_digits, unit_text, read_from}
+use Rattle.iri_percent.specs.Units.{Stray, is_triplet, octet, octets, first_char, two_digits, unit_text, read_from}
 use Rattle.iri_percent.proofs.units.AtStart.{Spells, none, more, first_char_is, char_first, hex_apart, octets_other, octets_spelled, spelled}
 use Rattle.iri_percent.proofs.units.AtStart.{length-spelled, units_plain, units_plains, unit_lone, units_lone, unit_char, units_char, units_stray}
 
@@ -160,25 +161,16 @@ spelled_ascii t os none = IsAscii-nil
 spelled_ascii t os (more a b sp os' p q k) = IsAscii-cons 37 (a ∷ b ∷ sp) (omega arith)
     (IsAscii-cons a (b ∷ sp) (hex_is_ascii a p) (IsAscii-cons b sp (hex_is_ascii b q) (spelled_ascii sp os' k)))
 
--- a text that begins with the octets of a character
-pub record BeginsOctets (t : List ℕ) (c : ℕ) : Type 0 where
-  pub within : 3 * len_utf8 c ≤ length t
-  pub ascii : IsAscii (take (3 * len_utf8 c) t)
-  pub unit : (r : List ℕ) → units (take (3 * len_utf8 c) t ++ r) ≡ Char c (take (3 * len_utf8 c) t) ∷ units r
-
-pub begins_octets : (t : List ℕ) (c : ℕ) → first_char (octets t) ≡ Some c → BeginsOctets t c
-begins_octets t c e =
-    let g = first_char_is (octets t) c e in
+-- the octets of the character with which those of a text begin
+pub begins_octets : (t : List ℕ) (c n : ℕ) → first_char (octets t) ≡ Some c → n ≡ 3 * len_utf8 c → (n ≤ length t) × IsOctets c (take n t)
+begins_octets t c n h e =
+    let g = first_char_is (octets t) c h in
     let k = spelled (encode c) g.rest t g.split in
-    let long : length k.sp ≡ 3 * len_utf8 c = length-spelled k.sp (encode c) k.spells ∙ ap (λ n. 3 * n) (length-encode c) in
-    let taken : k.sp ≡ take (3 * len_utf8 c) t =
-    sym (ap (take (3 * len_utf8 c)) k.text ∙ ap (λ n. take n (k.sp ++ k.xs)) (sym long) ∙ take-append_seam k.sp k.xs) in
-    record {
-      within = omega (arith, long, ap length k.text, length-append k.sp k.xs);
-      ascii = subst IsAscii taken (spelled_ascii k.sp (encode c) k.spells);
-      unit = subst (λ (sp : List ℕ). (r : List ℕ) → units (sp ++ r) ≡ Char c sp ∷ units r) taken
-          (λ r. units_char c k.sp r g.is_scalar k.spells);
-    }
+    let long : length k.sp ≡ n = length-spelled k.sp (encode c) k.spells ∙ ap (λ m. 3 * m) (length-encode c) ∙ sym e in (
+      omega (arith, long, ap length k.text, length-append k.sp k.xs),
+      subst (IsOctets c) (sym (ap (take n) k.text ∙ take_at k.sp k.xs n long))
+          (record { ascii = spelled_ascii k.sp (encode c) k.spells; unit = λ r. units_char c k.sp r g.is_scalar k.spells }),
+    )
 
 pub record IsUnit (t : List ℕ) : Type 0 where
   pub n : ℕ
@@ -206,20 +198,20 @@ unit_at a b t p q =
           }
       | Some c ↦ λ e.
           let whole = 37 ∷ a ∷ b ∷ t in
-          let k = begins_octets whole c e in
+          let n = 3 * len_utf8 c in
+          let k = begins_octets whole c n e refl in
           let is = unit_char c a b t p q e in
           let size = len_utf8_bounds c in
-          let sp = take (3 * len_utf8 c) whole in
-          let left = drop (3 * len_utf8 c) whole in
+          let left = drop n whole in
           record {
             n = len_utf8 c;
             some = omega (arith, size.0);
-            within = k.within;
-            len = ap (λ u. length (unit_text u)) is ∙ length-take-le (3 * len_utf8 c) whole k.within;
+            within = k.0;
+            len = ap (λ u. length (unit_text u)) is ∙ length-take-le n whole k.0;
             count = ap octets_of e;
             text = λ s. ap (kept_unit s) is;
-            settled = λ r none. ap (λ l. units (l ++ r)) (sym (take-append-drop (3 * len_utf8 c) whole)) ∙ ap units (append_assoc sp left r)
-                ∙ k.unit (left ++ r) ∙ ap (λ u. u ∷ units (left ++ r)) (sym is);
+            settled = λ r none. ap (λ l. units (l ++ r)) (sym (take-append-drop n whole)) ∙ ap units (append_assoc (take n whole) left r)
+                ∙ k.1.unit (left ++ r) ∙ ap (λ u. u ∷ units (left ++ r)) (sym is);
           }
     ] refl
 

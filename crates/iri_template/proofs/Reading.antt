@@ -5,6 +5,7 @@ use Rattle.iri_template.proofs.Common.{shows_all}
 use Rattle.iri_template.proofs.Common.{shows_then, shows_exit, Stop, Tests, Reads, kept_rest, is_used_up, written_units, units, TextUnit}
 use Rattle.iri_template.proofs.Common.{Bool, IsUtf8, chars, fewer, lacks, written_chars, shown_text}
 use Rattle.iri_template.proofs.HeldUnits.{settled, run_settled, chars_both, one_written}
+use Rattle.std.proofs.lemmas.Str.{chars-IsAscii}
 use Rattle.iri_percent.specs.Units.{Char}
 use Rattle.iri_template.specs.inside.Pieces.{IsOctets}
 use Rattle.iri_text.proofs.ByCharsLaws.{chars_halt}
@@ -157,13 +158,13 @@ module _ {W : Type 0} (s : Tests) {puts halts : W → List ℕ → W → Type 0}
   }
 
   -- the octets of a character, where nothing is held back
-  pub reads_octets : {a b : Reading} {w v : W} {x : Result (Unit {0}) Stop} (t : List ℕ) → a.held ≡ [] → IsOctets t
+  pub reads_octets : {a b : Reading} {w v : W} {x : Result (Unit {0}) Stop} (c : ℕ) (t : List ℕ) → a.held ≡ [] → IsOctets c t
       → Shows puts halts stops w (cond (is_used_up a.left) [] t) v x
       → b.held ≡ [] → b.left ≡ fewer a.left 1 → Reads (kept_rest s) puts halts stops a w (chars t) b v x
-  reads_octets {a = a} {b = b} {w = w} {v = v} {x = x} t h o p u l =
-      let us = Char o.char t ∷ [] in
-      reads_units (chars t) us (subst (λ y. Shows puts halts stops w y v x) (one_written s a.left (Char o.char t)) p)
-      (λ r. ap (λ y. units (y ++ (chars t ++ r))) h ∙ ap (λ y. units (y ++ r)) o.ascii ∙ o.unit r ∙ ap (λ y. us ++ units (y ++ r)) (sym u)) l
+  reads_octets {a = a} {b = b} {w = w} {v = v} {x = x} c t h o p u l =
+      let us = Char c t ∷ [] in
+      reads_units (chars t) us (subst (λ y. Shows puts halts stops w y v x) (one_written s a.left (Char c t)) p)
+      (λ r. ap (λ y. units (y ++ (chars t ++ r))) h ∙ ap (λ y. units (y ++ r)) (chars-IsAscii t o.ascii) ∙ o.unit r ∙ ap (λ y. us ++ units (y ++ r)) (sym u)) l
 
   -- characters each of which is encoded for itself
   pub reads_chars : {a b : Reading} {w v : W} {x : Result (Unit {0}) Stop} (cs : List ℕ)

@@ -2,7 +2,7 @@
 //! from the beginning of a value, of which one in percent-encoded octets is one (RFC 6570 section 2.4.1). Each character
 //! that isn't allowed becomes the percent-encoded octets of its UTF-8; where reserved characters are allowed, so are
 //! percent-encoded octets (section 3.2.1).
-ghost use Rattle.std.specs.Prelude.{◌≡◌, ◌≤◌, ◌∷◌, [], ◌-◌, ◌==◌, true, false, length, take, drop, cond, OnOk, None, MatchOption};
+ghost use Rattle.std.specs.Prelude.{◌≡◌, ◌≤◌, ◌∷◌, [], ◌+◌, ◌-◌, ◌==◌, true, false, length, take, drop, cond, OnOk, None, MatchOption};
 ghost use Rattle.std.specs.Bool.{OnTrue};
 ghost use Rattle.std.specs.Str.{chars};
 ghost use Rattle.iri_grammar.specs.Classes.{any_char};
@@ -175,6 +175,8 @@ fn put_unit<S: Spec, W: TextSink>(sink: &mut W, state: &mut Reading) -> Result<(
         (written_units S.tests state.old.left (held_unit state.old.held ∷ [])) sink.new result }
     ensures left { state.new.left ≡ fewer state.old.left 1 }
     ensures held { state.new.held ≡ drop (unit_len state.old.held) state.old.held }
+    ensures begun { is_begun state.new.held ≡ true }
+    ensures shorter { length state.new.held + 3 ≤ length state.old.held }
 {
     let len = state.held.unit_len();
     let result = put_octets(sink, &mut state.left, state.held.start(len));
@@ -205,7 +207,7 @@ fn put_held<S: Spec, W: TextSink>(sink: &mut W, state: &mut Reading) -> Result<(
 
 // Takes a character that goes on with what is held back, and writes the first unit of that once it has as many bytes as
 // the longest spelling of a character: four octets of three.
-#[tactic(auto, using(crate::proofs::HeldUnits::on_ascii))]
+#[tactic(auto, using(crate::proofs::HeldUnits::on_ascii, crate::proofs::HeldUnits::begun_more))]
 fn take_char<S: Spec, W: TextSink>(sink: &mut W, state: &mut Reading, c: u8) -> Result<(), Stop>
     requires held { IsHeld state.old }
     requires goes_on { goes_on state.old.held c ≡ true }
@@ -247,7 +249,7 @@ pub(crate) enum Piece<'t> {
 }
 
 // What is read first of a text, and what follows: a run or octets only where nothing is held back. None where the text is
-// empty. A byte of octets that are read at once costs 71 instructions, of those read by characters 124 (2026-12-01).
+// empty. In line, a byte of octets costs 71 instructions, else 76; read by characters it would cost 124 (2026-12-01).
 #[inline(always)]
 fn next_piece(text: &str, plain: bool) -> Option<(Piece<'_>, &str)>
     ensures { MatchOption result (length text.now ≡ 0) (λ p. IsCut plain text.now p.0 p.1.now) }

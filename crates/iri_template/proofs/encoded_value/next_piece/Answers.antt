@@ -1,11 +1,10 @@
-use Rattle.iri_template.proofs.Common.{◌≡◌, ◌<◌, ◌*◌, ℕ, List, true, ◌∷◌, ◌++◌, Some, length, take, drop, ◌∙◌, ap, sym, subst, arith, length-append}
-use Rattle.iri_template.proofs.Common.{length-drop, nat_tests, before, lacks, len_utf8, len_utf8_bounds, units, IsCharBoundary}
+use Rattle.iri_template.proofs.Common.{◌≡◌, ◌<◌, ◌*◌, ℕ, List, true, ◌++◌, length, take, drop, ◌∙◌, ap, sym, subst, arith, length-append}
+use Rattle.iri_template.proofs.Common.{nat_tests, before, lacks, len_utf8_bounds}
 use Rattle.iri_template.proofs.Common.{rules, IsUtf8, chars}
 use Rattle.iri_template.proofs.Common.{encode_utf8, first_char}
-use Rattle.std.proofs.lemmas.Str.{chars-append, chars-IsAscii, IsUtf8-from_ascii, IsCharBoundary-from_take}
+use Rattle.std.proofs.lemmas.Str.{chars-append, IsUtf8-from_ascii, IsCharBoundary-from_take}
 use Rattle.std.proofs.lemmas.List.{take-append-drop}
-use Rattle.std.specs.Str.{IsAscii}
-use Rattle.iri_percent.specs.Units.{Char, octets, first_char as first_char_of}
+use Rattle.iri_percent.specs.Units.{octets, first_char as first_of}
 use Rattle.iri_template.proofs.HeldUnits.{begins_octets}
 use Rattle.iri_template.specs.inside.Pieces.{IsOctets}
 use Rattle.iri_grammar.proofs.splits.CutLaws.{joined_from}
@@ -29,42 +28,30 @@ returns-then-not-is_empty c =
       at_once = (c.if-plain.true, none);
     }
 
--- the octets of a character, and the rest
-record IsCutAfter (octets rest t : List ℕ) : Type 0 where
-  whole : chars t ≡ chars octets ++ chars rest
-  shorter : length rest < length t
-  is : IsOctets octets
-
-octets_cut : (t a b : List ℕ) (c n : ℕ) → first_char_of (octets t) ≡ Some c → n ≡ 3 * len_utf8 c → a ≡ take n t → b ≡ drop n t → IsCutAfter a b t
-octets_cut t a b c n f e p q =
-    let k = begins_octets t c f in
-    let size = len_utf8_bounds c in
-    let is : take (3 * len_utf8 c) t ≡ a = ap (λ m. take m t) (sym e) ∙ sym p in
-    let split : t ≡ a ++ b = sym (take-append-drop n t) ∙ ap (λ l. l ++ drop n t) (sym p) ∙ ap (λ l. a ++ l) (sym q) in
-    let v : IsAscii a = subst IsAscii is k.ascii in
-    record {
-      whole = ap chars split ∙ chars-append a b (IsUtf8-from_ascii a v);
-      shorter = omega (arith, ap length q, length-drop n t, e, k.within, size.0);
-      is = record {
-        ascii = chars-IsAscii a v;
-        char = c;
-        unit = subst (λ (o : List ℕ). (r : List ℕ) → units (o ++ r) ≡ Char c o ∷ units r) is k.unit;
-      };
-    }
-
 pub split_at-requires : goal.split_at-requires
 split_at-requires c =
     let t = c.args.text.now in
-    let k = begins_octets t c.in-Some.c (ap (λ l. first_char_of (octets l)) (sym c.as_bytes.ensures.value) ∙ sym c.in-Some.ensures) in
-    subst (λ n. IsCharBoundary t (3 * n)) (sym c.len_utf8.ensures.value)
-    (IsCharBoundary-from_take t (3 * len_utf8 c.in-Some.c) c.utf8.text k.within (IsUtf8-from_ascii (take (3 * len_utf8 c.in-Some.c) t) k.ascii))
+    let n = 3 * c.len_utf8.result in
+    let k = begins_octets t c.in-Some.c n (ap (λ l. first_of (octets l)) (sym c.as_bytes.ensures.value) ∙ sym c.in-Some.ensures)
+    (ap (λ m. 3 * m) c.len_utf8.ensures.value) in
+    IsCharBoundary-from_take t n c.utf8.text k.0 (IsUtf8-from_ascii (take n t) k.1.ascii)
 
 pub returns-in-Some : goal.returns-in-Some
 returns-in-Some c =
-    let cut = octets_cut c.args.text.now c.split_at.result.0.now c.split_at.result.1.now c.in-Some.c (3 * c.len_utf8.result)
-    (ap (λ l. first_char_of (octets l)) (sym c.as_bytes.ensures.value) ∙ sym c.in-Some.ensures) (ap (λ n. 3 * n) c.len_utf8.ensures.value)
-    c.split_at.ensures.front c.split_at.ensures.back in
-    record { whole = cut.whole; shorter = cut.shorter; at_once = (c.if-plain.true, cut.is) }
+    let t = c.args.text.now in
+    let n = 3 * c.len_utf8.result in
+    let k = begins_octets t c.in-Some.c n (ap (λ l. first_of (octets l)) (sym c.as_bytes.ensures.value) ∙ sym c.in-Some.ensures)
+    (ap (λ m. 3 * m) c.len_utf8.ensures.value) in
+    let cut = c.split_at.result in
+    let split = c.split_at.ensures in
+    let whole : t ≡ cut.0.now ++ cut.1.now =
+    sym (take-append-drop n t) ∙ ap (λ l. l ++ drop n t) (sym split.front) ∙ ap (λ l. cut.0.now ++ l) (sym split.back) in
+    let u : IsUtf8 cut.0.now = search rules in
+    record {
+      whole = ap chars whole ∙ chars-append cut.0.now cut.1.now u;
+      shorter = omega (arith, split.back_len, c.len_utf8.ensures.value, len_utf8_bounds c.in-Some.c);
+      at_once = (c.if-plain.true, (c.in-Some.c, subst (IsOctets c.in-Some.c) (sym split.front) k.1));
+    }
 
 -- the text is the character and the rest
 joined : (whole t next rest : List ℕ) (c : ℕ) → whole ≡ t → whole ≡ encode_utf8 c ++ next → rest ≡ next → t ≡ encode_utf8 c ++ rest

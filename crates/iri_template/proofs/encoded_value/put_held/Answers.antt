@@ -2,7 +2,7 @@ use Rattle.iri_template.proofs.Common.{◌≡◌, ◌≤◌, ◌++◌, ◌∷◌
 use Rattle.iri_template.proofs.Common.{Shows, fewer, units, written_units, written_chars, held_unit, shown_none, shown_more, shows_all, true}
 use Rattle.iri_text.proofs.Compose.{shown_exit, shown_then}
 use Rattle.std.proofs.lemmas.List.{take_all}
-use Rattle.iri_template.proofs.HeldUnits.{nothing_left, unit_left, after_unit, short_written}
+use Rattle.iri_template.proofs.HeldUnits.{nothing_left, unit_left, short_written}
 use Rattle.iri_template.proofs.Reading.{on_ok}
 use Rattle.iri_template.proofs.encoded_value.put_held.Goals as goal
 
@@ -19,11 +19,10 @@ units-preserved g c =
     let b = c.put_unit.new.state in
     let put = c.in_ok-put_unit.ensures in
     let some : 3 ≤ length a.held = omega (arith, c.units-test.true, c.len.ensures.len) in
-    let k = after_unit a.held b.held i.held.begun some put.held in
     let e = unit_left g.S.Spec.tests a.left b.left a.held b.held i.held.begun some put.left put.held in
     let u = written_units g.S.Spec.tests a.left (held_unit a.held ∷ []) in
     record {
-      held = record { begun = k.0; room = omega (arith, k.1, i.held.room) };
+      held = record { begun = put.begun; room = omega (arith, put.shorter, i.held.room) };
       far = record {
         text = i.far.text ++ u;
         shown = shown_more g.met.W.TextSink.rules i.far.shown put.shows;
@@ -31,18 +30,6 @@ units-preserved g c =
         left = i.far.left ∙ e.1;
       };
     }
-
-pub units-smaller : goal.units-smaller
-units-smaller g c =
-    let k = after_unit c.units.state.held c.put_unit.new.state.held c.units.invariant.held.begun
-    (omega (arith, c.units-test.true, c.len.ensures.len)) c.put_unit.ensures.held in
-    omega (arith, k.1)
-
-pub returns-in_err-put_unit-clause-held : goal.returns-in_err-put_unit-clause-held
-returns-in_err-put_unit-clause-held g c =
-    let k = after_unit c.units.state.held c.put_unit.new.state.held c.units.invariant.held.begun
-    (omega (arith, c.units-test.true, c.len.ensures.len)) c.put_unit.ensures.held in
-    record { begun = k.0; room = omega (arith, k.1, c.units.invariant.held.room) }
 
 pub returns-in_err-put_unit-clause-shows : goal.returns-in_err-put_unit-clause-shows
 returns-in_err-put_unit-clause-shows g c =

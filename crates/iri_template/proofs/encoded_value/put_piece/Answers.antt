@@ -27,5 +27,5 @@ returns-in-Octets-clause-reads g c =
     let plain = subst (λ p. IsPieceWhere (a.held ≡ []) p) c.in-Octets.is c.requires.plain in
     subst (λ p. Reads (kept_rest g.S.Spec.tests) w.puts w.halts w.stops a c.args.sink.now (piece_chars p) b c.put_octets.new.sink c.put_octets.result)
     (sym c.in-Octets.is)
-    (reads_octets g.S.Spec.tests g.met.W.TextSink.rules {b = b} octets plain.0 plain.1 c.put_octets.ensures.shows plain.0
+    (reads_octets g.S.Spec.tests g.met.W.TextSink.rules {b = b} plain.1.0 octets plain.0 plain.1.1 c.put_octets.ensures.shows plain.0
     c.put_octets.ensures.left)
