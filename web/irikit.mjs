@@ -80,18 +80,23 @@ async function open(source = bytesBeside()) {
 
 const typeOf = (value) => (value === null ? "null" : typeof value);
 
+// How many bytes an array has, by what it is and not by what its class says of it; a TypeError where it is none.
+const { get: lengthIn } = Object.getOwnPropertyDescriptor(Object.getPrototypeOf(Uint8Array.prototype), "length");
+
 // For how many bytes a text asks: three for each unit of a string, or as many as it has where these have no room.
 function bytesOf(text, room) {
   if (typeof text === "string") return 3 * text.length <= room ? 3 * text.length : encoder.encode(text).length;
-  if (text instanceof Uint8Array) return text.length;
+  if (text instanceof Uint8Array) return lengthIn.call(text);
   throw new TypeError(`${typeOf(text)} is no text: a string or a Uint8Array`);
 }
 
-// Puts a text into bytes that have room for it, and returns its length there.
+// Puts a text into bytes that have room for it, and returns its length there: of an array in shared memory, which may grow meanwhile,
+// that of before, so that no byte counts which isn't put.
 function put(text, bytes) {
   if (typeof text !== "string") {
+    const length = lengthIn.call(text);
     bytes.set(text);
-    return text.length;
+    return length;
   }
   const { read, written } = encoder.encodeInto(text, bytes);
   if (read < text.length) throw new RangeError("a text has no room in the module's memory");
@@ -129,9 +134,9 @@ const asText = (value) => (typeof value === "bigint" || Number.isFinite(value) ?
 // The kind of a variable's value and its texts, a key before what belongs to it.
 function kindAndTexts(value) {
   if (!isGiven(value)) return ["undefined", []];
-  if (Array.isArray(value)) return ["list", value.filter(isGiven).map(asText)];
+  if (Array.isArray(value)) return ["list", [...value].filter(isGiven).map(asText)];
   if (!(value instanceof Map) && !isPlain(value)) return ["string", [asText(value)]];
-  return ["pairs", entriesOf(value).filter(([, item]) => isGiven(item)).flat().map(asText)];
+  return ["pairs", entriesOf(value).flatMap(([key, item]) => (isGiven(item) ? [asText(key), asText(item)] : []))];
 }
 
 // Lines without the LF that ends each.

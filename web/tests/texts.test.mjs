@@ -208,38 +208,106 @@ function numbers(seed) {
   };
 }
 
+// Calls of a kit on two texts, in a grammar.
+const CALLS = [
+  (one, s, t, g) => one.canonical(s, t, g), (one, s, t, g) => one.canonicalLines("a:/b", t, g, "scheme"),
+  (one, s, t, g) => one.pairs(t, g, "scheme"), (one, s, t) => one.canonicalizeToUri(s, t), (one, s, t) => one.canonicalizeToUri("a:/b", t, "scheme"),
+  (one, s, t, g) => one.canonicalMany("x:/y", [s, t], g), (one, s, t, g) => one.target("http://a/b", t, g),
+  (one, s, t, g) => one.split(t, g), (one, s, t, g) => one.steps(t, g), (one, s, t, g) => one.validate(t, "relative", g),
+  (one, s, t) => one.faultPart(t, "invalid-path"), (one, s, t, g) => one.build({ host: s, path: t }, "reference", g),
+  (one, s, t, g) => one.setFragment(s, t, g), (one, s, t, g) => one.replacePassword(s, t, g),
+  (one, s, t, g) => one.replaceHost(s, t, g), (one, s, t, g) => one.encode(t, "query", g), (one, s, t) => one.decode(t),
+  (one, s, t) => one.mapToUri(t), (one, s, t, g) => one.expand(t, new Map([["a", s], ["b", [s, t]]]), g),
+  (one, s, t) => one.templateVariables(t),
+];
+
+// What a call answers, or what it refuses.
+function outcome(call, one, texts, grammar) {
+  try {
+    return { answer: call(one, ...texts, grammar) };
+  } catch (error) {
+    if (!(error instanceof Refused)) throw error;
+    return { whose: error.whose, fault: error.fault, place: error.place, message: error.message };
+  }
+}
+
 test("a string is answered as the bytes of its UTF-8 are, and by a kit that was asked much before as by a new one", async () => {
   const pieces = [
     ..."abA:/?#[]@!$&'()*+,;=%-._~ |^`{}<>\\\0\t\n\r", "\ufeff", "\u00e9", "\u65e5", "\u{1f600}", "\ue000", "\ufffd", "%2f", "%c3%A9",
     "%FF", "//", "/../", "http:", "[::1]", "x".repeat(300), "{a}", "{?a*}",
   ];
-  const calls = [
-    (one, s, t, g) => one.canonical(s, t, g), (one, s, t, g) => one.canonicalLines("a:/b", t, g, "scheme"),
-    (one, s, t, g) => one.pairs(t, g, "scheme"), (one, s, t) => one.canonicalizeToUri(s, t), (one, s, t) => one.canonicalizeToUri("a:/b", t, "scheme"),
-    (one, s, t, g) => one.canonicalMany("x:/y", [s, t], g), (one, s, t, g) => one.target("http://a/b", t, g),
-    (one, s, t, g) => one.split(t, g), (one, s, t, g) => one.steps(t, g), (one, s, t, g) => one.validate(t, "relative", g),
-    (one, s, t) => one.faultPart(t, "invalid-path"), (one, s, t, g) => one.build({ host: s, path: t }, "reference", g),
-    (one, s, t, g) => one.setFragment(s, t, g), (one, s, t, g) => one.replacePassword(s, t, g),
-    (one, s, t, g) => one.replaceHost(s, t, g), (one, s, t, g) => one.encode(t, "query", g), (one, s, t) => one.decode(t),
-    (one, s, t) => one.mapToUri(t), (one, s, t, g) => one.expand(t, new Map([["a", s], ["b", [s, t]]]), g),
-    (one, s, t) => one.templateVariables(t),
-  ];
   const next = numbers(2463534242), text = () => Array.from({ length: next(7) }, () => pieces[next(pieces.length)]).join("");
   let fresh = await library.open(), good = 0;
   for (let i = 0; i < 20000; i += 1) {
     if (i % 500 === 0) fresh = await library.open();
-    const call = calls[i % calls.length], given = [text(), text()], grammar = next(2) ? "uri" : "iri";
-    const answers = [[kit, given], [fresh, given], [kit, given.map((one) => new TextEncoder().encode(one))]].map(([one, [s, t]]) => {
-      try {
-        return { answer: call(one, s, t, grammar) };
-      } catch (error) {
-        if (!(error instanceof Refused)) throw error;
-        return { whose: error.whose, fault: error.fault, place: error.place, message: error.message };
-      }
-    });
+    const call = CALLS[i % CALLS.length], given = [text(), text()], grammar = next(2) ? "uri" : "iri";
+    const answers = [[kit, given], [fresh, given], [kit, given.map((one) => new TextEncoder().encode(one))]].map(
+      ([one, texts]) => outcome(call, one, texts, grammar));
     good += "answer" in answers[0];
     assert.deepEqual(answers[1], answers[0], `${call} ${JSON.stringify(given)}`);
     assert.deepEqual(answers[2], answers[0], `${call} ${JSON.stringify(given)}`);
   }
   assert.ok(good > 5000 && good < 15000, good);
+});
+
+// Arrays of these bytes whose class, or which themselves, say another length than they have; and those whose length changed.
+function arraysOf(text) {
+  const bytes = new TextEncoder().encode(text), said = [0, 1, bytes.length + 1, 64, 70000, -1, NaN, "2", undefined];
+  const ofClass = said.map((length) => {
+    const Other = class extends Uint8Array { get length() { return length; } };
+    return new Other(bytes);
+  });
+  const own = said.map((value) => Object.defineProperty(bytes.slice(), "length", { value }));
+  const grown = new ArrayBuffer(1, { maxByteLength: 4096 }), shrunk = new ArrayBuffer(4096, { maxByteLength: 4096 });
+  const shared = new SharedArrayBuffer(1, { maxByteLength: 4096 });
+  const views = [grown, shrunk, shared].map((buffer) => new Uint8Array(buffer));
+  for (const view of views) kit.decode(view);
+  for (const buffer of [grown, shrunk]) buffer.resize(bytes.length);
+  shared.grow(bytes.length);
+  for (const view of views) view.set(bytes);
+  return [...ofClass, ...own, ...views];
+}
+
+test("an array is answered by its bytes, whatever it says of its length", () => {
+  const before = "http://secret.example/of-a-text-before";
+  for (const [s, t] of [["http://a/b/c", "../d%7e?e"], ["x:/y", "{a}/{?b*}"], ["http://h/p", "http://h/p\t/q\nx:\ty"], ["h", "/"]]) {
+    for (const call of CALLS) {
+      for (const grammar of ["uri", "iri"]) {
+        const wanted = outcome(call, kit, [s, t], grammar);
+        arraysOf(t).forEach((array, i) => {
+          kit.setFragment(before, before);
+          assert.deepEqual(outcome(call, kit, [arraysOf(s)[i], array], grammar), wanted, `${call} ${i}`);
+        });
+      }
+    }
+  }
+  const buffer = new ArrayBuffer(8, { maxByteLength: 8 }), past = new Uint8Array(buffer, 4, 4), none = Object.create(Uint8Array.prototype);
+  buffer.resize(2);
+  for (const text of [past, none, Object.create(none, { length: { value: 2 } }), new Proxy(new Uint8Array(2), {})]) {
+    for (const call of [kit.split, kit.decode, kit.mapToUri]) assert.throws(() => call.call(kit, text), TypeError);
+    for (const [one, other] of [[text, "a"], ["http://a/", text]]) assert.throws(() => kit.canonical(one, other), TypeError);
+    assert.throws(() => kit.expand("{v}", { v: [text] }), TypeError);
+  }
+});
+
+test("a list and pairs are those that a loop over them gives", () => {
+  const list = ["x", null, "y"], shorter = { get: (of, name, whole) => (name === "length" ? 1 : Reflect.get(of, name, whole)) };
+  const longer = { get: (of, name, whole) => (name === "length" ? 9 : Reflect.get(of, name, whole)) };
+  class OtherCopies extends Array {
+    static get [Symbol.species]() { return function copy() { return new Proxy([], longer); }; }
+  }
+  class OtherFilter extends Array {
+    filter() { return { map: () => new Proxy(["x"], longer) }; }
+  }
+  class OtherPairs extends Map {
+    * [Symbol.iterator]() { yield ["k", "v", "w"]; yield new Proxy(["l", "m"], longer); }
+  }
+  for (const one of [list, OtherCopies.from(list), OtherFilter.from(list), new Proxy(list, longer)]) {
+    kit.setFragment("x".repeat(99), "y".repeat(99));
+    assert.equal(kit.expand("{v}{?v*}", { v: one }), "x,y?v=x&v=y");
+  }
+  assert.equal(kit.expand("{v}", { v: new Proxy(list, shorter) }), "x");
+  assert.equal(kit.expand("{?v*}", { v: new OtherPairs() }), "?k=v&l=m");
+  assert.equal(kit.expand("{k}{l}", new OtherPairs()), "vm");
+  assert.throws(() => kit.build(new OtherPairs()), TypeError);
 });

@@ -39,7 +39,7 @@ class Robots(Immutable):
         if not re.fullmatch(r"[A-Za-z_-]+", token):
             raise ValueError(f"{token!r} is no product token: letters, `_` and `-` (RFC 9309 section 2.2.1)")
         self._links = Links("http://localhost/" if site is None else site, grammar)
-        file = bytes_of(text)
+        name, file = bytes_of(token), bytes_of(text)
         self._made_of = file, token, None if site is None else self._links.base, grammar, mode
         # A CR, an LF, or both end a line (RFC 9309 section 2.2), as for `splitlines` of bytes.
         if max(map(len, file.splitlines()), default=0) > LINE - 2 or len(file) > INPUT // 2:
@@ -48,7 +48,7 @@ class Robots(Immutable):
         address = self._links.canonical_bytes("", mode)
         origin = rb"[^:]*://" if site is None else re.escape(re.match(rb"[^:]*:(//[^/?#]*)?", address)[0]) + rb"(?![^/?#])"
         self._is_of_site = re.compile(origin).match
-        self._rules = written(len(file) + 64, _rules, token.encode(), len(token), file, len(file))
+        self._rules = written(len(file) + 64, _rules, name, len(name), file, len(file))
 
     def __repr__(self) -> str:
         text, *more = self._made_of

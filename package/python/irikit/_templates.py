@@ -126,14 +126,15 @@ def _kind_and_texts(name: bytes, value: Any) -> tuple[Value, list[bytes]]:
     if isinstance(value, (int, float, Decimal)):
         return STRING, [_one(name, value)]
     if isinstance(value, (list, tuple, Sequence)):
-        pairs = [item for item in value if isinstance(item, tuple) and len(item) == 2]
-        if not pairs or len(pairs) < len(value):
-            return LIST, [_one(name, item) for item in value if item is not None]
+        items = [*value]
+        pairs = [item for item in items if isinstance(item, tuple) and len(item) == 2]
+        if not pairs or len(pairs) < len(items):
+            return LIST, [_one(name, item) for item in items if item is not None]
     elif isinstance(value, (dict, Mapping)):
         pairs = [*value.items()]
     else:
         return STRING, [_one(name, value)]
-    return PAIRS, [_one(name, text) for pair in pairs if pair[1] is not None for text in pair]
+    return PAIRS, [_one(name, text) for key, item in pairs if item is not None for text in (key, item)]
 
 
 def _one(name: bytes, value: Any) -> bytes:

@@ -51,11 +51,19 @@ Text = Union[str, bytes, bytearray, memoryview, Identifier]
 
 
 def bytes_of(text: Text) -> bytes:
-    """A text in UTF-8. A lone surrogate becomes bytes that aren't UTF-8, and so the library refuses it."""
+    """A text in UTF-8. A lone surrogate becomes bytes that aren't UTF-8, and so the library refuses it. Whatever class the text is of, they
+    are of `bytes` itself, so that they have the length that they say."""
     if isinstance(text, str):
-        return text.encode("utf-8", "surrogatepass")
-    if isinstance(text, (bytes, bytearray, memoryview, Identifier)):
-        return bytes(text)
+        return str.encode(text, "utf-8", "surrogatepass")
+    if isinstance(text, Identifier):
+        text = bytes(text)
+    if type(text) is bytes:
+        return text
+    if isinstance(text, (bytes, bytearray, memoryview)):
+        view = memoryview(text)
+        if view.ndim == 1 and view.itemsize == 1:
+            return view.tobytes()
+        raise TypeError(f"a text is wanted, as str or as bytes, and not a memoryview of the shape {view.shape} and format {view.format}")
     raise TypeError(f"a text is wanted, as str or as bytes, and not {type(text).__name__}")
 
 

@@ -21,7 +21,10 @@ TEXTS = [
     lambda text: irikit.run("canon uri", text), lambda text: irikit.build(path=text) if text is not None else irikit.split(None),
     lambda text: irikit.build(host=text) if text is not None else irikit.split(None),
 ]
-NO_TEXTS = [5, 0, 10**9, 1.5, True, None, ["a"], ("a",), {"a"}, {"a": "b"}, object(), pathlib.Path("a"), array.array("B", b"a"), iter("a"), IRI, LINKS]
+NO_TEXTS = [
+    5, 0, 10**9, 1.5, True, None, ["a"], ("a",), {"a"}, {"a": "b"}, object(), pathlib.Path("a"), array.array("B", b"a"), iter("a"), IRI, LINKS,
+    memoryview(array.array("H", [97])), memoryview(array.array("I")), memoryview(b"abcd").cast("B", (2, 2)),
+]
 GRAMMARS = [
     lambda number: Links("a:", number), lambda number: irikit.canonical_many("a:", [], number), lambda number: irikit.resolve("a:", "", number),
     lambda number: irikit.fault("a:", grammar=number), lambda number: irikit.faulty_part("a:", grammar=number),
@@ -46,7 +49,97 @@ KINDS = [lambda number: irikit.fault("a", number), lambda number: irikit.faulty_
 PLACES = [lambda number: irikit.encode("a", number)]
 
 
+class OtherBytes(bytes):
+    """Bytes that say another length than they have."""
+
+    said = 0
+
+    def __len__(self):
+        return self.said
+
+    def __bytes__(self):
+        return self
+
+
+class LongBytes(OtherBytes):
+    said = 1 << 16
+
+
+class OtherArray(bytearray):
+    def __len__(self):
+        return 1 << 16
+
+    def __bytes__(self):
+        return LongBytes(b"other")
+
+
+class OtherStr(str):
+    def __len__(self):
+        return 1 << 16
+
+    def encode(self, *_):
+        return LongBytes(b"other")
+
+
+class OtherUri(Uri):
+    def __bytes__(self):
+        return LongBytes(super().__bytes__())
+
+
+class OtherList(list):
+    def __len__(self):
+        return 0
+
+
+class OtherTuple(tuple):
+    def __len__(self):
+        return 2
+
+
+class OtherDict(dict):
+    def items(self):
+        return [("k", "v", "w")]
+
+
+def outcome(call, text):
+    """What a call answers, or what it raises."""
+    try:
+        return call(text)
+    except TypeError:
+        return TypeError
+    except ValueError as error:
+        return type(error), str(error)
+
+
 class Types(unittest.TestCase):
+    def test_other_classes(self):
+        for text in ("http://a/b", "bot", "a b", "x{v}", "\ufeff\u00e9", ""):
+            coded = text.encode()
+            apart = bytes(byte for each in coded for byte in (each, 0))
+            others = [OtherBytes(coded), LongBytes(coded), OtherArray(coded), bytearray(coded), memoryview(coded), memoryview(apart)[::2]]
+            for at, call in enumerate(TEXTS):
+                wanted = outcome(call, coded)
+                for other in others:
+                    with self.subTest(text=text, call=at, of=type(other).__name__):
+                        self.assertEqual(outcome(call, other), wanted)
+                with self.subTest(text=text, call=at, of="OtherStr"):
+                    self.assertEqual(outcome(call, OtherStr(text)), outcome(call, text))
+        for at, call in enumerate(TEXTS):
+            with self.subTest(call=at):
+                self.assertEqual(outcome(call, OtherUri("http://a/b")), outcome(call, Uri("http://a/b")))
+
+    def test_tokens_and_values_of_other_classes(self):
+        file = "user-agent: bot\ndisallow: /\n"
+        self.assertIs(Robots(file, OtherStr("bot")).allows("/"), False)
+        self.assertEqual(irikit.expand("{v}", v=OtherStr("a")) + irikit.expand(OtherStr("{v}"), {OtherStr("v"): LongBytes(b"b")}), "ab")
+        self.assertEqual(irikit.expand("{v}{?v*}", v=OtherList(["a", LongBytes(b"b")])), "a,b?v=a&v=b")
+        for value in (OtherList([("k", "v"), "w"]), OtherList(["w", ("k", "v")])):
+            with self.assertRaises(TypeError):
+                irikit.expand("{?v*}", v=value)
+        for value in ([OtherTuple(("k", "v", "w"))], OtherDict(k="v")):
+            with self.assertRaises(ValueError):
+                irikit.expand("{?v*}", v=value)
+
     def test_texts(self):
         for at, call in enumerate(TEXTS):
             for text in NO_TEXTS:
