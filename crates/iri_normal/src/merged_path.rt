@@ -7,11 +7,11 @@ ghost use Rattle.iri_grammar.specs.Pieces.{pieces};
 ghost use Rattle.iri_normal.specs.Dots.{has_dot_segment};
 ghost use Rattle.iri_normal.specs.Target.{ends_at_slash};
 ghost use Rattle.iri_normal.specs.inside.Kept.{taken};
-ghost use Rattle.iri_normal.specs.inside.Written.{popped_times};
+ghost use Rattle.iri_normal.specs.inside.Parents.{IsParent};
 
 /// What the base gives of a path, and the reference's path after it. The first piece ends where a segment ends, or nothing follows it.
-/// `plain` says that it has no dot segment, and `bare` that it has no percent-encoded octet; `false` says nothing. `parent` is what the
-/// second piece's dot segments leave of it; nothing says nothing.
+/// `plain` says that it has no dot segment, and `bare` that it has no percent-encoded octet; `false` says nothing. `parent` is how many
+/// bytes the second piece's dot segments leave of it, where 1 is a slash alone; 0 says nothing.
 ///
 /// ```
 /// use iri::steps::MergedPath;
@@ -25,11 +25,11 @@ pub struct MergedPath<'a> {
     pub reference: &'a str,
     pub plain: bool,
     pub bare: bool,
-    pub parent: &'a str,
+    pub parent: u32,
     pub ghost cut: { (is_empty reference.now || ends_at_slash base.now) ≡ true },
     pub ghost noted: { plain ≡ true → has_dot_segment base.now ≡ false },
     pub ghost bared: { bare ≡ true → lacks percent_sign base.now ≡ true },
-    pub ghost above: { is_empty parent.now ≡ false → parent.now ≡ popped_times (taken (pieces slash reference.now) 0) base.now },
+    pub ghost above: { IsParent parent (taken (pieces slash reference.now) 0) base.now },
 }
 
 impl<'a> MergedPath<'a> {
@@ -42,7 +42,7 @@ impl<'a> MergedPath<'a> {
             reference: path,
             plain: true,
             bare: true,
-            parent: "",
+            parent: 0,
         }
     }
 }

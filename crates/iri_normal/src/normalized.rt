@@ -85,15 +85,7 @@ impl<S: Spec, K: NormalKind> Copy for NormalizedText<'_, S, K> {}
 impl<'a, S: Spec, K: NormalKind> NormalizedText<'a, S, K> {
     ghost use Rattle.iri_normal.specs.NormalizedText.{written};
 
-    // Slices in a mode.
-    pub(crate) fn new(target: TargetSlices<'a>, whole: bool, mode: Mode) -> Self
-        requires { ∥ AreSound S.tests K.fault target ∥₁ }
-        ensures { written result ≡ record { parts = slices target.entry; whole = whole; mode = mode } }
-    {
-        NormalizedText::after(None, target, whole, mode)
-    }
-
-    // The same, with their prefix, where that is in normal form as it is.
+    // Slices in a mode, and their prefix, where that is in normal form as it is.
     pub(crate) fn after(
         prefix: Option<&'a str>,
         target: TargetSlices<'a>,

@@ -68,18 +68,39 @@ pub(crate) fn cut_prefix<'a, S: Spec, K: WholeKind>(
     (&whole[..len], &whole[len..])
 }
 
-/// The prefix of a base, where it is in normal form.
-pub fn normal_prefix<'a, S: Spec>(base: &SplitView<'a, S, Absolute>) -> Option<&'a str>
+// The prefix of a text, where its scan says that it is in normal form, as that of most does.
+#[inline(always)]
+pub(crate) fn kept_prefix<'a, S: Spec, K: WholeKind>(text: &SplitView<'a, S, K>) -> Option<&'a str>
+    ensures { IsPrefix S.tests (split_of (split_text text.now)) (now_of result) }
+{
+    if keeps_prefix::<S>(text.parts()) {
+        let (prefix, _) = cut_prefix(text);
+        Some(prefix)
+    } else {
+        None
+    }
+}
+
+// The prefix of a base, where it is its own normal form.
+#[inline(never)]
+fn compared_prefix<'a, S: Spec>(base: &SplitView<'a, S, Absolute>) -> Option<&'a str>
     ensures { IsPrefix S.tests (split_of (split_text base.now)) (now_of result) }
 {
     let (text, _) = cut_prefix(base);
-    // The scan of a base says this of most.
-    if keeps_prefix::<S>(base.parts()) {
-        return Some(text);
-    }
     if is_text(&NormalPrefix { base: *base }, text) {
         Some(text)
     } else {
         None
+    }
+}
+
+/// The prefix of a base, where it is in normal form.
+#[inline(always)]
+pub fn normal_prefix<'a, S: Spec>(base: &SplitView<'a, S, Absolute>) -> Option<&'a str>
+    ensures { IsPrefix S.tests (split_of (split_text base.now)) (now_of result) }
+{
+    match kept_prefix(base) {
+        Some(prefix) => Some(prefix),
+        None => compared_prefix(base),
     }
 }

@@ -20,6 +20,7 @@ ghost use Rattle.iri_percent.specs.Units.{whole_triplets};
 ghost use Rattle.iri_normal.specs.DotRemoval.{dots};
 ghost use Rattle.iri_normal.specs.Dots.{has_dot_segment, is_dot_segment};
 ghost use Rattle.iri_normal.specs.inside.Kept.{kept, taken};
+ghost use Rattle.iri_normal.specs.inside.Parents.{IsParent};
 ghost use Rattle.iri_normal.specs.inside.PathForm.{in_form};
 ghost use Rattle.iri_normal.specs.Slices.{merged};
 ghost use Rattle.iri_normal.specs.Target.{ends_at_slash};
@@ -150,34 +151,36 @@ fn show_kept<S: Spec, W: TextSink>(
     show_kept::<S, W>(sink, rest, count, normal)
 }
 
-// What stays of a directory before what follows it, where that may be known.
-fn parent_of<'a>(directory: &'a str, known: &'a str, text: &str, count: usize) -> &'a str
+// What stays of a directory before what follows it, where its length may be known. One byte is a slash, and that is what stays of a
+// directory that doesn't begin with one, too.
+fn parent_of<'a>(directory: &'a str, known: u32, text: &str, count: usize) -> &'a str
     requires ends { ends_at_slash directory.now ≡ true }
-    requires known { is_empty known.now ≡ false → known.now ≡ popped_times (taken (pieces slash text.now) count) directory.now }
+    requires known { IsParent known (taken (pieces slash text.now) count) directory.now }
     requires room { count + length text.now < 2 ^ 64 }
     ensures { result.now ≡ popped_times (taken (pieces slash text.now) count) directory.now }
 {
-    if known.is_empty() {
-        popped_times(directory, taken(text, count))
-    } else {
-        known
+    if known == 0 {
+        return popped_times(directory, taken(text, count));
     }
+    if known == 1 {
+        return "/";
+    }
+    &directory[..known as usize]
 }
 
-// A path in three pieces: a directory, what follows it, and more, which follows where a segment of that ends. `known` is what the
-// dot segments of these leave of the directory, or nothing. `bare` says that the directory has no percent-encoded octet.
+// A path in three pieces: a directory, what follows it, and more, which follows where a segment of that ends. `known` is how much the
+// dot segments of these leave of the directory, or 0. `bare` says that the directory has no percent-encoded octet.
 fn show_after<S: Spec, W: TextSink>(
     sink: &mut W,
     directory: &str,
-    known: &str,
+    known: u32,
     text: &str,
     more: &str,
     bare: bool,
     normal: bool,
 ) -> Result<(), Stop>
     requires directory { (ends_at_slash directory.now && not (is_empty directory.now)) ≡ true }
-    requires known { is_empty known.now ≡ false
-        → known.now ≡ popped_times (taken (pieces slash text.now) (taken (pieces slash more.now) 0)) directory.now }
+    requires known { IsParent known (taken (pieces slash text.now) (taken (pieces slash more.now) 0)) directory.now }
     requires bare { bare ≡ true → lacks percent_sign directory.now ≡ true }
     requires cut { (is_empty more.now || ends_at_slash text.now) ≡ true }
     requires paths { (is_path S.tests directory.now ≡ true) × (is_path S.tests text.now ≡ true) × (is_path S.tests more.now ≡ true) }
@@ -205,7 +208,7 @@ fn show_from_first<S: Spec, W: TextSink>(
         (in_form S.tests normal (written (written [] text.now) more.now)) sink.new result }
 {
     match cut_first(text) {
-        Some((first, rest)) => show_after::<S, W>(sink, first, "", rest, more, false, normal),
+        Some((first, rest)) => show_after::<S, W>(sink, first, 0, rest, more, false, normal),
         None => show_part::<S, W>(sink, text, normal),
     }
 }

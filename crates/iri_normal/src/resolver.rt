@@ -117,6 +117,7 @@ impl<'a, S: Spec> FixedBaseResolver<'a, S> {
     /// let target = FixedBaseResolver::of_split(page).resolve(UriReferenceStr::new("../g")?);
     /// assert_eq!(rt; target.try_to_string(rt.alloc())?.as_str(), "http://a/b/g");
     /// ```
+    #[inline(always)]
     pub fn of_split(base: SplitView<'a, S, Absolute>) -> Self
         ensures { base_text result ≡ split_text base.entry }
     {
@@ -336,6 +337,24 @@ impl<'a, S: Spec> FixedBaseResolver<'a, S> {
         })
     }
 
+    // The target of a reference without a normal form. `whole` says that its path stays as it is.
+    #[inline(always)]
+    pub(crate) fn shown(
+        &self,
+        reference: &SplitView<'a, S, Reference>,
+        whole: bool,
+    ) -> Normalized<'a, S>
+        ensures { written result ≡ record {
+          parts = target (split_of (base_text self.now))
+              (split_of (split_text reference.now));
+          whole = whole;
+          mode = Plain;
+        } }
+    {
+        let prefix = self.prefix(reference);
+        NormalizedText::after(prefix, self.slices(reference), whole, Mode::Plain)
+    }
+
     /// The text of a reference resolved against the base (RFC 3986 section 5.2): its dot segments are removed, but the
     /// base's path stays as it is where the reference's is empty. Where the path would be read as an authority, `/.`
     /// comes before it. Allocates nothing.
@@ -371,9 +390,7 @@ impl<'a, S: Spec> FixedBaseResolver<'a, S> {
           mode = Plain;
         } }
     {
-        let whole = takes_base_path(reference.parts());
-        let prefix = self.prefix(reference);
-        NormalizedText::after(prefix, self.slices(reference), whole, Mode::Plain)
+        self.shown(reference, takes_base_path(reference.parts()))
     }
 
     /// The target of a reference (RFC 3986 section 5.2.2), with its dot segments kept.

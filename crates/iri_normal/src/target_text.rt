@@ -6,11 +6,9 @@ ghost use Rattle.iri_grammar.specs.Split.{split_of};
 ghost use Rattle.iri_normal.specs.Resolver.{base_text};
 ghost use Rattle.iri_normal.specs.Target.{target};
 
-use crate::form::show_form;
-use crate::mode::Mode;
 use crate::resolver::FixedBaseResolver;
 use iri_grammar::spec::Spec;
-use iri_text::{Stop, TextSink};
+use iri_text::{Show, Stop, TextSink};
 use iri_types::kind::Reference;
 use iri_types::split::SplitView;
 
@@ -41,6 +39,5 @@ pub fn show_target<'a, S: Spec, W: TextSink>(
     ensures { Shows W.puts W.halts W.stops sink.old
         (recompose (target (split_of (base_text resolver.now)) (split_of (split_text reference.now)))) sink.new result }
 {
-    let target = resolver.slices(reference);
-    show_form::<S, W>(sink, &target, Mode::Plain, true)
+    resolver.shown(reference, true).show(sink)
 }

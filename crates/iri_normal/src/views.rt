@@ -13,6 +13,7 @@ ghost use Rattle.iri_normal.specs.declared.mode.Mode.TheVariants.{Normal, Plain,
 use crate::mode::Mode;
 use crate::normal_kind::NormalKind;
 use crate::normalized::{Normalized, NormalizedText};
+use crate::prefix::kept_prefix;
 use crate::resolver::FixedBaseResolver;
 use crate::target::TargetSlices;
 use crate::unresolvable::Unresolvable;
@@ -117,7 +118,7 @@ fn in_mode<'a, S: Spec, K: NormalKind>(view: View<'a, S, K>, mode: Mode) -> Norm
 {
     let split = SplitView::of(view);
     let target = TargetSlices::of(split.parts());
-    NormalizedText::new(target, false, mode)
+    NormalizedText::after(kept_prefix(&split), target, false, mode)
 }
 
 impl<'a, S: Spec, K: NormalKind> Normalize for View<'a, S, K> {

@@ -217,11 +217,11 @@ popped-alone t l h k =
     sym (ap popped (without_end t h l) ∙ (popped-output u ∙ ap (λ o. o ++ 47 ∷ []) (without_last-all u (no_slash u k).0)))
 
 -- what is left is a path
-record LastCut (o : List ℕ) : Type 0 where
-  rest : List ℕ
-  whole : o ≡ without_last o ++ 47 ∷ rest
+pub record LastCut (o : List ℕ) : Type 0 where
+  pub rest : List ℕ
+  pub whole : o ≡ without_last o ++ 47 ∷ rest
 
-last-cut : (o : List ℕ) → lacks 47 o ≡ false → LastCut o
+pub last-cut : (o : List ℕ) → lacks 47 o ≡ false → LastCut o
 last-cut [] h = cc
 last-cut (x ∷ xs) h =
     elim (lacks 47 xs) as (λ b. lacks 47 xs ≡ b → LastCut (x ∷ xs)) [

@@ -178,7 +178,7 @@ written-more : (b r m : List ℕ) → (is_empty m || ends_at_slash r) ≡ true �
 written-more b r [] c = written-nothing (written b r) ∙ ap (written b) (sym (append-nil r))
 written-more b r (x ∷ xs) c = sym (written-two b r (x ∷ xs) c)
 
-times-ends : (n : ℕ) (b : List ℕ) → ends_at_slash b ≡ true → ends_at_slash (popped_times n b) ≡ true
+pub times-ends : (n : ℕ) (b : List ℕ) → ends_at_slash b ≡ true → ends_at_slash (popped_times n b) ≡ true
 times-ends zero b h = h
 times-ends (suc n) b h = times-ends n (popped b) (popped-ends b)
 

@@ -1,11 +1,11 @@
-use Rattle.iri_normal.proofs.Common.{◌≡◌, ◌++◌, ◌∙◌, true, sym, ap, subst, shows_exit, shows_then, is_path, pieces, path-whole, popped_times, kept, taken, in_form, refl}
+use Rattle.iri_normal.proofs.Common.{◌≡◌, ◌++◌, ◌∙◌, true, sym, ap, length, subst, shows_exit, shows_then, is_path, pieces, path-whole, popped_times, kept, taken, in_form, refl}
 use Rattle.iri_normal.proofs.removal.LongPaths.{directory-ends, form-parent, form-three, times-path}
 use Rattle.iri_normal.proofs.ShownTexts.{shows_same}
 use Rattle.iri_normal.proofs.remove_dot_segments.show_after.Goals as goal
 
 pub parent_of-parent-requires-clause-known : goal.parent_of-parent-requires-clause-known
 parent_of-parent-requires-clause-known g c = λ h.
-    c.requires.known h ∙ ap (λ n. popped_times (taken (pieces 47 c.args.text.now) n) c.args.directory.now) (sym c.taken-count.ensures.count)
+    c.requires.known h ∙ ap (λ n. length (popped_times (taken (pieces 47 c.args.text.now) n) c.args.directory.now)) (sym c.taken-count.ensures.count)
 
 pub show_part-requires : goal.show_part-requires
 show_part-requires g c =

@@ -1,4 +1,4 @@
-use Rattle.iri_normal.proofs.Common.{◌≡◌, ◌∙◌, [], refl, sym, ap, in_form, nothing_over, path_char, pieces, popped_times, taken}
+use Rattle.iri_normal.proofs.Common.{◌≡◌, ◌∙◌, [], refl, sym, ap, length, in_form, nothing_over, path_char, pieces, popped_times, taken}
 use Rattle.iri_normal.proofs.segments.DotKinds.{nothing-is_no_dot}
 use Rattle.iri_normal.proofs.removal.LongPaths.{directory-of, dots-directory, path-parts}
 use Rattle.iri_normal.proofs.ShownTexts.{shows_same}
@@ -14,7 +14,7 @@ pub show_after-requires-clause-known : goal.show_after-requires-clause-known
 show_after-requires-clause-known g c =
     let p = c.args.path.now in
     let none : taken (pieces 47 []) 0 ≡ 0 = rw nothing-is_no_dot refl in
-    λ h. p.above h ∙ ap (λ n. popped_times (taken (pieces 47 p.reference.now) n) p.base.now) (sym none)
+    λ h. p.above h ∙ ap (λ n. length (popped_times (taken (pieces 47 p.reference.now) n) p.base.now)) (sym none)
 
 pub show_after-requires-clause-paths : goal.show_after-requires-clause-paths
 show_after-requires-clause-paths g c =

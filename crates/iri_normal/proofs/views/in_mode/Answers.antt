@@ -2,8 +2,8 @@ use Rattle.iri_normal.proofs.Common.{◌≡◌, ◌∙◌, None, sym, subst, ap,
 use Rattle.iri_normal.proofs.canonical_texts.WrittenTexts.{view-sound}
 use Rattle.iri_normal.proofs.views.in_mode.Goals as goal
 
-pub new-requires : goal.new-requires
-new-requires g c =
+pub after-requires-clause-sound : goal.after-requires-clause-sound
+after-requires-clause-sound g c =
     let s = g.S.Spec.tests in
     let none : g.K.Kind.fault s c.args.view.text.now ≡ None = ∥∥₁_elim c.args.view.valid (hlevel props) (λ e. e) in
     let parts = c.of-target.ensures.parts in

@@ -1,5 +1,5 @@
 use Rattle.iri_normal.proofs.canonical_texts.WrittenTexts.{target-sound}
-use Rattle.iri_normal.proofs.resolver.FixedBaseResolver.resolve_split.Goals as goal
+use Rattle.iri_normal.proofs.resolver.FixedBaseResolver.shown.Goals as goal
 
 pub after-requires-clause-sound : goal.after-requires-clause-sound
 after-requires-clause-sound g c =
