@@ -1,8 +1,10 @@
 -- The written form of a value, from delimiter to delimiter.
 use Rattle.iri_link.proofs.Common.{◌≡◌, ℕ, zero, suc, ◌+◌, ◌-◌, ◌<◌, Bool, true, false, cond, List, [], ◌∷◌, ◌++◌, Option, Some, None}
-use Rattle.iri_link.proofs.Common.{length, take, drop, refl, ap, ◌∙◌, arith, drop-cons, false_from_ne_true, escaped}
+use Rattle.iri_link.proofs.Common.{length, take, drop, refl, ap, ◌∙◌, arith, drop-cons, false_from_ne_true, escaped, not, both, by_test, lacks}
 use Rattle.std.specs.Prelude.{◌==◌, ◌||◌, slice_index, slice_range, MatchOption}
+use Rattle.std.proofs.lemmas.Bool.{or_left, or_right}
 use Rattle.std.proofs.lemmas.Grind.{common_steps}
+use Rattle.iri_grammar.proofs.splits.FirstBytes.{found}
 use Rattle.memchr.specs.Find.{IsFirstByte, is_byte2}
 use Rattle.iri_link.specs.inside.CutDelimiters.{IsDelimiterAt, IsCutAtDelimiter}
 
@@ -10,14 +12,17 @@ use Rattle.iri_link.specs.inside.CutDelimiters.{IsDelimiterAt, IsCutAtDelimiter}
 abbrev pub is_delimiter : ℕ → Bool
 is_delimiter c = c == 34 || c == 92
 
-pub escaped-same : (t : List ℕ) → ((k : ℕ) → k < length t → is_delimiter (slice_index t k) ≡ true → ⊥) → escaped t ≡ t
-escaped-same [] h = refl
-escaped-same (c ∷ cs) h =
-    let none : is_delimiter c ≡ false = false_from_ne_true (is_delimiter c) (h 0 (omega arith)) in
-    let rest = escaped-same cs (λ k l m. h (suc k) (omega arith) m) in
-    ap (λ b. cond b (92 ∷ c ∷ escaped cs) (c ∷ escaped cs)) none ∙ ap (λ l. c ∷ l) rest
+-- a text with neither stands for itself
+pub escaped-same : (t : List ℕ) → lacks 34 t ≡ true → lacks 92 t ≡ true → escaped t ≡ t
+escaped-same [] h k = refl
+escaped-same (c ∷ cs) h k =
+    let a = both (not (c == 34)) (lacks 34 cs) h in
+    let b = both (not (c == 92)) (lacks 92 cs) k in
+    let i = escaped-same cs a.1 b.1 in
+    by_test c 34 (λ v. not v ≡ true → cond (v || c == 92) (92 ∷ c ∷ escaped cs) (c ∷ escaped cs) ≡ c ∷ cs) (λ _ n. cc)
+    (λ _ _. by_test c 92 (λ v. not v ≡ true → cond v (92 ∷ c ∷ escaped cs) (c ∷ escaped cs) ≡ c ∷ cs) (λ _ n. cc) (λ _ _. ap (λ l. c ∷ l) i) b.0) a.0
 
-pub escaped-at : (t : List ℕ) (k : ℕ) → k < length t → ((j : ℕ) → j < k → is_delimiter (slice_index t j) ≡ true → ⊥)
+escaped-at : (t : List ℕ) (k : ℕ) → k < length t → ((j : ℕ) → j < k → is_delimiter (slice_index t j) ≡ true → ⊥)
     → is_delimiter (slice_index t k) ≡ true → escaped t ≡ (take k t ++ (92 ∷ slice_index t k ∷ [])) ++ escaped (drop (suc k) t)
 escaped-at [] k l h m = absurd (omega arith)
 escaped-at (c ∷ cs) zero l h m = ap (λ b. cond b (92 ∷ c ∷ escaped cs) (c ∷ escaped cs)) m
@@ -31,7 +36,9 @@ delimiter-low c h = grind (arith, common_steps)
 
 -- what `memchr2` says, in these words
 pub delimiter_found : (t : List ℕ) (r : Option ℕ) → IsFirstByte (is_byte2 34 92) t r → MatchOption r (escaped t ≡ t) (λ k. IsDelimiterAt t k)
-delimiter_found t None h = escaped-same t (λ k l m. h k (omega arith) l m)
+delimiter_found t None h =
+    escaped-same t (found 34 t None (λ k a l m. h k a l (or_left (slice_index t k == 34) (slice_index t k == 92) m))).has
+    (found 92 t None (λ k a l m. h k a l (or_right (slice_index t k == 34) (slice_index t k == 92) m))).has
 delimiter_found t (Some k) h = record {
   inside = h.0.high;
   low = delimiter-low (slice_index t k) h.1;

@@ -1,12 +1,13 @@
 -- Parameters in their written form: what both readings make of them.
 use Rattle.iri_link.proofs.Common.{◌≡◌, ◌==◌, eqb-true, subst, cond, None, ℕ, Bool, true, false, ◌&&◌, List, [], ◌∷◌, ◌++◌, Some, refl, sym, ap, ◌∙◌, arith, both, test_apart, append_assoc, append-nil, length}
-use Rattle.iri_link.proofs.Common.{nat_tests, list_all, flat_map, map, Tests, LinkParam, after_param, after_semicolon, fault_from, escaped, written_param, str_to_ascii_lowercase}
+use Rattle.iri_link.proofs.Common.{nat_tests, list_all, flat_map, map, Tests, LinkParam, after_param, after_semicolon, fault_from, written_param, str_to_ascii_lowercase}
 use Rattle.iri_link.proofs.Common.{after_equals, is_token_char, is_pair_char, is_plain_char, IsQuoted, done, plain, in_quoted}
 use Rattle.std.proofs.Common.{length-append}
 use Rattle.std.proofs.lemmas.List.{nil_from_length}
 use Rattle.std.proofs.lemmas.Grind.{flat_map-append}
 use Rattle.std.specs.Char.{is_ascii_lowercase, to_ascii_lowercase}
 use Rattle.std.specs.Prelude.{filter}
+use Rattle.iri_grammar.proofs.splits.CutLaws.{all-lacks}
 use Rattle.iri_grammar.specs.Parts.{is_empty}
 use Rattle.iri_link.specs.LaxReadings.{reads, is_name_char, is_writable, with_writable, lax_param}
 unfoldable use Rattle.iri_link.specs.LaxReadings.{lax_reading}
@@ -14,6 +15,7 @@ use Rattle.iri_link.specs.Readings.{of_params, of_value, more}
 use Rattle.iri_link.specs.inside.Faults.{phase_at}
 use Rattle.iri_link.specs.inside.Pieces.{Ends, left_at}
 use Rattle.iri_link.specs.inside.PlainParams.{ArePlain, IsPlainParam, with_params}
+use Rattle.iri_link.proofs.EscapeLemmas.{escaped-same}
 use Rattle.iri_link.proofs.GrammarLemmas.{param-named}
 use Rattle.iri_link.proofs.LaxLemmas.{lax-blanks, lax-equals, lax-named, lax-open, lax-semicolon, param-bare}
 use Rattle.iri_link.proofs.LaxWalk.{left_inside}
@@ -47,13 +49,12 @@ lower_all (c ∷ cs) h =
 
 record IsPlainValue (v : List ℕ) : Type 0 where
   quoted : IsQuoted v v
-  written : escaped v ≡ v
   pairs : list_all is_pair_char v ≡ true
   lax : (rest : List ℕ) → lax_reading (reads in_quoted) (v ++ 34 ∷ rest) ≡ with_text v (lax_reading (reads after_param) rest)
 
 plain_all : (v : List ℕ) → list_all is_plain_char v ≡ true → IsPlainValue v
 unfolding lax_reading
-plain_all [] h = record { quoted = done; written = refl; pairs = refl; lax = λ rest. sym (param-bare rest) }
+plain_all [] h = record { quoted = done; pairs = refl; lax = λ rest. sym (param-bare rest) }
 plain_all (c ∷ cs) h =
     let k = both (is_plain_char c) (list_all is_plain_char cs) h in
     let i = plain_all cs k.1 in
@@ -62,7 +63,6 @@ plain_all (c ∷ cs) h =
     let s = test_apart is_plain_char 92 c refl p in
     record {
       quoted = plain c cs cs p i.quoted;
-      written = rw (m, s) (ap (λ l. c ∷ l) i.written);
       pairs = ap (λ b. b && list_all is_pair_char cs) (both (is_pair_char c) _ p).0 ∙ i.pairs;
       lax = λ rest. rw (m, s) (ap (more c) (i.lax rest));
     }
@@ -75,6 +75,7 @@ one t (c ∷ cs) v rest e k l p =
     let n = c ∷ cs in
     let name = lower_all n l in
     let value = plain_all v p in
+    let same = escaped-same v (all-lacks is_plain_char 34 v refl p) (all-lacks is_plain_char 92 v refl p) in
     let q : LinkParam = record { name = n; value = Some v } in
     let u = 34 ∷ (v ++ 34 ∷ rest) in
     let parts = append_assoc v (34 ∷ []) rest in
@@ -90,7 +91,7 @@ one t (c ∷ cs) v rest e k l p =
     record {
       params = q ∷ [];
       whole = e ∙ ap (λ l. 59 ∷ 32 ∷ l) (ap (λ z. n ++ 61 ∷ 34 ∷ z) (sym parts) ∙ sym (append_assoc n (61 ∷ 34 ∷ (v ++ 34 ∷ [])) rest));
-      said = append-nil (written_param q) ∙ ap (λ z. 59 ∷ 32 ∷ (n ++ 61 ∷ 34 ∷ (z ++ 34 ∷ []))) value.written;
+      said = append-nil (written_param q) ∙ ap (λ z. 59 ∷ 32 ∷ (n ++ 61 ∷ 34 ∷ (z ++ 34 ∷ []))) same;
       goes = λ s.
           let string = ap (outcome s after_equals) (ap (λ z. 34 ∷ z) (sym parts)) ∙ string-given s v v rest value.quoted in
           ap (fault_from s after_param) e ∙ ap (λ o. o.0) ((semicolon-same s (32 ∷ (n ++ 61 ∷ u))).1 ∙ (blanks s after_semicolon refl (32 ∷ []) (n ++ 61 ∷ u) refl

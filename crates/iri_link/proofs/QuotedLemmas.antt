@@ -4,7 +4,7 @@ use Rattle.iri_link.proofs.Common.{length, take, drop, get_or, refl, sym, ◌∙
 use Rattle.iri_link.proofs.Common.{before, after, both, by_test, is_pair_char, is_plain_char, IsQuoted, done, plain, pair}
 use Rattle.iri_link.proofs.Common.{list_all, test_apart, is_token_char, closes_from, quoted_len, unquoted, unquoted_from, first_passes, cases_lt, inl, inr, IsRun}
 use Rattle.std.proofs.Common.{length-append}
-use Rattle.std.proofs.lemmas.List.{length-take, take_all}
+use Rattle.std.proofs.lemmas.List.{drop_more, length-take, take_all}
 use Rattle.iri_grammar.specs.Parts.{is_empty}
 use Rattle.iri_link.specs.inside.ReadQuoted.{IsCutOpen, IsPastQuoted}
 use Rattle.iri_link.proofs.RunLemmas.{when}
@@ -20,19 +20,16 @@ at_other true c cs n = refl
 at_other false c cs n =
     by_test c 92 (λ b. (c == 92) ≡ b → quoted_len false (c ∷ cs) ≡ suc (quoted_len b cs)) (λ _ e. rw (n, e) refl) (λ _ e. rw (n, e) refl) refl
 
-at_place : (bs : List ℕ) (i : ℕ) → i < length bs → drop i bs ≡ get_or bs i 0 ∷ drop (i + 1) bs
-at_place bs i inside = let n : suc i ≡ i + 1 = omega arith in subst (λ k. drop i bs ≡ get_or bs i 0 ∷ drop k bs) n (drop-cons bs i 0 inside)
-
 -- ---- how long it is, whether it ends or not
 module _ (bs : List ℕ) (i : ℕ) (e : Bool) (inside : i < length bs) (counts : i + quoted_len e (drop i bs) ≡ quoted_len false bs) where
   pub len_found : (not e && get_or bs i 0 == 34) ≡ true → i ≡ quoted_len false bs
   len_found h =
-      let n : quoted_len e (drop i bs) ≡ 0 = ap (quoted_len e) (at_place bs i inside) ∙ at_delimiter e (get_or bs i 0) (drop (i + 1) bs) h in
+      let n : quoted_len e (drop i bs) ≡ 0 = ap (quoted_len e) (drop_more bs i 0 inside) ∙ at_delimiter e (get_or bs i 0) (drop (i + 1) bs) h in
       omega (arith, counts, n)
 
   pub len_on : (not e && get_or bs i 0 == 34) ≡ false → i + 1 + quoted_len (not e && get_or bs i 0 == 92) (drop (i + 1) bs) ≡ quoted_len false bs
   len_on h =
-      let k : quoted_len e (drop i bs) ≡ suc (quoted_len (not e && get_or bs i 0 == 92) (drop (i + 1) bs)) = ap (quoted_len e) (at_place bs i inside) ∙ at_other e (get_or bs i 0) (drop (i + 1) bs) h in
+      let k : quoted_len e (drop i bs) ≡ suc (quoted_len (not e && get_or bs i 0 == 92) (drop (i + 1) bs)) = ap (quoted_len e) (drop_more bs i 0 inside) ∙ at_other e (get_or bs i 0) (drop (i + 1) bs) h in
       omega (arith, counts, k)
 
 pub len_end : (bs : List ℕ) (i : ℕ) (e : Bool) → length bs ≤ i → i ≤ length bs → i + quoted_len e (drop i bs) ≡ quoted_len false bs → length bs ≡ quoted_len false bs

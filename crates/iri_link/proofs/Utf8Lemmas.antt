@@ -1,7 +1,7 @@
 -- The values of quoted strings, and their written form, are texts.
-use Rattle.iri_link.proofs.Common.{zero, suc, length, Option, Some, None, before, after, delimited, test_apart, is_plain_char, unquoted, unquoted_from, first_passes, ◌≡◌, ℕ, ◌<◌, ◌≤◌, true, false, cond, not, List, [], ◌∷◌, ◌++◌, refl, sym, ap, ◌∙◌, subst, arith, inl}
+use Rattle.iri_link.proofs.Common.{zero, suc, length, Option, Some, None, before, after, delimited, test_apart, is_plain_char, unquoted, unquoted_from, first_passes, ◌≡◌, ℕ, ◌<◌, ◌≤◌, true, false, cond, List, [], ◌∷◌, ◌++◌, refl, sym, ap, ◌∙◌, subst, arith, inl}
 use Rattle.iri_link.proofs.Common.{inr, ◌==◌, ◌||◌, IsUtf8, nat_tests, both, cases_lt, append-nil, IsUtf8-append, IsUtf8-nil, lacks}
-use Rattle.iri_link.proofs.Common.{delimited-utf8, by_test, IsQuoted, done, plain, pair, escaped}
+use Rattle.iri_link.proofs.Common.{delimited-utf8, IsQuoted, done, plain, pair, escaped}
 use Rattle.std.proofs.lemmas.Str.{IsUtf8-encode, encode_ascii}
 use lib.Utf8.{encode, encodes, scalar, scalars}
 use Rattle.std.proofs.Common.{◌⊎◌}
@@ -9,13 +9,11 @@ use Rattle.iri_grammar.proofs.splits.CharBoundaries.{text_after_delimiter, text_
 use Rattle.iri_grammar.proofs.splits.CutLaws.{joined}
 use Rattle.iri_grammar.proofs.units.FirstUnits.{text_after_ascii}
 use Rattle.iri_link.proofs.QuotedLemmas.{after_pair, unquoted-chunk, after_pair-plain, after-shorter}
+use Rattle.iri_link.proofs.EscapeLemmas.{escaped-same}
 use Rattle.iri_link.proofs.RunLemmas.{mark}
 use Rattle.iri_grammar.proofs.units.LackedBytes.{lacks-encodes}
 
 -- ---- characters
-low_encoded : (x : ℕ) → x < 128 → encode x ≡ x ∷ []
-low_encoded x l = encode_ascii x l
-
 high_lacks : (c x : ℕ) → c < 128 → 128 ≤ x → lacks c (encode x) ≡ true
 high_lacks c x l h =
     let other : (x == c) ≡ false = grind (arith, nat_tests) in
@@ -63,19 +61,10 @@ escaped-append (c ∷ cs) b =
       | false ↦ ap (λ l. c ∷ l) (escaped-append cs b)
     ]
 
-escaped-same : (t : List ℕ) → lacks 34 t ≡ true → lacks 92 t ≡ true → escaped t ≡ t
-escaped-same [] h k = refl
-escaped-same (c ∷ cs) h k =
-    let a = both (not (c == 34)) (lacks 34 cs) h in
-    let b = both (not (c == 92)) (lacks 92 cs) k in
-    let i = escaped-same cs a.1 b.1 in
-    by_test c 34 (λ v. not v ≡ true → cond (v || c == 92) (92 ∷ c ∷ escaped cs) (c ∷ escaped cs) ≡ c ∷ cs) (λ _ n. cc)
-    (λ _ _. by_test c 92 (λ v. not v ≡ true → cond v (92 ∷ c ∷ escaped cs) (c ∷ escaped cs) ≡ c ∷ cs) (λ _ n. cc) (λ _ _. ap (λ l. c ∷ l) i) b.0) a.0
-
 one_escaped : (x : ℕ) → scalar x ≡ true → IsUtf8 (escaped (encode x))
 one_escaped x s =
     elim (cases_lt x 128) [
-      | inl l ↦ rw (low_encoded x l)
+      | inl l ↦ rw (encode_ascii x l)
           (elim (x == 34 || x == 92) as (λ b. IsUtf8 (cond b (92 ∷ x ∷ []) (x ∷ []))) [
             | true ↦ delimited-utf8 92 (x ∷ []) (omega arith) (delimited-utf8 x [] l IsUtf8-nil)
             | false ↦ delimited-utf8 x [] l IsUtf8-nil

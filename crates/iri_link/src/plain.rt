@@ -1,5 +1,5 @@
 // Parameters that stand in their written form (RFC 8288 section 3). Most do, and both readings take them alike, so that they are
-// passed, and shown, as one text: a line of `links` takes 2,409 instructions by bench/commands, and 4,358 without it (2026-12-01).
+// passed, and shown, as one text: a line of `links` takes 2,339 instructions by bench/commands, and 4,137 without it (2026-12-01).
 ghost use Rattle.std.specs.Prelude.{ℕ, List, ⊤, true, MatchOption};
 ghost use Rattle.iri_link.specs.inside.PlainParams.{ArePlain, IsPlainParam};
 

@@ -2,17 +2,14 @@
 use Rattle.iri_register.proofs.Common.{◌≡◌, ℕ, zero, suc, ◌+◌, List, [], ◌∷◌, ◌++◌, true, false, refl, sym, ◌∙◌, ap, filter}
 use Rattle.iri_register.proofs.Common.{length, Some, None, position, string_bytes, keys_of, lookup, Lines, Key, AreHashed}
 use Rattle.iri_register.proofs.Common.{IsHashed, key_eq, is_live, is_text}
-use Rattle.std.proofs.Common.{Bool, not, ◌&&◌, cond, nat_lt, slice_set}
+use Rattle.std.proofs.Common.{not, ◌&&◌, cond, nat_lt, slice_set}
+use Rattle.std.proofs.Math.Bool.{and-false}
 use Rattle.std.specs.Prelude.{nat_eq}
 use Rattle.std.specs.List.{position_or_len}
 use Rattle.std.specs.Hash.DefaultHasher.{finish, write}
 use Rattle.std.specs.declared.hash.DefaultHasher.{DefaultHasher}
 use Rattle.indexmap.specs.IndexMap.{set_value_at}
 use Rattle.iri_register.proofs.GroupLemmas.{is_same, same}
-
-pub and_false : (b : Bool) → (b && false) ≡ false
-and_false true = refl
-and_false false = refl
 
 module _ (h : DefaultHasher) where
   pub as_texts : (j k : Key) → IsHashed h j → IsHashed h k → key_eq j k ≡ is_text (string_bytes j.text) k
@@ -21,7 +18,7 @@ module _ (h : DefaultHasher) where
         | true ↦ λ m.
             let alike : j.hash ≡ k.hash = a ∙ ap (λ t. finish (write h t)) (is_same (string_bytes j.text) (string_bytes k.text) m) ∙ sym b in
             ap (λ n. nat_eq n k.hash && true) alike ∙ same (k.hash ∷ [])
-        | false ↦ λ m. and_false (nat_eq j.hash k.hash)
+        | false ↦ λ m. and-false (nat_eq j.hash k.hash)
       ] refl
 
   pub lookup_as : (j : Key) (es : List (Key × Lines)) → IsHashed h j → AreHashed h es

@@ -4,6 +4,7 @@ use Rattle.iri_register.proofs.Common.{entry_of, entries_of, has_lines, is_live,
 use Rattle.std.proofs.Common.{bytes_eq, ◌≡◌, ◌≢◌, ℕ, zero, suc, ◌+◌, ◌-◌, ◌<◌, ◌≤◌, List, [], ◌∷◌, ◌++◌, length, map, filter}
 use Rattle.std.proofs.Common.{◌^◌, Option, get_or, position, slice_get, true, false, cond, true≢false, Some, None, is_some, option_map, ◌&&◌, string_bytes}
 use Rattle.std.proofs.Common.{refl, sym, ◌∙◌, ap, subst, arith, ⊎_elim}
+use Rattle.std.proofs.Math.Bool.{and-false}
 use Rattle.std.proofs.lemmas.Bool.{cases_lt}
 use Rattle.std.proofs.lemmas.List.{length-append}
 use Rattle.std.proofs.lemmas.List.Quantifiers.{position-Some}
@@ -16,7 +17,7 @@ use Rattle.iri_register.specs.Entries.{with_line}
 use Rattle.iri_register.specs.inside.Moved.{IsPlacedBy}
 use Rattle.iri_register.specs.inside.Slots.{flag}
 use Rattle.iri_register.proofs.GroupLemmas.{filter_twice, is_same}
-use Rattle.iri_register.proofs.HashLemmas.{and_false, as_texts, hashed_last, hashed_live, hashed_set}
+use Rattle.iri_register.proofs.HashLemmas.{as_texts, hashed_last, hashed_live, hashed_set}
 
 -- ---- gaps
 
@@ -433,7 +434,7 @@ insert_last k w (x ∷ es) h =
     elim (is_text (string_bytes k.text) x.0) as (λ b. is_some (cond b (Some x.1) (lookup (is_text (string_bytes k.text)) es)) ≡ false
     → cond (nat_eq k.hash x.0.hash && b) ((x.0, w) ∷ es) (x ∷ insert_entry key_eq es k w) ≡ x ∷ (es ++ (k, w) ∷ [])) [
       | true ↦ λ m. absurd (true≢false m)
-      | false ↦ λ m. rw (and_false (nat_eq k.hash x.0.hash)) (ap (λ l. x ∷ l) (insert_last k w es m))
+      | false ↦ λ m. rw (and-false (nat_eq k.hash x.0.hash)) (ap (λ l. x ∷ l) (insert_last k w es m))
     ] h
 
 entries_last : (es : List (Key × Lines)) (x : Key × Lines) → is_live x ≡ true

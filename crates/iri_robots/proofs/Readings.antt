@@ -1,6 +1,6 @@
 -- How an escaped text is read, and what of a pattern stands in it.
 use Rattle.std.proofs.Common.{◌≡◌, ◌≢◌, ◌⊎◌, ℕ, zero, suc, ◌+◌, ◌-◌, ◌<◌, ◌≤◌, Bool, true, false, List, [], ◌∷◌, ◌++◌, length, take, drop, slice_index, refl, sym, ◌∙◌, ap, subst, arith, inl, inr, ⊎_elim, append_assoc}
-use Rattle.std.proofs.lemmas.List.{length-append, get_or-take, get_or-drop, length-take-le, ext_get_or, length-drop, drop-append-le, drop-drop}
+use Rattle.std.proofs.lemmas.List.{length-append, get_or-take, get_or-drop, length-take-le, ext_get_or, length-drop, drop-append-le, drop-drop, nil_from_length}
 use Rattle.std.proofs.Math.ListN.{get_or-append}
 use Rattle.std.proofs.Math.Seq.{take-suc}
 use Rattle.std.proofs.lemmas.Bool.{false≢true}
@@ -308,10 +308,6 @@ suffix_as_long d r s (later x r' s' k) l =
     let h = shorter_read d r s' k in
     absurd (omega (arith, length-append (tail_of d x) (escaped_text d s')))
 
-no_begun : (b : List ℕ) → length b ≡ 0 → b ≡ []
-no_begun [] e = refl
-no_begun (x ∷ b) e = absurd (omega arith)
-
 pub none_left : (d : Bool) (q s : List ℕ) (len n : ℕ) (l after : Left) → IsNeedle d q len → len ≤ length q → Stands d (take len q) l n after
     → StandsNotHere d (take len q) (drop len q) l n after → left_text d after ≡ [] → Keeps q s l.rest → StandsNot q s
 unfolding left_text
@@ -327,7 +323,7 @@ none_left d q s len n l after h m st o e k a = record {
       let z = length-take-le n (take len q) st.within in
       let i = st.within in
       let p = length-append l.begun (escaped_text d l.rest) in
-      let b : l.begun ≡ [] = no_begun l.begun (omega arith) in
+      let b : l.begun ≡ [] = nil_from_length l.begun (omega arith) in
       let c : g.rest ≡ l.rest = suffix_as_long d g.rest l.rest g.is_suffix (omega arith) in
       let j : l ≡ left [] g.rest = ap (λ t. left t l.rest) b ∙ ap (λ t. left [] t) (sym c) in
       not_here d a q len n l after g.rest h m st o j g.fits;
