@@ -1,8 +1,8 @@
 -- How a run begins.
-use Rattle.iri_cli.proofs.Common.{◌≡◌, ℕ, ◌≤◌, Bool, cond, List, [], ◌∷◌, ◌++◌, length, true, Option, None, Ok, refl, sym, ◌∙◌, ap, subst, arith}
-use Rattle.iri_cli.proofs.Common.{⊎_elim, append-nil, Tests, bytes_fault, absolute_fault, LineState, Appends, Appends-none, room-same, SinkState}
+use Rattle.iri_cli.proofs.Common.{◌≡◌, ℕ, ◌≤◌, Bool, cond, List, [], ◌∷◌, length, true, Option, None, Ok, refl, sym, ◌∙◌, ap, subst, arith}
+use Rattle.iri_cli.proofs.Common.{⊎_elim, Tests, bytes_fault, absolute_fault, LineState, Appends, Appends-none, room-same, SinkState}
 use Rattle.iri_cli.proofs.Common.{refusal, Answering, IsReady, Rules, begun, answered, IsBaseTaken, with_base}
-use Rattle.iri_cli.proofs.Common.{HasRead, outside, Ran, Memory, Advances, longest_line}
+use Rattle.iri_cli.proofs.Common.{outside, Ran, Memory, Advances, longest_line}
 use Rattle.iri_normal.proofs.canonical_texts.CanonicalTexts.{fault_none}
 use Rattle.iri_cli.specs.run.Buffers.{AreBuffers, IsNew}
 use Rattle.iri_cli.specs.run.Run.{WantsMemory}
@@ -43,13 +43,11 @@ module _ (s : Tests) (rules : Rules) (begins : BeginsAsCanon s rules) where
     after_line lo lm reader text none gives short p =
         let read = ⊎_elim (λ h. h) (λ h. absurd (refuses_empty s (subst (λ (t : List ℕ). refusal s t ≡ None) h.1 p.taken))) gives in
         record {
-          first = line ∷ [];
-          begins = λ more. no_fixed rules none (line ∷ more);
+          not_fixed = none;
           read = read.0;
           going = read.1;
           short = short;
           is_prepared = p;
-          is_line = λ _. none;
         }
 
     module _ (lo lm : Option (List ℕ)) (reader : LineState) (text : List ℕ) (at : StandsAfter s rules lo lm reader line text) where
@@ -61,14 +59,12 @@ module _ (s : Tests) (rules : Rules) (begins : BeginsAsCanon s rules) where
       pub ends_in_memory : (fo fn : ℕ) (ko : SinkState) → rules.base_wants_memory ≡ true → fo ≤ fn
           → Ran rules (outside lo fo ko) (outside lm fn ko) Memory
       ends_in_memory fo fn ko takes later =
-          let none = at.is_line takes in
-          let is : line ∷ [] ≡ at.first = sym (at.begins []) ∙ no_fixed rules none (at.first ++ []) ∙ append-nil at.first in
-          let empty : with_base rules [] ≡ [] = no_fixed rules none [] in
+          let empty : with_base rules [] ≡ [] = no_fixed rules at.not_fixed [] in
           ran_by [] (record {
             whole = [];
             line = line;
             wants = subst (λ (t : List (List ℕ)). WantsMemory rules t line) (sym empty) (takes, refusal_is ∙ at.is_prepared.taken);
-            first = first_lines rules lo lm reader (line ∷ []) (subst (HasRead rules lo lm reader) (sym is) at.read);
+            first = first_lines rules lo lm reader (line ∷ []) at.read;
             base_taken = subst (IsBaseTaken rules) (sym empty) tt;
             writes = subst (λ (t : List (List ℕ)). Appends ko.written ko.written (answered rules t)) (sym empty) (Appends-none ko.written);
             sink = refl;

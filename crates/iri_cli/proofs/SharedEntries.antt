@@ -1,13 +1,13 @@
 -- Lines that stand in one entry of `register`, by their numbers.
 use Rattle.iri_cli.proofs.Common.{Tests, bytes_fault, reference_fault, ErrorKind, CanonMode, canonical_in, line_of, command_of, commands_from}
-use Rattle.std.proofs.Common.{◌≡◌, ◌↔◌, ◌⊎◌, ℕ, zero, suc, ◌+◌, ◌≤◌, List, [], ◌∷◌, ◌++◌, map, filter, true, false, cond, bytes_eq, not}
+use Rattle.std.proofs.Common.{◌≡◌, ◌↔◌, ◌⊎◌, ℕ, ◌+◌, ◌≤◌, List, [], ◌∷◌, ◌++◌, map, filter, true, false, cond, bytes_eq, not}
 use Rattle.std.proofs.Common.{Option, Some, None, slice_get, refl, sym, ◌∙◌, ap, subst, arith, inl, inr, ⊎_elim}
 use Rattle.std.specs.Prelude.{Contains}
 use Rattle.std.proofs.lemmas.List.Elements.{Contains-append_right, Contains-push_cases, Contains-append_cases}
 use Rattle.iri_register.specs.Commands.{Command, Add, Remove, Line, live, stays, targets, numbers, entries_of_lines}
 use Rattle.iri_register.specs.Entries.{Entry}
 use Rattle.iri_register.proofs.GroupLemmas.{same, is_same}
-use Rattle.std.proofs.lemmas.Option.{none-some, same_Some}
+use Rattle.std.proofs.lemmas.Option.{get_or_from_slice_get, slice_get_within}
 use Rattle.iri_cli.specs.register.Lines.{RegisterLine, adds, removes, finds, bad, unless_fault}
 
 -- ---- elements of lists
@@ -26,9 +26,7 @@ first_or y ys x h =
     (Contains-append_cases (y ∷ []) ys x h)
 
 pub got : {X : Type 0} (xs : List X) (i : ℕ) (x : X) → slice_get xs i ≡ Some x → Contains xs x
-got [] i x h = absurd (none-some _ h)
-got (y ∷ ys) zero x h = subst (λ z. Contains (y ∷ ys) z) (same_Some _ _ h) (here y ys)
-got (y ∷ ys) (suc i) x h = there y ys x (got ys i x h)
+got xs i x h = (i, slice_get_within xs i x h, get_or_from_slice_get xs i x x h)
 
 mapped : {X Y : Type 0} (f : X → Y) (xs : List X) (x : X) → Contains xs x → Contains (map f xs) (f x)
 mapped f [] x h = absurd (none x h)

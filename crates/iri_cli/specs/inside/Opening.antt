@@ -1,11 +1,11 @@
 -- How a command begins: its base.
-use Rattle.std.specs.Prelude.{◌≡◌, ◌≤◌, ℕ, true, List, [], length, Option, None, Result, Ok, Err}
+use Rattle.std.specs.Prelude.{◌≡◌, ◌≤◌, ℕ, true, List, [], ◌∷◌, length, Option, None, Result, Ok, Err}
 use Rattle.std.specs.declared.alloc.AllocError.{AllocError}
 use Rattle.iri_grammar.specs.Classes.{Tests}
 use Rattle.iri_cli.specs.canon.Answers.{refusal}
 use Rattle.iri_text.specs.Line.{LineState}
 use Rattle.iri_cli.specs.inside.Answering.{Answering}
-use Rattle.iri_cli.specs.inside.Read.{BeginsWith, HasRead, IsGoing}
+use Rattle.iri_cli.specs.inside.Read.{HasRead, IsGoing}
 use Rattle.iri_cli.specs.run.Ending.{Rules}
 use Rattle.iri_cli.specs.run.Limits.{longest_line}
 use Rattle.iri_cli.specs.run.Prepared.{prepared}
@@ -26,17 +26,14 @@ pub record IsPreparedOf (s : Tests) (line text : List ℕ) : Type 0 where
   pub taken : refusal s line ≡ None
   pub text_is : text ≡ prepared s line
 
--- The lines up to a base were read, and the reader goes on. The base is taken, and this text is how a run prepares it. Where it may take
--- memory it is a line.
+-- A base line was read, and the reader goes on. The base is taken, and this text is how a run prepares it.
 pub record StandsAfter (s : Tests) (rules : Rules) (left_old left_new : Option (List ℕ)) (reader : LineState) (base text : List ℕ)
     : Type 0 where
-  pub first : List (List ℕ)
-  pub begins : BeginsWith rules base first
-  pub read : HasRead rules left_old left_new reader first
+  pub not_fixed : rules.fixed_base ≡ None
+  pub read : HasRead rules left_old left_new reader (base ∷ [])
   pub going : IsGoing rules reader
   pub short : length base ≤ longest_line
   pub is_prepared : IsPreparedOf s base text
-  pub is_line : rules.base_wants_memory ≡ true → rules.fixed_base ≡ None
 
 -- The command stands after each base line of which this is the prepared base; or allocation failed.
 abbrev pub Opens : {A : Type 0} → Tests → Rules → List ℕ → (A → List ℕ → Answering → Type 0) → Result A AllocError → Type 0

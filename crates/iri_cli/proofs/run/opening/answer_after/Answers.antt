@@ -1,6 +1,7 @@
-use Rattle.iri_cli.proofs.Common.{◌∙◌, arith, ap, subst, sym, length, begun}
+use Rattle.iri_cli.proofs.Common.{[], ◌∷◌, ◌∙◌, arith, ap, subst, sym, length, begun}
 use Rattle.iri_cli.specs.inside.Opening.{IsPreparedOf}
 use Rattle.iri_cli.proofs.BytesLemmas.{base_absolute}
+use Rattle.iri_cli.proofs.Ends.{no_fixed}
 use Rattle.iri_cli.proofs.OpeningLemmas.{ends_in_memory, ready}
 use Rattle.iri_cli.proofs.PreparedLaws.{prepared_short}
 use Rattle.iri_cli.proofs.run.opening.answer_after.Goals as goal
@@ -29,7 +30,8 @@ returns-in-Ok g c = λ line left faults at earlier.
     let rules = g.A.Answers.rules c.args.start in
     let p = subst (IsPreparedOf s line) (sym c.new-resolver.ensures) at.is_prepared in
     c.answer_lines.ensures (begun rules line)
-    (ready s rules (g.met.A.Answers.begins c.args.start) line _ _ _ _ at _ (c.in-Ok.ensures line p)) left faults at.first at.begins at.read earlier
+    (ready s rules (g.met.A.Answers.begins c.args.start) line _ _ _ _ at _ (c.in-Ok.ensures line p)) left faults (line ∷ [])
+    (λ more. no_fixed rules at.not_fixed (line ∷ more)) at.read earlier
 
 pub returns-in-Err : goal.returns-in-Err
 returns-in-Err g c = λ line left faults at earlier.
