@@ -16,20 +16,20 @@ use iri_types::split::SplitView;
 
 // The target of a reference against a base.
 #[derive(Drop)]
-struct Target<'a, S: Spec> {
-    resolver: FixedBaseResolver<'a, S>,
-    reference: SplitView<'a, S, Reference>,
+struct Target<'r, 'a, S: Spec> {
+    resolver: &'r FixedBaseResolver<'a, S>,
+    reference: &'r SplitView<'a, S, Reference>,
 }
 
-impl<S: Spec> Show for Target<'_, S> {
+impl<S: Spec> Show for Target<'_, '_, S> {
     ghost use Rattle.iri_normal.specs.Resolver.{base_text};
     ghost use Rattle.iri_types.specs.SplitText.{split_text};
     ghost use Rattle.iri_calls.specs.Resolutions.{target_text};
 
-    ghost text = { λ t. target_text (base_text t.resolver) (split_text t.reference) };
+    ghost text = { λ t. target_text (base_text t.resolver.now) (split_text t.reference.now) };
 
     fn show<W: TextSink>(&self, sink: &mut W) -> Result<(), Stop> {
-        show_target(sink, &self.resolver, &self.reference)
+        show_target(sink, self.resolver, self.reference)
     }
 }
 
@@ -43,10 +43,9 @@ fn write_target<S: Spec>(base: &[u8], reference: &[u8], out: &mut [u8], detail: 
     };
     match SplitView::<S, Reference>::try_from_bytes(reference) {
         Ok(reference) => {
-            let resolver = FixedBaseResolver::of_split(base);
             let target = Target {
-                resolver,
-                reference,
+                resolver: &FixedBaseResolver::of_split(base),
+                reference: &reference,
             };
             answer_text(out, &target, detail)
         }
