@@ -89,7 +89,7 @@ fn cut_chars(text: &str, most: u16) -> (&str, u16)
 }
 
 // Writes a text in which reserved characters stay. Where all are characters of a reference in ASCII, it is put as it
-// stands and isn't read again by characters (131 instructions a line of `expand`, 3 %, 2026-12-01).
+// stands and isn't read again by characters (133 instructions a line of `expand`, 3 %, 2026-12-01).
 pub(crate) fn put_reserved<S: Spec, W: TextSink>(sink: &mut W, text: &str) -> Result<(), Stop>
     ensures { Shows W.puts W.halts W.stops sink.old (encoded (any_char S.tests) text.now) sink.new result }
 {

@@ -1,5 +1,5 @@
-//! What is held back of a value that comes in pieces: percent-encoded octets of a character whose others may follow,
-//! and the beginning of one more.
+//! What is held back of a value that comes in pieces: percent-encoded octets, until there are as many as a character may
+//! have, and the beginning of one more.
 ghost use Rattle.std.specs.Prelude.{◌≡◌, ◌≤◌, ◌<◌, ◌++◌, ◌∷◌, [], length, take, drop, true};
 ghost use Rattle.std.specs.Str.{chars};
 ghost use Rattle.iri_template.specs.inside.Held.{goes_on, is_begun, unit_len};

@@ -1,4 +1,4 @@
--- What is held back of a value that comes in pieces: triplets of a character whose others may follow, and the beginning of one more.
+-- What is held back of a value that comes in pieces: triplets, until there are as many as a character may have, and the beginning of one more.
 use Rattle.std.specs.Prelude.{ℕ, zero, ◌-◌, ◌%◌, Bool, true, false, cond, ◌&&◌, ◌==◌, List, [], ◌∷◌, Option, Some, None, length}
 use Rattle.std.specs.Char.{is_ascii_hexdigit}
 use Rattle.std.specs.List.{flat_map}
