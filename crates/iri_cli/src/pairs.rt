@@ -1,5 +1,5 @@
 // The answers of `pairs`: those to links, page by page.
-ghost use Rattle.std.specs.Prelude.{◌≡◌, ◌≤◌, ◌+◌, length, true};
+ghost use Rattle.std.specs.Prelude.{◌≡◌, ◌≤◌, ◌+◌, length, take, true};
 ghost use Rattle.std.specs.Vec.{vec_capacity};
 ghost use Rattle.iri_normal.specs.Resolver.{base_text};
 ghost use Rattle.iri_cli.specs.inside.Going.{Beginning, GoesOn, ahead};
@@ -14,14 +14,13 @@ pub(crate) mod pair;
 use crate::pairs::link::{LinkText, put_link};
 use crate::pairs::pair::{link_on, pair_of};
 use crate::run::answering::{go_on, next_line};
-use crate::run::buffers::CanonBuffers;
+use crate::run::buffers::{CanonBuffers, room_for};
 use crate::run::end::{End, finish};
 use crate::run::puts::{put_bad_line, put_line, say_good};
 use iri_grammar::spec::Spec;
 use iri_normal::resolver::FixedBaseResolver;
 use iri_text::{Failed, LineReader, Sink, Source};
 use iri_types::split::SplitView;
-use std::alloc::AllocError;
 
 /// What answers each link on its page, and whether all answers so far are good.
 #[derive(Drop)]
@@ -31,17 +30,25 @@ struct Pairs {
     all_good: bool,
 }
 
-// Holds a page in place of another.
+// Writes bytes over the start of others.
+#[inline(always)]
+fn put_over(held: &mut [u8], bytes: &[u8])
+    requires { length bytes.now ≤ length held.old }
+    ensures { take (length bytes.now) held.new ≡ bytes.now }
+{
+    held[..bytes.len()].copy_from_slice(bytes);
+}
+
+// Holds a page over the start of another, of which what is longer stays behind it.
+#[inline(always)]
 fn hold(held: &mut Vec<u8>, page: &[u8])
     requires { length page.now ≤ vec_capacity held.old }
-    ensures text { held.new.items ≡ page.now }
+    ensures room { length page.now ≤ length held.new.items }
+    ensures text { take (length page.now) held.new.items ≡ page.now }
     ensures capacity { vec_capacity held.old ≤ vec_capacity held.new }
 {
-    held.clear();
-    match held.extend_from_slice(page) {
-        Ok(()) => (),
-        Err(AllocError) => unreachable!(),
-    }
+    room_for(held, page.len());
+    put_over(held, page);
 }
 
 // Answers lines with the page of a resolver, from that of the reader on. None where the reader has a line with another page, or with none.
@@ -100,7 +107,7 @@ fn answer_from<S: Spec, I: Source, O: Sink>(
     match pair_of(reader.line()) {
         Some(pair) => {
             hold(held, pair.page);
-            match SplitView::<S, _>::absolute_from_bytes(held) {
+            match SplitView::<S, _>::absolute_from_bytes(&held[..pair.page.len()]) {
                 Ok(page) => {
                     let resolver = FixedBaseResolver::of_split(page);
                     let answer = put_link::<S, O>(

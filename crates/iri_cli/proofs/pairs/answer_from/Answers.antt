@@ -1,4 +1,4 @@
-use Rattle.iri_cli.proofs.Common.{◌∙◌, ◌++◌, ◌∷◌, [], ap, arith, codes, false, length, refl, sym, Some}
+use Rattle.iri_cli.proofs.Common.{◌∙◌, ◌++◌, ◌∷◌, [], ap, arith, codes, false, length, refl, sym, take, Some}
 use Rattle.iri_normal.specs.Pairs.{bad_line}
 use Rattle.iri_cli.specs.inside.Paged.{line_answer}
 use Rattle.iri_cli.proofs.CanonLemmas.{said_line, said_room}
@@ -15,21 +15,21 @@ hold-requires g c =
 
 pub put_link-answer-requires-clause-base : goal.put_link-answer-requires-clause-base
 put_link-answer-requires-clause-base g c =
-    (held_page g.S.Spec.tests c.args.pairs.now.text c.line.result.now _ _ _ c.in-Some.ensures.0 (c.deref.ensures.value ∙ c.hold.ensures.text) c.in-Ok.ensures.fault
+    (held_page g.S.Spec.tests c.args.pairs.now.text c.line.result.now _ _ _ c.in-Some.ensures.0 (ap (take (length c.in-Some.pair.page.now)) c.deref.ensures.value ∙ c.hold.ensures.text) c.in-Ok.ensures.fault
     (c.of_split-resolver.ensures ∙ c.in-Ok.ensures.text)).taken
 
 pub put_link-answer-requires-clause-room : goal.put_link-answer-requires-clause-room
 put_link-answer-requires-clause-room g c =
     let short = line_short g.S.Spec.tests c.args.pairs.now.text c.requires.waits.0 _ _ _ c.requires.waits.1 in
     let parts = parts_short c.line.result.now _ _ c.in-Some.ensures.0 c.in-Some.ensures.1 in
-    let page = c.of_split-resolver.ensures ∙ c.in-Ok.ensures.text ∙ c.deref.ensures.value ∙ c.hold.ensures.text in
+    let page = c.of_split-resolver.ensures ∙ c.in-Ok.ensures.text ∙ ap (take (length c.in-Some.pair.page.now)) c.deref.ensures.value ∙ c.hold.ensures.text in
     omega (arith, short, parts, c.requires.output, ap length page, ap length c.line.ensures)
 
 pub go_on-requires : goal.go_on-requires
 go_on-requires g c =
     let s = g.S.Spec.tests in
     let m = c.args.pairs.now.text in
-    let is = answer_on_held s m _ _ _ _ _ _ c.in-Some.ensures.0 c.in-Some.ensures.1 (c.deref.ensures.value ∙ c.hold.ensures.text)
+    let is = answer_on_held s m _ _ _ _ _ _ c.in-Some.ensures.0 c.in-Some.ensures.1 (ap (take (length c.in-Some.pair.page.now)) c.deref.ensures.value ∙ c.hold.ensures.text)
     c.in-Ok.ensures.fault (c.of_split-resolver.ensures ∙ c.in-Ok.ensures.text) c.line.ensures in (
       c.requires.waits.0,
       has_answer s m _ _ _ _ c.requires.waits.1 _ _ _ is c.put_link-answer.ensures.puts c.put_link-answer.ensures.room,
@@ -37,14 +37,14 @@ go_on-requires g c =
 
 pub answer_page-requires-clause-page : goal.answer_page-requires-clause-page
 answer_page-requires-clause-page g c =
-    held_page g.S.Spec.tests c.args.pairs.now.text c.line.result.now _ _ _ c.in-Some.ensures.0 (c.deref.ensures.value ∙ c.hold.ensures.text) c.in-Ok.ensures.fault
+    held_page g.S.Spec.tests c.args.pairs.now.text c.line.result.now _ _ _ c.in-Some.ensures.0 (ap (take (length c.in-Some.pair.page.now)) c.deref.ensures.value ∙ c.hold.ensures.text) c.in-Ok.ensures.fault
     (c.of_split-resolver.ensures ∙ c.in-Ok.ensures.text)
 
 pub answer_page-requires-clause-waits : goal.answer_page-requires-clause-waits
 answer_page-requires-clause-waits g c =
     let s = g.S.Spec.tests in
     let m = c.args.pairs.now.text in
-    let is = answer_on_held s m _ _ _ _ _ _ c.in-Some.ensures.0 c.in-Some.ensures.1 (c.deref.ensures.value ∙ c.hold.ensures.text)
+    let is = answer_on_held s m _ _ _ _ _ _ c.in-Some.ensures.0 c.in-Some.ensures.1 (ap (take (length c.in-Some.pair.page.now)) c.deref.ensures.value ∙ c.hold.ensures.text)
     c.in-Ok.ensures.fault (c.of_split-resolver.ensures ∙ c.in-Ok.ensures.text) c.line.ensures in
     let w = c.requires.waits in (
       w.0,
@@ -60,7 +60,7 @@ go_on-requires-in-Err g c =
     let s = g.S.Spec.tests in
     let m = c.args.pairs.now.text in
     let fault = c.in-Err.ensures.fault ∙ ap Some (sym c.kind.ensures) in
-    let is = refused_page s m _ _ _ _ _ _ c.in-Some.ensures.0 c.in-Some.ensures.1 (c.deref.ensures.value ∙ c.hold.ensures.text) fault c.line.ensures in
+    let is = refused_page s m _ _ _ _ _ _ c.in-Some.ensures.0 c.in-Some.ensures.1 (ap (take (length c.in-Some.pair.page.now)) c.deref.ensures.value ∙ c.hold.ensures.text) fault c.line.ensures in
     let put = puts_so (ap (λ t. codes "base " ++ (t ++ 10 ∷ [])) c.description.ensures) c.put_line.ensures in (
       c.requires.waits.0,
       has_answer s m _ _ _ _ c.requires.waits.1 _ _ (line_answer s m c.args.reader.now.line) refl
@@ -82,7 +82,7 @@ pub returns-in-Some-go_on-clause-goes : goal.returns-in-Some-go_on-clause-goes
 returns-in-Some-go_on-clause-goes g c = λ b w.
     let s = g.S.Spec.tests in
     let m = c.args.pairs.now.text in
-    let is = answer_on_held s m _ _ _ _ _ _ c.in-Some.ensures.0 c.in-Some.ensures.1 (c.deref.ensures.value ∙ c.hold.ensures.text)
+    let is = answer_on_held s m _ _ _ _ _ _ c.in-Some.ensures.0 c.in-Some.ensures.1 (ap (take (length c.in-Some.pair.page.now)) c.deref.ensures.value ∙ c.hold.ensures.text)
     c.in-Ok.ensures.fault (c.of_split-resolver.ensures ∙ c.in-Ok.ensures.text) c.line.ensures in
     c.in-Some-go_on.ensures b (has_answer s m _ _ _ _ w _ _ _ is c.put_link-answer.ensures.puts c.put_link-answer.ensures.room)
 
@@ -90,7 +90,7 @@ pub returns-in-None-go_on-clause-goes : goal.returns-in-None-go_on-clause-goes
 returns-in-None-go_on-clause-goes g c = λ b w.
     let s = g.S.Spec.tests in
     let m = c.args.pairs.now.text in
-    let is = answer_on_held s m _ _ _ _ _ _ c.in-Some.ensures.0 c.in-Some.ensures.1 (c.deref.ensures.value ∙ c.hold.ensures.text)
+    let is = answer_on_held s m _ _ _ _ _ _ c.in-Some.ensures.0 c.in-Some.ensures.1 (ap (take (length c.in-Some.pair.page.now)) c.deref.ensures.value ∙ c.hold.ensures.text)
     c.in-Ok.ensures.fault (c.of_split-resolver.ensures ∙ c.in-Ok.ensures.text) c.line.ensures in
     let next = c.in-None-go_on.ensures b (has_answer s m _ _ _ _ w _ _ _ is c.put_link-answer.ensures.puts c.put_link-answer.ensures.room) in
     goes_within b _ _ _ _ _ c.answer_page.result (omega (arith, next.1)) (c.answer_page.ensures.goes b (w.0, next.0))
@@ -100,7 +100,7 @@ returns-in-Err-clause-goes g c = λ b w.
     let s = g.S.Spec.tests in
     let m = c.args.pairs.now.text in
     let fault = c.in-Err.ensures.fault ∙ ap Some (sym c.kind.ensures) in
-    let is = refused_page s m _ _ _ _ _ _ c.in-Some.ensures.0 c.in-Some.ensures.1 (c.deref.ensures.value ∙ c.hold.ensures.text) fault c.line.ensures in
+    let is = refused_page s m _ _ _ _ _ _ c.in-Some.ensures.0 c.in-Some.ensures.1 (ap (take (length c.in-Some.pair.page.now)) c.deref.ensures.value ∙ c.hold.ensures.text) fault c.line.ensures in
     let put = puts_so (ap (λ t. codes "base " ++ (t ++ 10 ∷ [])) c.description.ensures) c.put_line.ensures in
     c.go_on-in-Err.ensures b (has_answer s m _ _ _ _ w _ _ (line_answer s m c.args.reader.now.line) refl
     (said_line false _ _ _ _ c.say_good-answer.ensures refl is put) (said_room false _ _ _ _ c.say_good-answer.ensures is put))
