@@ -49,7 +49,7 @@ Statuses: 0 every answer is good, 1 some answer is bad, 2 the words are no comma
 ";
 
 /// The text of `--version`.
-pub const VERSION: &str = "irikit 0.2.0~dev\n";
+pub const VERSION: &str = "irikit 0.2.0\n";
 
 /// The text of a notice.
 pub fn text_of(notice: Notice) -> &'static str
