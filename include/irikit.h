@@ -26,8 +26,8 @@
  *
  *   IRIKIT_OK, IRIKIT_SHORT   where a text is written: its length in bytes; of a template's variables: how many there are.
  *                             Otherwise 0
- *   IRIKIT_BAD_..             the kind of the first fault from the left, one of irikit_fault; of IRIKIT_BAD_VARIABLE and
- *                             IRIKIT_BAD_TOKEN 0
+ *   IRIKIT_BAD_..             the kind of the first fault from the left, one of irikit_fault, or of a template one of
+ *                             irikit_template_fault; of IRIKIT_BAD_VARIABLE and IRIKIT_BAD_TOKEN 0
  *   IRIKIT_NOT_NORMAL, IRIKIT_UNKNOWN, IRIKIT_NO_HOST, IRIKIT_MEMORY, IRIKIT_DISALLOWED   0
  *
  * Where more than one status would be right, the first of these is returned, unless a call's comment says otherwise: IRIKIT_UNKNOWN;
