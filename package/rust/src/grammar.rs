@@ -178,7 +178,7 @@ impl Grammar {
     ///
     /// # Errors
     ///
-    /// [`Error::Text`] where it is no URI, [`Error::Short`] where the buffer is.
+    /// [`Error::Text`] where it is no URI, [`Error::Short`] where the buffer is too short.
     pub fn normalize_into<'b>(
         self,
         text: &str,
@@ -301,7 +301,7 @@ impl Grammar {
     ///
     /// # Errors
     ///
-    /// [`Error::Short`] where the buffer is.
+    /// [`Error::Short`] where the buffer is too short.
     pub fn encode_into<'b>(
         self,
         text: &str,
