@@ -14,13 +14,14 @@ import subprocess
 import sys
 import tempfile
 import uuid
-import zlib
 from collections import Counter
+from itertools import accumulate
+from zlib import adler32
 
 from distributed import Client
 from fsspec.utils import read_block
 
-SHARES = 32  # of the answers, by hash, each counted by itself: so few texts that they stay near the processor
+SHARES = 128  # of the answers, by a hash of their bytes; each is counted by itself, and is so small that it stays in the processor's cache
 
 
 def put(path, text):
@@ -30,43 +31,47 @@ def put(path, text):
     new.replace(path)
 
 
-def answer_part(number, file, start, size, grammar, out):
-    """Writes the answers to the lines of a part in order, and again share by share. What is large goes by files, and not through Dask."""
+def answer_part(number, place, size, grammar, out):
+    """Writes the answers to the lines of a part, in order and once more share by share, and gives where each share begins and ends."""
     import irikit
+    file, start = place
     with open(file, "rb") as opened:
         answers = irikit.pairs(read_block(opened, start, size, b"\n"), irikit.Grammar[grammar.upper()])
     put(out / f"answers/{number:06}", answers)
     shares = [io.BytesIO() for _ in range(SHARES)]
     for answer in io.BytesIO(answers):
-        shares[zlib.crc32(answer) % SHARES].write(answer)
-    for share, dealt in enumerate(shares):
-        put(out / f"shares/{share}/{number:06}", dealt.getbuffer())
+        shares[adler32(answer) % SHARES].write(answer)
+    put(out / f"shuffle/{number:06}", b"".join(share.getbuffer() for share in shares))
+    return [0, *accumulate(share.tell() for share in shares)]
 
 
-def count_share(share):
-    """Counts the answers of a share over all parts."""
+def count_share(share, bounds, out):
+    """Counts the answers of a share over all parts, and writes those that are texts, sorted."""
     counts = Counter()
-    for part in share.glob("[0-9]*"):
-        counts.update(io.BytesIO(part.read_bytes()))
+    for number, (start, end) in enumerate(bounds):
+        with open(out / f"shuffle/{number:06}", "rb") as shuffled:
+            shuffled.seek(start)
+            counts.update(io.BytesIO(shuffled.read(end - start)))
     texts = [answer for answer in sorted(counts) if answer.startswith(b"ok ")]
-    put(share / "counts", b"".join(b"%s\t%d\n" % (answer[3:-1], counts[answer]) for answer in texts))
+    put(out / f"shuffle/counts{share}", b"".join(b"%s\t%d\n" % (text[3:-1], counts[text]) for text in texts))
 
 
 def main(scheduler, grammar, size, out, *files):
     out, size = pathlib.Path(out).resolve(), int(size)
-    shares = [out / f"shares/{share}" for share in range(SHARES)]
-    for folder in [out / "answers", *shares]:
-        folder.mkdir(parents=True)
+    for folder in ("answers", "shuffle"):
+        (out / folder).mkdir(parents=True)
     places = [(path, start) for path in map(os.path.abspath, files) for start in range(0, os.path.getsize(path), size)]
     with Client(scheduler) as client:
         top = pathlib.Path(__file__).resolve().parents[2]
         with tempfile.TemporaryDirectory() as folder:
             client.upload_file(shutil.make_archive(f"{folder}/irikit", "zip", top / "package/python", "irikit"))
-        client.gather(client.map(answer_part, range(len(places)), *zip(*places), size=size, grammar=grammar, out=out, pure=False))
-        client.gather(client.map(count_share, shares, pure=False))
-    merge = ["sort", "-m", f"--batch-size={SHARES}", "-o", out / "counts", *[share / "counts" for share in shares]]
+        parts = client.map(answer_part, range(len(places)), places, size=size, grammar=grammar, out=out, pure=False)
+        ends = client.gather(parts)
+        bounds = [[each[share:share + 2] for each in ends] for share in range(SHARES)]
+        client.gather(client.map(count_share, range(SHARES), bounds, out=out, pure=False))
+    merge = ["sort", "-m", f"--batch-size={SHARES}", "-o", out / "counts", *out.glob("shuffle/counts*")]
     subprocess.run(merge, env={**os.environ, "LC_ALL": "C"}, check=True)
-    shutil.rmtree(out / "shares")
+    shutil.rmtree(out / "shuffle")
     for left in out.glob("answers/.*"):  # by workers that were lost
         left.unlink()
 
