@@ -1,6 +1,7 @@
 """A run of each command of the program, and how it may end where something fails, for tests/devices/refused and tests/devices/devices."""
 import os
 import subprocess
+import sys
 
 # Each command, its input, and whether it may have written something when an allocation is refused.
 RUNS = [
@@ -33,6 +34,15 @@ RUNS = [
 ]
 # Lines that have no answer, by the first word of the command.
 SILENT = {"expand": (b"s ", b"l ", b"a ", b"u "), "robots": (b"r ",)}
+
+
+def figures_in(path):
+    """What the library that is loaded before the program counted there."""
+    try:
+        with open(path) as file:
+            return [int(figure) for figure in file.read().split()]
+    except FileNotFoundError:
+        sys.exit("nothing is loaded before PROGRAM, so no fault reaches it: one that is linked statically can't be asked")
 
 
 class Command:
