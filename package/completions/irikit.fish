@@ -26,4 +26,5 @@ complete -c irikit -n '__irikit_has 3 parts' -a scheme
 complete -c irikit -n '__irikit_has 4 canon pairs; and string match -q "* to *" -- (commandline -pc)' -a uri
 complete -c irikit -n '__irikit_has 5 canon pairs; and string match -q "* to uri *" -- (commandline -pc)' -a scheme
 complete -c irikit -n '__irikit_has 3 links' -a lax
-complete -c irikit -n '__irikit_has 3 parts expand register links docs; or __irikit_has 4 robots links' -a scheme
+complete -c irikit -n '__irikit_has 4 links; and string match -q "* lax *" -- (commandline -pc)' -a scheme
+complete -c irikit -n '__irikit_has 3 parts expand register links docs; or __irikit_has 4 robots' -a scheme
