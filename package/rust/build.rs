@@ -18,7 +18,11 @@ fn main() {
     }
     match env::var("IRIKIT_LIB_DIR").or_else(|_| found()) {
         Ok(folder) => println!("cargo:rustc-link-search=native={folder}"),
-        Err(why) => println!("cargo:warning=no library irikit: {WANTED} ({why})"),
+        Err(why) => {
+            println!("cargo:warning=no library irikit: {WANTED} ({why})");
+            // No such file: cargo asks again at each build, until there is a library.
+            println!("cargo:rerun-if-changed=no-library");
+        }
     }
     let kind = if env::var_os("CARGO_FEATURE_STATIC").is_some() {
         "static"
