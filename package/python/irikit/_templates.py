@@ -142,8 +142,10 @@ def _one(name: bytes, value: Any) -> bytes:
     try:
         if isinstance(value, int) and not isinstance(value, bool):
             return b"%d" % value
-        if isinstance(value, (float, Decimal)) and math.isfinite(value):
-            value = str(value)
+        if isinstance(value, float) and math.isfinite(value):
+            value = float.__repr__(value)
+        if isinstance(value, Decimal) and value.is_finite():
+            value = Decimal.__str__(value)
         return bytes_of(value)
     except TypeError:
         raise TypeError(f"the variable {name.decode(errors='replace')!r} has a {type(value).__name__}, which is no text and no number") from None
