@@ -50,9 +50,12 @@ PLACES = [lambda number: irikit.encode("a", number)]
 
 
 class OtherBytes(bytes):
-    """Bytes that say another length than they have."""
+    """Bytes that say another length than they have, and from Python 3.12 on other bytes as a buffer."""
 
     said = 0
+
+    def __buffer__(self, _):
+        return memoryview(b"http://other/")
 
     def __len__(self):
         return self.said
@@ -66,6 +69,9 @@ class LongBytes(OtherBytes):
 
 
 class OtherArray(bytearray):
+    def __buffer__(self, _):
+        return memoryview(b"http://other/")
+
     def __len__(self):
         return 1 << 16
 
