@@ -84,7 +84,7 @@ def expand(
 def _expanded(text: bytes, grammar: Grammar, values: Mapping[Any, Any] | None, more: dict[str, Any]) -> str:
     if not isinstance(values, (dict, Mapping, type(None))):
         raise TypeError(f"a mapping of variables is wanted, and not {type(values).__name__}")
-    given = {bytes_of(name): value for name, value in [*(values or {}).items(), *more.items()]}
+    given = {bytes_of(name): value for name, value in [*({} if values is None else values).items(), *more.items()]}
     array, detail, place, size = _variables(given), size_t(), size_t(), len(text) + 256
     while True:
         out = room(size)

@@ -4,7 +4,7 @@ import pathlib
 import unittest
 
 import irikit
-from irikit import ABSOLUTE, BY_SCHEME, IN_PATH, IRI, NORMAL, REFERENCE, Links, Robots, Status, Uri
+from irikit import ABSOLUTE, BY_SCHEME, IN_PATH, IRI, NORMAL, REFERENCE, URI, Links, Robots, Status, Uri
 
 LINKS = Links("http://a/b")
 # Calls by a text.
@@ -102,6 +102,11 @@ class OtherTuple(tuple):
         return 2
 
 
+class NoLength(dict):
+    def __len__(self):
+        return 0
+
+
 class OtherDict(dict):
     def items(self):
         return [("k", "v", "w")]
@@ -139,6 +144,7 @@ class Types(unittest.TestCase):
         self.assertIs(Robots(file, OtherStr("bot")).allows("/"), False)
         self.assertEqual(irikit.expand("{v}", v=OtherStr("a")) + irikit.expand(OtherStr("{v}"), {OtherStr("v"): LongBytes(b"b")}), "ab")
         self.assertEqual(irikit.expand("{v}{?v*}", v=OtherList(["a", LongBytes(b"b")])), "a,b?v=a&v=b")
+        self.assertEqual(irikit.expand("{v}{?w*}", NoLength(v="a", w=NoLength(k="b"))), "a?k=b")
         for value in (OtherList([("k", "v"), "w"]), OtherList(["w", ("k", "v")])):
             with self.assertRaises(TypeError):
                 irikit.expand("{?v*}", v=value)
@@ -168,6 +174,9 @@ class Types(unittest.TestCase):
                     call(texts)
 
     def test_named_parts(self):
+        for other in (IRI, URI, "", None, 0, 1):
+            with self.assertRaises(TypeError):
+                irikit.with_host("//a", "b", other)
         for call in (lambda: irikit.build(authority="a"), lambda: irikit.build("http"), lambda: irikit.build(port=True), lambda: irikit.build(port=1.5)):
             with self.assertRaises(TypeError):
                 call()
