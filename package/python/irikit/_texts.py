@@ -2,6 +2,8 @@
 from __future__ import annotations
 
 import functools
+from array import array
+from mmap import mmap
 from typing import Any, Callable, Iterable, Union
 
 from ._library import declared, room, size_t
@@ -72,7 +74,7 @@ def bytes_of(text: Text) -> bytes:
 
 def several(texts: Iterable[Text]) -> list[Text]:
     """Texts, and not the characters of one."""
-    if isinstance(texts, (str, bytes, bytearray, memoryview)):
+    if isinstance(texts, (str, bytes, bytearray, memoryview, array, mmap)):
         raise TypeError(f"a list of texts is wanted, and not {type(texts).__name__}")
     return list(texts)
 

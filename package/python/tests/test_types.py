@@ -1,5 +1,6 @@
 """What is of the wrong type is a TypeError, and never read as something else."""
 import array
+import mmap
 import pathlib
 import unittest
 
@@ -168,7 +169,7 @@ class Types(unittest.TestCase):
                             call(number)
 
     def test_no_lists(self):
-        for texts in ("abc", b"abc", bytearray(b"abc"), memoryview(b"abc"), 5, None):
+        for texts in ("abc", b"abc", bytearray(b"abc"), memoryview(b"abc"), array.array("u", "abc"), mmap.mmap(-1, 3), 5, None):
             for call in (LINKS.canonical_many, lambda many: irikit.canonical_many("a:", many), Robots("", "bot").allows_many):
                 with self.assertRaises(TypeError):
                     call(texts)
