@@ -122,7 +122,7 @@ test("many references, each by itself", () => {
   kit.split("a".repeat(1 << 22));
   assert.deepEqual(kit.canonicalMany("http://a/b", Array.from({ length: 500000 }, () => "c")).length, 500000);
   assert.deepEqual(fault(() => kit.canonicalMany("/a", [])), ["base", "unexpected-relative"]);
-  for (const list of ["ab", 7, null, undefined, {}, [7], [null], [["a"]]]) {
+  for (const list of ["ab", new String("ab"), 7, null, undefined, {}, [7], [null], [["a"]]]) {
     assert.throws(() => kit.canonicalMany("http://a/b", list), TypeError);
   }
 });

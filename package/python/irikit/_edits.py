@@ -68,4 +68,4 @@ def with_host(text: Text, host: Text, names_only: bool = False, grammar: Grammar
 
     Raises `Refused` where the text is no reference, where the host is none, or where the text has none to replace.
     """
-    return (_replace_reg_name if names_only else _replace_host)(of_kind(grammar, Grammar), text, host).decode()
+    return (_replace_reg_name if of_kind(names_only, bool) else _replace_host)(of_kind(grammar, Grammar), text, host).decode()

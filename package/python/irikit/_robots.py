@@ -46,7 +46,9 @@ class Robots(Immutable):
             raise ValueError("a line of the file, or the file, is too long")
         # Scheme and authority of a canonical text: those of the site, or without one any authority.
         address = self._links.canonical_bytes("", mode)
-        origin = rb"[^:]*://" if site is None else re.escape(re.match(rb"[^:]*:(//[^/?#]*)?", address)[0]) + rb"(?![^/?#])"
+        scheme, authority = re.match(rb"([^:]*:)(//[^/?#]*)?", address).groups()
+        rest = rb"(?!//)" if authority is None else re.escape(authority) + rb"(?![^/?#])"
+        origin = rb"[^:]*://" if site is None else re.escape(scheme) + rest
         self._is_of_site = re.compile(origin).match
         self._rules = written(len(file) + 64, _rules, name, len(name), file, len(file))
 

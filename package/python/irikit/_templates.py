@@ -84,7 +84,7 @@ def expand(
 def _expanded(text: bytes, grammar: Grammar, values: Mapping[Any, Any] | None, more: dict[str, Any]) -> str:
     if not isinstance(values, (dict, Mapping, type(None))):
         raise TypeError(f"a mapping of variables is wanted, and not {type(values).__name__}")
-    given = {bytes_of(name): value for name, value in [*(values or {}).items(), *more.items()]}
+    given = {bytes_of(name): value for name, value in [*({} if values is None else values).items(), *more.items()]}
     array, detail, place, size = _variables(given), size_t(), size_t(), len(text) + 256
     while True:
         out = room(size)
@@ -142,8 +142,10 @@ def _one(name: bytes, value: Any) -> bytes:
     try:
         if isinstance(value, int) and not isinstance(value, bool):
             return b"%d" % value
-        if isinstance(value, (float, Decimal)) and math.isfinite(value):
-            value = str(value)
+        if isinstance(value, float) and math.isfinite(value):
+            value = float.__repr__(value)
+        if isinstance(value, Decimal) and value.is_finite():
+            value = Decimal.__str__(value)
         return bytes_of(value)
     except TypeError:
         raise TypeError(f"the variable {name.decode(errors='replace')!r} has a {type(value).__name__}, which is no text and no number") from None

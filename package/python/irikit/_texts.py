@@ -2,6 +2,8 @@
 from __future__ import annotations
 
 import functools
+from array import array
+from mmap import mmap
 from typing import Any, Callable, Iterable, Union
 
 from ._library import declared, room, size_t
@@ -59,17 +61,20 @@ def bytes_of(text: Text) -> bytes:
         text = bytes(text)
     if type(text) is bytes:
         return text
-    if isinstance(text, (bytes, bytearray, memoryview)):
-        view = memoryview(text)
-        if view.ndim == 1 and view.itemsize == 1:
-            return view.tobytes()
-        raise TypeError(f"a text is wanted, as str or as bytes, and not a memoryview of the shape {view.shape} and format {view.format}")
+    if isinstance(text, bytes):
+        return bytes.__getitem__(text, slice(None))
+    if isinstance(text, bytearray):
+        return bytes(bytearray.__getitem__(text, slice(None)))
+    if isinstance(text, memoryview):
+        if text.ndim == 1 and text.itemsize == 1:
+            return text.tobytes()
+        raise TypeError(f"a text is wanted, as str or as bytes, and not a memoryview of the shape {text.shape} and format {text.format}")
     raise TypeError(f"a text is wanted, as str or as bytes, and not {type(text).__name__}")
 
 
 def several(texts: Iterable[Text]) -> list[Text]:
     """Texts, and not the characters of one."""
-    if isinstance(texts, (str, bytes, bytearray, memoryview)):
+    if isinstance(texts, (str, bytes, bytearray, memoryview, array, mmap)):
         raise TypeError(f"a list of texts is wanted, and not {type(texts).__name__}")
     return list(texts)
 

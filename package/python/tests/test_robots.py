@@ -52,6 +52,17 @@ class Rules(unittest.TestCase):
         self.assertEqual(robots.allows_many(["/a", "//a/b", "http://b/b", "https://a/b", "%4", "a\nb"]), [False, True, None, None, None, None])
         self.assertEqual(Robots(RULES, "bot").allows_many(["mailto:a", "//b/private", "//b/#/private", "", "private"]), [None, False, True, True, False])
 
+    def test_sites_without_authority(self):
+        """Each link is judged as by `irikit robots`."""
+        for site, links, wanted in (
+            ("a:b", ["", "c", "a:", "a:/x", "//h/", "///", "b:b"], [True, True, True, False, None, None, None]),
+            ("file:/x", ["", "/y", "file:///x", "file:x"], [False, True, None, True]),
+            ("a://", ["", "/x", "//h", "a:/x"], [True, False, None, None]),
+        ):
+            lines = "\n".join([site, "r user-agent: *", "r disallow: /x", *["u " + link for link in links], ""])
+            words = [{b"allow": True, b"disallow": False}.get(line.split(b" ")[0]) for line in run("robots uri bot", lines)[0].splitlines()]
+            self.assertEqual([Robots("user-agent: *\ndisallow: /x", "bot", site).allows_many(links), words], [wanted] * 2, site)
+
     def test_by_scheme(self):
         file, asked = "User-agent: *\nDisallow: /x\n", ["HTTPS://WWW.EXAMPLE.com:443/x", "//www.example.com", "http://www.example.com:443/x"]
         for site in ("https://www.example.com/", "https://www.example.com:443"):

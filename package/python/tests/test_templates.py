@@ -14,6 +14,14 @@ class Port(enum.IntEnum):
     HTTP = 80
 
 
+class Ratio(float, enum.Enum):
+    HALF = 0.5
+
+
+class Price(decimal.Decimal, enum.Enum):
+    LOW = "0.50"
+
+
 class Expansions(unittest.TestCase):
     def test_standard(self):
         found = rows("expansions.txt")
@@ -27,6 +35,7 @@ class Expansions(unittest.TestCase):
         pairs = [("k", 1), ("k", 2)]
         for value, wanted in (
             (6, "6"), (1.5, "1.5"), (10**9, "1000000000"), (-7, "-7"), (0, "0"), (Port.HTTP, "80"), (decimal.Decimal("0.10"), "0.10"),
+            (Ratio.HALF, "0.5"), ([Ratio.HALF, Price.LOW], "0.5,0.50"), (decimal.Decimal("1e400"), "1E%2B400"),
             ([1, None, "a"], "1,a"), ((1, 2), "1,2"), (range(3), "0,1,2"), (collections.deque("ab"), "a,b"), ([], ""), ({}, ""), (None, ""),
             (pairs, "k,1,k,2"), ([("k", None), ("l", "m")], "l,m"), ({"k": None, "l": 2}, "l,2"), (types.MappingProxyType({"k": 1}), "k,1"),
             (collections.OrderedDict(k=1, l=2), "k,1,l,2"), (collections.ChainMap({"k": 1}), "k,1"), (collections.UserDict(k=1), "k,1"),
@@ -40,7 +49,7 @@ class Expansions(unittest.TestCase):
 
     def test_no_values(self):
         for value in (True, object(), [["a"]], {"a": {}}, {1, 2}, frozenset(), [True], {"k": True}, 1j, float("nan"), float("inf"), iter("a"), [None, {}],
-                      {"a": [1]}, {"v"}):
+                      {"a": [1]}, {"v"}, decimal.Decimal("NaN"), decimal.Decimal("sNaN"), decimal.Decimal("-Infinity")):
             with self.assertRaisesRegex(TypeError, "'v'"):
                 irikit.expand("{v}", v=value)
         for values in ({1: "a"}, {None: "a"}, [("v", "a")], [], "v", "", 0, 5, {"v"}, b""):

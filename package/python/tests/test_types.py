@@ -1,10 +1,11 @@
 """What is of the wrong type is a TypeError, and never read as something else."""
 import array
+import mmap
 import pathlib
 import unittest
 
 import irikit
-from irikit import ABSOLUTE, BY_SCHEME, IN_PATH, IRI, NORMAL, REFERENCE, Links, Robots, Status, Uri
+from irikit import ABSOLUTE, BY_SCHEME, IN_PATH, IRI, NORMAL, REFERENCE, URI, Links, Robots, Status, Uri
 
 LINKS = Links("http://a/b")
 # Calls by a text.
@@ -50,9 +51,12 @@ PLACES = [lambda number: irikit.encode("a", number)]
 
 
 class OtherBytes(bytes):
-    """Bytes that say another length than they have."""
+    """Bytes that say another length than they have, and from Python 3.12 on other bytes as a buffer."""
 
     said = 0
+
+    def __buffer__(self, _):
+        return memoryview(b"http://other/")
 
     def __len__(self):
         return self.said
@@ -66,6 +70,9 @@ class LongBytes(OtherBytes):
 
 
 class OtherArray(bytearray):
+    def __buffer__(self, _):
+        return memoryview(b"http://other/")
+
     def __len__(self):
         return 1 << 16
 
@@ -94,6 +101,11 @@ class OtherList(list):
 class OtherTuple(tuple):
     def __len__(self):
         return 2
+
+
+class NoLength(dict):
+    def __len__(self):
+        return 0
 
 
 class OtherDict(dict):
@@ -133,6 +145,7 @@ class Types(unittest.TestCase):
         self.assertIs(Robots(file, OtherStr("bot")).allows("/"), False)
         self.assertEqual(irikit.expand("{v}", v=OtherStr("a")) + irikit.expand(OtherStr("{v}"), {OtherStr("v"): LongBytes(b"b")}), "ab")
         self.assertEqual(irikit.expand("{v}{?v*}", v=OtherList(["a", LongBytes(b"b")])), "a,b?v=a&v=b")
+        self.assertEqual(irikit.expand("{v}{?w*}", NoLength(v="a", w=NoLength(k="b"))), "a?k=b")
         for value in (OtherList([("k", "v"), "w"]), OtherList(["w", ("k", "v")])):
             with self.assertRaises(TypeError):
                 irikit.expand("{?v*}", v=value)
@@ -156,12 +169,15 @@ class Types(unittest.TestCase):
                             call(number)
 
     def test_no_lists(self):
-        for texts in ("abc", b"abc", bytearray(b"abc"), memoryview(b"abc"), 5, None):
+        for texts in ("abc", b"abc", bytearray(b"abc"), memoryview(b"abc"), array.array("u", "abc"), mmap.mmap(-1, 3), 5, None):
             for call in (LINKS.canonical_many, lambda many: irikit.canonical_many("a:", many), Robots("", "bot").allows_many):
                 with self.assertRaises(TypeError):
                     call(texts)
 
     def test_named_parts(self):
+        for other in (IRI, URI, "", None, 0, 1):
+            with self.assertRaises(TypeError):
+                irikit.with_host("//a", "b", other)
         for call in (lambda: irikit.build(authority="a"), lambda: irikit.build("http"), lambda: irikit.build(port=True), lambda: irikit.build(port=1.5)):
             with self.assertRaises(TypeError):
                 call()
