@@ -318,7 +318,7 @@ class Kit {
 
   // The answers of a call to lines that have room as a text: what stands before the lines comes first.
   #answerLines(call, lines, ...before) {
-    let len = put(lines, this.#textBytes);
+    let len = put(lines, this.#textBytes.subarray(0, -1));
     if (len > 0 && this.#textBytes[len - 1] !== LF) this.#textBytes[len++] = LF;
     let left = BigInt(len), at = this.#textAt, answers = "";
     for (;;) {
