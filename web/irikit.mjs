@@ -178,10 +178,12 @@ class Kit {
     this.#out = outAt;
   }
 
+  // Lengths are read by their lower halves, so the memory stays below 4 GiB, also where its addresses have 64 bits.
   #grow(size) {
     const lacking = Math.ceil((size - this.#memory.buffer.byteLength) / PAGE);
     if (lacking <= 0) return;
     try {
+      if (size > NOWHERE) throw new RangeError("more than 4 GiB");
       this.#memory.grow(this.#pages(lacking));
     } catch (cause) {
       throw new RangeError(`the module's memory has no room: ${size} bytes are wanted`, { cause });
@@ -232,7 +234,7 @@ class Kit {
   #run(call, ...before) {
     const status = call(...before, this.#outAt, this.#outSize, this.#detail, this.#slots);
     if (status !== SHORT) return status;
-    this.#room(0, 0, this.#words[0]);
+    this.#room(0, 0, this.#words[0] + 2 ** 32 * this.#words[1]);
     return call(...before, this.#outAt, this.#outSize, this.#detail, this.#slots);
   }
 

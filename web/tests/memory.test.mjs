@@ -95,6 +95,17 @@ test("where the memory may not grow at all, short texts are answered", async () 
   assert.deepEqual(one.canonicalMany("http://h/", ["a", "b".repeat(PAGE), "c"]), ["http://h/a", null, "http://h/c"]);
 });
 
+test("what is longer than any memory has no room", async () => {
+  const { exports } = (await WebAssembly.instantiate(module)).instance, { irikit_expand: expand, memory } = exports;
+  const long = (...given) => {
+    new BigUint64Array(memory.buffer, Number(given.at(-2)), 1)[0] = 2n ** 32n + 5n;
+    return 1;
+  };
+  const one = new library.Kit({ ...exports, irikit_expand: (...given) => (given[2] === 6n ? long : expand)(...given) });
+  assert.throws(() => one.expand("{a}{a}", { a: "b" }), RangeError);
+  assert.equal(one.expand("{a}", { a: "b" }), "b");
+});
+
 test("a module of another version is refused", async () => {
   await assert.rejects(library.open(Uint8Array.from([0, 97, 115, 109, 1, 0, 0, 0])), /another version/);
 });
