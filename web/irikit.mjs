@@ -72,7 +72,9 @@ async function bytesBeside() {
 
 async function open(source = bytesBeside()) {
   const given = await source;
-  const bytes = typeof given?.arrayBuffer === "function" ? await given.arrayBuffer() : given;
+  const found = typeof given?.arrayBuffer === "function" ? await given.arrayBuffer() : given;
+  // Of views the engine of Node takes arrays alone.
+  const bytes = ArrayBuffer.isView(found) ? new Uint8Array(found.buffer, found.byteOffset, found.byteLength) : found;
   const calls = (await WebAssembly.instantiate(bytes, {})).instance.exports;
   if (calls.irikit_version?.() !== VERSION) throw new Error("the module is that of another version of irikit");
   return new Kit(calls);

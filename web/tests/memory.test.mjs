@@ -109,3 +109,9 @@ test("what is longer than any memory has no room", async () => {
 test("a module of another version is refused", async () => {
   await assert.rejects(library.open(Uint8Array.from([0, 97, 115, 109, 1, 0, 0, 0])), /another version/);
 });
+
+test("the module's bytes may be those of any view", async () => {
+  const wide = Buffer.concat([Buffer.alloc(8), module, Buffer.alloc(8)]);
+  const one = await library.open(new DataView(wide.buffer, wide.byteOffset + 8, module.length));
+  assert.equal(one.canonical("http://a/", "b"), "http://a/b");
+});
