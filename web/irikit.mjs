@@ -219,8 +219,13 @@ class Kit {
     });
   }
 
+  // The decoder replaces what it can't decode, so what it throws is that no string has room.
   #read(at, len) {
-    return decoder.decode(this.#bytes.subarray(at, at + len));
+    try {
+      return decoder.decode(this.#bytes.subarray(at, at + len));
+    } catch (cause) {
+      throw new RangeError(`no string has room for ${len} bytes`, { cause });
+    }
   }
 
   #refusal(status) {

@@ -106,6 +106,18 @@ test("what is longer than any memory has no room", async () => {
   assert.equal(one.expand("{a}", { a: "b" }), "b");
 });
 
+test("where no string has room for an answer, the others of a list stay", () => {
+  const buffer = new ArrayBuffer(2 ** 29 + 4 * PAGE), memory = { buffer };
+  const answer = (...given) => {
+    new BigUint64Array(buffer, Number(given[8]), 1)[0] = given[5] === 1n ? 2n ** 29n : 0n;
+    return 0;
+  };
+  const one = new library.Kit({ memory, __heap_base: { value: 0 }, irikit_canonical: answer });
+  const texts = [new Uint8Array(2), new Uint8Array(1), new Uint8Array(2)];
+  assert.deepEqual(one.canonicalMany("http://a/", texts), ["", null, ""]);
+  assert.throws(() => one.canonical("http://a/", "b"), RangeError);
+});
+
 test("a module of another version is refused", async () => {
   await assert.rejects(library.open(Uint8Array.from([0, 97, 115, 109, 1, 0, 0, 0])), /another version/);
 });
