@@ -279,7 +279,8 @@ class Kit {
   }
 
   canonicalMany(base, references, grammar = "uri", mode = "normal") {
-    if (typeof references === "string" || references instanceof String) throw new TypeError("a string is no list of references");
+    // Also a String object, of whatever realm.
+    if (Object.prototype.toString.call(references) === "[object String]") throw new TypeError("a string is no list of references");
     this.canonical(base, "", grammar, mode);
     const all = [...references], answers = [];
     for (let at = 0; at < all.length; at += AT_ONCE) {

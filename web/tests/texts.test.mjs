@@ -2,6 +2,7 @@
 // lone surrogates are refused, and so are names and values of the wrong type.
 import assert from "node:assert/strict";
 import { test } from "node:test";
+import { runInNewContext } from "node:vm";
 import { kit, library } from "./kit.mjs";
 
 const { Refused } = library;
@@ -122,7 +123,7 @@ test("many references, each by itself", () => {
   kit.split("a".repeat(1 << 22));
   assert.deepEqual(kit.canonicalMany("http://a/b", Array.from({ length: 500000 }, () => "c")).length, 500000);
   assert.deepEqual(fault(() => kit.canonicalMany("/a", [])), ["base", "unexpected-relative"]);
-  for (const list of ["ab", new String("ab"), 7, null, undefined, {}, [7], [null], [["a"]]]) {
+  for (const list of ["ab", new String("ab"), runInNewContext('new String("ab")'), 7, null, undefined, {}, [7], [null], [["a"]]]) {
     assert.throws(() => kit.canonicalMany("http://a/b", list), TypeError);
   }
 });
