@@ -1,6 +1,7 @@
 /* Made calls of the heap, errno and the command line's words, as compiled code makes them, with allocations refused now and then: writes
  * what each answered. tests/packages/system links it with package/system/system.c, and with the kit's archives, and compares the two. With
- * COPIES it compares package/system/copies.c with the C library's memmove. */
+ * COPIES it compares package/system/copies.c with the C library's memmove; with HEAP it asks package/system/heap.c for blocks. */
+#include <malloc.h>
 #include <stdbool.h>
 #include <stdint.h>
 #include <stdio.h>
@@ -48,6 +49,46 @@ int main(void) {
     }
   }
   return 0;
+}
+#elif defined HEAP
+void *__wrap_malloc(size_t n);
+void __wrap_free(void *p);
+void *counted_malloc(size_t n);
+
+static size_t calls;
+void *counted_malloc(size_t n) {
+  calls++;
+  return malloc(n);
+}
+
+/* Two blocks of n bytes that lie apart, taken and freed. */
+static bool gets_two_blocks(size_t n) {
+  unsigned char *a = __wrap_malloc(n), *b = __wrap_malloc(n);
+  size_t room = malloc_usable_size(a), other = malloc_usable_size(b);
+  bool good = room >= n && other >= n && (a + room <= b || b + other <= a);
+  __wrap_free(a);
+  __wrap_free(b);
+  return good;
+}
+
+int main(void) {
+  enum { MOST = 150000, TURNS = 1000, AT_ONCE = 3 };
+  for (size_t n = 1; n <= MOST; n++) {
+    if (!gets_two_blocks(n) || !gets_two_blocks(MOST - n) || !gets_two_blocks(below(MOST))) {
+      return printf("FAILED blocks of %zu bytes\n", n), 1;
+    }
+  }
+  calls = 0;
+  for (int turn = 0; turn < TURNS; turn++) {
+    void *blocks[AT_ONCE];
+    for (int i = 0; i < AT_ONCE; i++) {
+      blocks[i] = __wrap_malloc(848);
+    }
+    for (int i = 0; i < AT_ONCE; i++) {
+      __wrap_free(blocks[i]);
+    }
+  }
+  return calls > AT_ONCE ? printf("FAILED %zu calls of malloc for three blocks\n", calls), 1 : 0;
 }
 #else
 struct tried {
