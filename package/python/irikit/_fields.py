@@ -17,10 +17,13 @@ _PARAMETER = re.compile(r'; ([^=;,]+)(?:="((?:[^"\\]|\\.)*)")?', re.S)
 def links(field: Text, base: Text, grammar: Grammar = URI, mode: Mode = NORMAL) -> list[dict[str, str]]:
     """The links of a Link header field, as `requests.utils.parse_header_links` gives them: a dict for each, with its target as `url`
     and its parameters by their names in lower case. The target is the canonical text against the base, the address of what was
-    fetched. Of a parameter that comes twice the first counts, and one without a value has the empty text.
+    fetched. Of a parameter that comes twice the first counts, one without a value has the empty text, and one named url is left out.
 
     >>> links('<?page=3>;REL=next, </terms>; rel="license"; title="a, b"', "http://a/items?page=2")
     [{'url': 'http://a/items?page=3', 'rel': 'next'}, {'url': 'http://a/terms', 'rel': 'license', 'title': 'a, b'}]
+
+    >>> links("<a>; url=b; rel=c", "http://a/")
+    [{'url': 'http://a/a', 'rel': 'c'}]
 
     >>> links("<http://a:80>", "http://a/", mode=BY_SCHEME)
     [{'url': 'http://a/'}]
