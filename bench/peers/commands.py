@@ -47,5 +47,10 @@ def dict_of_texts(lines):
 
 
 WAYS = {"uritemplate": uritemplate, "robotparser": robotparser, "protego": protego, "requests": requests, "dict": dict_of_texts}
-text = sys.stdin.buffer.read().decode()
-sys.stdout.write("".join(answer + "\n" for answer in WAYS[sys.argv[1]](text.split("\n")[:-1])))
+try:
+    text = sys.stdin.buffer.read().decode()
+    sys.stdout.write("".join(answer + "\n" for answer in WAYS[sys.argv[1]](text.split("\n")[:-1])))
+except Exception as error:
+    # 1, as Python ends, is what irikit says of a faulty line, and is counted.
+    print(f"{sys.argv[1]}: {error}", file=sys.stderr)
+    sys.exit(2)
