@@ -55,17 +55,19 @@ void *__wrap_malloc(size_t n);
 void __wrap_free(void *p);
 void *counted_malloc(size_t n);
 
-static size_t calls;
+static size_t calls, asked;
 void *counted_malloc(size_t n) {
   calls++;
+  asked = n;
   return malloc(n);
 }
 
-/* Two blocks of n bytes that lie apart, taken and freed. */
+/* Two blocks of n bytes that lie apart, taken and freed; none is asked for more bytes. */
 static bool gets_two_blocks(size_t n) {
+  asked = n;
   unsigned char *a = __wrap_malloc(n), *b = __wrap_malloc(n);
   size_t room = malloc_usable_size(a), other = malloc_usable_size(b);
-  bool good = room >= n && other >= n && (a + room <= b || b + other <= a);
+  bool good = asked == n && room >= n && other >= n && (a + room <= b || b + other <= a);
   __wrap_free(a);
   __wrap_free(b);
   return good;
