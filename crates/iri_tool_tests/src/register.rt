@@ -45,7 +45,7 @@ fn entries_of_commands(rt: HostRuntime) -> Result<(), Fail> {
     live_lines_share_an_entry::<IriSpec>();
     let mut register = two_links(rt.alloc())?;
     assert!(rt; matches!(register.remove(b"b"), Ok(Some(2))));
-    assert!(rt; register.add(b"b", 5).is_ok());
+    register.add(b"b", 5)?;
     assert!(rt; is_entry(&register, 1, "http://a/c", &[3]));
     assert!(rt; is_entry(&register, 2, "http://a/b", &[5]));
     Ok(())
